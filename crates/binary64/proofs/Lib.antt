@@ -1,0 +1,5 @@
+pub mod Floats
+pub mod WholeRoots
+pub mod RootSteps
+pub mod RootMiddles
+pub mod RootNearest

@@ -1,0 +1,39 @@
+-- Lists of numbers that are all finite; and a zero times a number, where the product is finite, is zero.
+-- Assumes nothing.
+use mathlib.Core.Path.{_≡_, refl}
+use mathlib.Core.Bool.{Bool, true, false, _&&_}
+use mathlib.Core.List.{List, [], _∷_, _++_}
+use Prim.Native.Nat.{ℕ, zero, suc, _<_}
+use native.Mathlib.Omega.{arith}
+use lib.Dec.{T}
+use lib.ListN.{length, getD}
+use lib.Ieee.{Float, nan, inf, fin, Format, mul}
+use lib.Ieee.Fits.{and-i, and-l, and-r}
+use lib.Ieee.Scale.{finite}
+use Rattle.complex.specs.Values.{allFinite}
+use Rattle.binary64.proofs.Floats.{Zero, mul-zero-left}
+
+pub all-left : (xs ys : List Float) → T (allFinite (xs ++ ys)) → T (allFinite xs)
+unfolding allFinite
+all-left [] ys h = tt
+all-left (x ∷ xs) ys h = and-i (finite x) (allFinite xs) (and-l (finite x) (allFinite (xs ++ ys)) h) (all-left xs ys (and-r (finite x) (allFinite (xs ++ ys)) h))
+
+pub all-right : (xs ys : List Float) → T (allFinite (xs ++ ys)) → T (allFinite ys)
+unfolding allFinite
+all-right [] ys h = h
+all-right (x ∷ xs) ys h = all-right xs ys (and-r (finite x) (allFinite (xs ++ ys)) h)
+
+pub all-at : (xs : List Float) (i : ℕ) → i < length xs → T (allFinite xs) → T (finite (getD xs i nan))
+unfolding allFinite
+all-at [] i l h = absurd (omega arith)
+all-at (x ∷ xs) zero l h = and-l (finite x) (allFinite xs) h
+all-at (x ∷ xs) (suc i) l h = all-at xs i (omega arith) (and-r (finite x) (allFinite xs) h)
+
+pub zero-times : (f : Format) (x y : Float) → Zero x → T (finite (mul f x y)) → Zero (mul f x y)
+unfolding mul
+zero-times f nan y z h = absurd z
+zero-times f (inf s) y z h = absurd z
+zero-times f (fin s (suc m) e) y z h = absurd z
+zero-times f (fin s zero e) nan z h = absurd h
+zero-times f (fin s zero e) (inf t) z h = absurd h
+zero-times f (fin s zero e) (fin t n d) z h = mul-zero-left f (fin s zero e) (fin t n d) tt tt

@@ -1,0 +1,36 @@
+-- A slice whose part from a on, k elements long, was lent and came back as ys: what stands at each index.
+-- Assumes nothing.
+use mathlib.Core.Path.{_≡_, refl, sym, ap, _∙_}
+use mathlib.Core.List.{List, [], _∷_, _++_}
+use Prim.Native.Nat.{ℕ, _+_, _-_, _≤_, _<_}
+use native.Mathlib.Nat.{add-assoc}
+use native.Mathlib.Omega.{arith}
+use lib.ListN.{length, getD, take, drop, length-append, length-take, length-drop, List·getD-append}
+use lib.Seq.{length-take-le, getD-append-add, getD-take, getD-drop, drop-drop}
+
+abbrev pub back {ℓ} : {A : Type ℓ} → ℕ → ℕ → List A → List A → List A
+back a k xs ys = take a xs ++ (ys ++ drop k (drop a xs))
+
+module _ {ℓ} {A : Type ℓ} (a k : ℕ) (xs ys : List A) (d : A) where
+  pub length-back : a + k ≤ length xs → length ys ≡ k → length (back a k xs ys) ≡ length xs
+  length-back h e = simp (length-append, length-take-le a xs (omega arith), length-drop) (omega arith)
+
+  pub getD-back-before : a ≤ length xs → (j : ℕ) → j < a → getD (back a k xs ys) j d ≡ getD xs j d
+  getD-back-before h j l =
+      List·getD-append (take a xs) (ys ++ drop k (drop a xs)) d j (rw (length-take-le a xs h) l) ∙ getD-take a xs j d l
+
+  pub getD-back-in : a ≤ length xs → (j : ℕ) → j < length ys → getD (back a k xs ys) (a + j) d ≡ getD ys j d
+  getD-back-in h j l =
+      ap (λ (n : ℕ). getD (back a k xs ys) (n + j) d) (sym (length-take-le a xs h))
+      ∙ getD-append-add (take a xs) (ys ++ drop k (drop a xs)) j d
+      ∙ List·getD-append ys (drop k (drop a xs)) d j l
+
+  pub getD-back-after : a ≤ length xs → length ys ≡ k → (j : ℕ) → getD (back a k xs ys) (a + (k + j)) d ≡ getD xs (a + (k + j)) d
+  getD-back-after h e j =
+      ap (λ (n : ℕ). getD (back a k xs ys) (n + (k + j)) d) (sym (length-take-le a xs h))
+      ∙ getD-append-add (take a xs) (ys ++ drop k (drop a xs)) (k + j) d
+      ∙ ap (λ (n : ℕ). getD (ys ++ drop k (drop a xs)) (n + j) d) (sym e)
+      ∙ getD-append-add ys (drop k (drop a xs)) j d
+      ∙ ap (λ (l : List A). getD l j d) (drop-drop k a xs)
+      ∙ getD-drop (a + k) xs j d
+      ∙ ap (λ (n : ℕ). getD xs n d) (add-assoc a k j)

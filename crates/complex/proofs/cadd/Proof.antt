@@ -1,0 +1,14 @@
+-- `complex::cadd` meets its contract: the definition is the code's own expression.
+-- Assumes nothing.
+use mathlib.Core.Path.{refl}
+use lib.Ieee.{add}
+use Rattle.complex.specs.Arithmetic.{cadd}
+use Rattle.complex.proofs.cadd.Statement.{statement}
+use Rattle.complex.proofs.cadd.Tie as tie
+
+returns : tie.Need-returns
+unfolding add cadd
+returns c = refl
+
+pub cadd-spec : {M : Type 1} → statement M
+cadd-spec = tie.close (tie.spec returns)

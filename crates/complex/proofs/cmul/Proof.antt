@@ -1,0 +1,14 @@
+-- `complex::cmul` meets its contract: the definition is the code's own expression.
+-- Assumes nothing.
+use mathlib.Core.Path.{refl}
+use lib.Ieee.{add, sub, mul}
+use Rattle.complex.specs.Arithmetic.{cmul}
+use Rattle.complex.proofs.cmul.Statement.{statement}
+use Rattle.complex.proofs.cmul.Tie as tie
+
+returns : tie.Need-returns
+unfolding add sub mul cmul
+returns c = refl
+
+pub cmul-spec : {M : Type 1} → statement M
+cmul-spec = tie.close (tie.spec returns)

@@ -1,0 +1,14 @@
+-- `complex::cneg` meets its contract: the definition is the code's own expression.
+-- Assumes nothing.
+use mathlib.Core.Path.{refl}
+use lib.Ieee.{neg}
+use Rattle.complex.specs.Arithmetic.{cneg}
+use Rattle.complex.proofs.cneg.Statement.{statement}
+use Rattle.complex.proofs.cneg.Tie as tie
+
+returns : tie.Need-returns
+unfolding neg cneg
+returns c = refl
+
+pub cneg-spec : {M : Type 1} → statement M
+cneg-spec = tie.close (tie.spec returns)

@@ -1,0 +1,14 @@
+-- `complex::csub` meets its contract: the definition is the code's own expression.
+-- Assumes nothing.
+use mathlib.Core.Path.{refl}
+use lib.Ieee.{sub}
+use Rattle.complex.specs.Arithmetic.{csub}
+use Rattle.complex.proofs.csub.Statement.{statement}
+use Rattle.complex.proofs.csub.Tie as tie
+
+returns : tie.Need-returns
+unfolding sub csub
+returns c = refl
+
+pub csub-spec : {M : Type 1} → statement M
+csub-spec = tie.close (tie.spec returns)

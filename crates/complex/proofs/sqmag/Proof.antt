@@ -1,0 +1,14 @@
+-- `complex::sqmag` meets its contract: the definition is the code's own expression.
+-- Assumes nothing.
+use mathlib.Core.Path.{refl}
+use lib.Ieee.{add, mul}
+use Rattle.complex.specs.Arithmetic.{sqmag}
+use Rattle.complex.proofs.sqmag.Statement.{statement}
+use Rattle.complex.proofs.sqmag.Tie as tie
+
+returns : tie.Need-returns
+unfolding add mul sqmag
+returns c = refl
+
+pub sqmag-spec : {M : Type 1} → statement M
+sqmag-spec = tie.close (tie.spec returns)
