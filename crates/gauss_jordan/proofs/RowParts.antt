@@ -1,0 +1,140 @@
+-- Rows as parts of the work slice: where a row lies, the slice when its row came back, rows swapped, scaled and reduced.
+-- Assumes nothing.
+use mathlib.Core.Path.{_≡_, refl, sym, ap, subst, _∙_}
+use mathlib.Core.Bool.{Bool, true, false, _||_, cond}
+use mathlib.Core.List.{List}
+use Prim.Native.Nat.{ℕ, suc, _+_, _*_, _-_, _≤_, _<_}
+use native.Mathlib.Omega.{arith}
+use borrow.Author.Tests.{eqb-true, eqb-false, eq-eqb, ne-eqb}
+use lib.Dec.{eqb}
+use lib.ListN.{length, take, drop, length-drop}
+use lib.Seq.{length-take-le}
+use lib.Ieee.{Float}
+use Rattle.complex.specs.declared.Complex.{Complex}
+use Rattle.complex.specs.Arithmetic.{cmul, csub, complexInv}
+use Rattle.complex.specs.Entries.{entry}
+use Rattle.complex.specs.Matrices.{Matrix, entryAt}
+use Rattle.complex.proofs.Parts.{back}
+use Rattle.complex.proofs.Matrices.{row-within, entry-part, row-back-same, row-back-other}
+use Rattle.gauss_jordan.specs.GaussJordan.{swapped, scaled, reduced}
+use Rattle.gauss_jordan.specs.Solving.{operations, skipped}
+use Rattle.gauss_jordan.specs.Work.{withRow, reducedEntry, reducedRow}
+
+-- row r ends within the slice
+pub row-end : (n w r : ℕ) → r < n → 2 * (r * w) + 2 * w ≤ 2 * (n * w)
+row-end n w r h = let b = row-within n w r h in omega arith
+
+pub length-part : (a k : ℕ) (xs : List Float) → a + k ≤ length xs → length (take k (drop a xs)) ≡ k
+length-part a k xs h = length-take-le k (drop a xs) (rw length-drop (omega arith))
+
+-- ---- a row read, and a row that came back
+
+pub row-read : (w r k : ℕ) (xs : List Float) → k ≡ 2 * w → (j : ℕ) → j < w → entry (take k (drop (2 * (r * w)) xs)) j ≡ entryAt w xs r j
+row-read w r k xs e j h = ap (λ (m : ℕ). entry (take m (drop (2 * (r * w)) xs)) j) e ∙ entry-part w xs r j h
+
+pub row-written : (n w r k : ℕ) (xs ys : List Float) → k ≡ 2 * w → length xs ≡ 2 * (n * w) → r < n → length ys ≡ 2 * w
+    → (i j : ℕ) → j < w → entryAt w (back (2 * (r * w)) k xs ys) i j ≡ withRow r (entry ys) (entryAt w xs) i j
+unfolding withRow
+row-written n w r k xs ys e full h long i j hj = ap (λ (m : ℕ). entryAt w (back (2 * (r * w)) m xs ys) i j) e ∙ pick (eqb i r) refl
+  where
+    fits : 2 * (r * w + w) ≤ length xs
+    fits = let b = row-end n w r h in omega arith
+
+    pick : (b : Bool) → eqb i r ≡ b → entryAt w (back (2 * (r * w)) (2 * w) xs ys) i j ≡ cond b (entry ys j) (entryAt w xs i j)
+    pick true t = ap (λ (m : ℕ). entryAt w (back (2 * (r * w)) (2 * w) xs ys) m j) (eqb-true i r t) ∙ row-back-same w r xs ys fits long j hj
+    pick false t = row-back-other w r xs ys fits long i j (eqb-false i r t) hj
+
+-- ---- row c copied, put in the place of row p, and what stood there put in the place of row c
+
+module _ (w c p : ℕ) (A B C : Matrix) (f g : ℕ → Complex)
+    (first : (j : ℕ) → j < w → f j ≡ A c j) (put-p : (i j : ℕ) → j < w → B i j ≡ withRow p f A i j)
+    (second : (j : ℕ) → j < w → g j ≡ A p j) (put-c : (i j : ℕ) → j < w → C i j ≡ withRow c g B i j) where
+  pick-row : (a b : Bool) (i j : ℕ) → cond a (A p j) (cond b (A c j) (A i j)) ≡ A (cond a p (cond b c i)) j
+  pick-row true b i j = refl
+  pick-row false true i j = refl
+  pick-row false false i j = refl
+
+  pub rows-swapped : (i j : ℕ) → j < w → C i j ≡ swapped operations c p A i j
+  unfolding swapped withRow
+  rows-swapped i j h =
+      put-c i j h
+      ∙ ap (λ (x : Complex). cond (eqb i c) x (B i j)) (second j h)
+      ∙ ap (λ (x : Complex). cond (eqb i c) (A p j) x) (put-p i j h ∙ ap (λ (x : Complex). cond (eqb i p) x (A i j)) (first j h))
+      ∙ pick-row (eqb i c) (eqb i p) i j
+
+-- ---- one row reduced
+
+pub when-reduced : (f F x y p : Complex) (b : Bool) → f ≡ F → b ≡ skipped f → b ≡ false → x ≡ csub y (cmul f p) → x ≡ reducedEntry F p y
+unfolding reducedEntry
+when-reduced f F x y p b e s t h = rw (← e, ← s, t) h
+
+pub when-skipped : (f F y p : Complex) (b : Bool) → f ≡ F → b ≡ skipped f → b ≡ true → y ≡ reducedEntry F p y
+unfolding reducedEntry
+when-skipped f F y p b e s t = rw (← e, ← s, t)
+
+-- ---- the rows but the pivot's reduced, one after the other
+
+-- row c itself is as it was
+pub row-kept : (w c i : ℕ) (f : ℕ → Complex) (A : Matrix) → i ≡ c → (r j : ℕ) → A r j ≡ withRow i (reducedRow c f A i) A r j
+unfolding withRow reducedRow
+row-kept w c i f A e r j = pick (eqb r i) refl
+  where
+    pick : (b : Bool) → eqb r i ≡ b → A r j ≡ cond b (cond (eqb i c) (A i j) (reducedEntry (A i c) (f j) (A i j))) (A r j)
+    pick true t = ap (λ (k : ℕ). A k j) (eqb-true r i t) ∙ sym (ap (λ (b : Bool). cond b (A i j) (reducedEntry (A i c) (f j) (A i j))) (eq-eqb i c e))
+    pick false t = refl
+
+-- another row came back reduced
+pub row-reduced : (n w c i k : ℕ) (pivot xs vs : List Float) → c < w → i < n → (i ≡ c → ⊥) → k ≡ 2 * w → length xs ≡ 2 * (n * w)
+    → length vs ≡ length (take k (drop (2 * (i * w)) xs))
+    → ((q : ℕ) → q < w → entry vs q ≡ reducedEntry (entry (take k (drop (2 * (i * w)) xs)) c) (entry pivot q) (entry (take k (drop (2 * (i * w)) xs)) q))
+    → (r j : ℕ) → j < w → entryAt w (back (2 * (i * w)) k xs vs) r j ≡ withRow i (reducedRow c (entry pivot) (entryAt w xs) i) (entryAt w xs) r j
+unfolding withRow reducedRow
+row-reduced n w c i k pivot xs vs hc hi apart ek full kept done r j hj =
+    let inside : 2 * (i * w) + k ≤ length xs = let b = row-end n w i hi in omega arith in
+    let long : length vs ≡ 2 * w = kept ∙ length-part (2 * (i * w)) k xs inside ∙ ek in
+    let here : entry vs j ≡ reducedEntry (entryAt w xs i c) (entry pivot j) (entryAt w xs i j) =
+    done j hj
+    ∙ ap (λ (x : Complex). reducedEntry x (entry pivot j) (entry (take k (drop (2 * (i * w)) xs)) j)) (row-read w i k xs ek c hc)
+    ∙ ap (reducedEntry (entryAt w xs i c) (entry pivot j)) (row-read w i k xs ek j hj) in
+    let other : cond (eqb i c) (entryAt w xs i j) (reducedEntry (entryAt w xs i c) (entry pivot j) (entryAt w xs i j)) ≡ reducedEntry (entryAt w xs i c) (entry pivot j) (entryAt w xs i j) =
+    ap (λ (b : Bool). cond b (entryAt w xs i j) (reducedEntry (entryAt w xs i c) (entry pivot j) (entryAt w xs i j))) (ne-eqb i c apart) in
+    row-written n w i k xs vs ek full hi long r j hj
+    ∙ ap (λ (x : Complex). cond (eqb r i) x (entryAt w xs r j)) (here ∙ sym other)
+
+-- the row to be reduced is as it was before the first was
+pub same-row : (w c i : ℕ) (f : ℕ → Complex) (A B : Matrix) → c < w → ((q : ℕ) → q < w → A i q ≡ B i q) → (q : ℕ) → q < w → reducedRow c f A i q ≡ reducedRow c f B i q
+unfolding reducedRow
+same-row w c i f A B hc h q k =
+    let a : A i q ≡ B i q = h q k in
+    let b : A i c ≡ B i c = h c hc in
+    cc
+
+-- the definition's own words
+pub reduced-is : (w c : ℕ) (f : ℕ → Complex) (A : Matrix) → ((q : ℕ) → q < w → f q ≡ A c q) → (i q : ℕ) → q < w → reducedRow c f A i q ≡ reduced operations c A i q
+unfolding reducedRow reducedEntry reduced
+reduced-is w c f A h i q k =
+    ap (λ (p : Complex). cond (eqb i c) (A i q) (cond (skipped (A i c)) (A i q) (csub (A i q) (cmul (A i c) p)))) (h q k)
+    ∙ either (eqb i c) (skipped (A i c)) (A i q) (csub (A i q) (cmul (A i c) (A c q)))
+  where
+    either : (a b : Bool) (x y : Complex) → cond a x (cond b x y) ≡ cond (a || b) x y
+    either true b x y = refl
+    either false b x y = refl
+
+-- row c of A, each entry times the inverse of the pivot, put in its place
+pub scaled-is : (w c : ℕ) (f g : ℕ → Complex) (A B : Matrix) (x y : Complex) → c < w → ((q : ℕ) → q < w → f q ≡ A c q) → x ≡ f c → y ≡ complexInv x
+    → ((q : ℕ) → q < w → g q ≡ cmul (f q) y) → ((i q : ℕ) → q < w → B i q ≡ withRow c g A i q) → (i q : ℕ) → q < w → B i q ≡ scaled operations c A i q
+unfolding withRow scaled
+scaled-is w c f g A B x y hc row pivot inv times put i q k = put i q k ∙ pick (eqb i c) refl
+  where
+    factor : y ≡ complexInv (A c c)
+    factor = inv ∙ ap complexInv (pivot ∙ row c hc)
+
+    pick : (b : Bool) → eqb i c ≡ b → cond b (g q) (A i q) ≡ cond b (cmul (A i q) (complexInv (A c c))) (A i q)
+    pick true t =
+        times q k ∙ ap (λ (z : Complex). cmul z y) (row q k ∙ ap (λ (r : ℕ). A r q) (sym (eqb-true i c t))) ∙ ap (cmul (A i q)) factor
+    pick false t = refl
+
+-- what was put in the place of row c stands there
+pub row-put : (w c : ℕ) (g : ℕ → Complex) (A B : Matrix) → ((i q : ℕ) → q < w → B i q ≡ withRow c g A i q) → (q : ℕ) → q < w → g q ≡ B c q
+unfolding withRow
+row-put w c g A B put q k = sym (put c q k ∙ ap (λ (b : Bool). cond b (g q) (A c q)) (eq-eqb c c refl))

@@ -1,0 +1,96 @@
+-- Gauss-Jordan elimination, a column at a time, on a matrix of n rows whose columns from n on are right sides.
+-- The element's operations are a parameter: complex numbers are one instance.
+use Prim.Native.Nat.{ℕ, zero, suc, _+_, _-_}
+use mathlib.Core.Bool.{Bool, true, false, _||_, _&&_, cond}
+use lib.Dec.{eqb, ltb}
+use lib.Ieee.{Float, lt}
+use Rattle.complex.specs.declared.Complex.{Complex}
+use Rattle.complex.specs.Constants.{tiny}
+use Rattle.complex.specs.Arithmetic as Arithmetic
+
+pub record Operations (E : Type 0) : Type 0 where
+  pub times : E → E → E
+  pub minus : E → E → E
+  pub inverse : E → E
+  -- by which pivots are compared: the squared magnitude
+  pub weight : E → Float
+  -- whether a row with this factor is left as it is
+  pub skips : E → Bool
+
+abbrev pub Grid : Type 0 → Type 0
+Grid E = ℕ → ℕ → E
+
+-- The pivot rule: the held row stays only where its weight is strictly greater than the later row's.
+unfoldable pub stays : Float → Float → Bool
+stays held later = lt later held
+
+-- A pivot of this weight is too small to divide by. A NaN is not.
+unfoldable pub tooSmall : Float → Bool
+unfolding tiny
+tooSmall w = lt w tiny
+
+pub record Run (E : Type 0) : Type 0 where
+  -- refused with 13
+  pub singular : Bool
+  -- the matrix where the work ended
+  pub left : Grid E
+
+module _ {E : Type 0} (O : Operations E) where
+  -- of the held row and the `count` rows from `next` on, the one that is held at the end
+  unfoldable pub heldAfter : Grid E → ℕ → ℕ → ℕ → ℕ → ℕ
+  unfolding stays
+  heldAfter A c held next zero = held
+  heldAfter A c held next (suc count) =
+      heldAfter A c (cond (stays (O .weight (A held c)) (O .weight (A next c))) held next) (suc next) count
+
+  -- the pivot's row for column c, among the rows from c down
+  unfoldable pub pivotRow : ℕ → Grid E → ℕ → ℕ
+  unfolding heldAfter
+  pivotRow n A c = heldAfter A c c (suc c) (n - suc c)
+
+  -- rows p and q change places
+  unfoldable pub swapped : ℕ → ℕ → Grid E → Grid E
+  swapped p q A i j = A (cond (eqb i p) q (cond (eqb i q) p i)) j
+
+  -- row c is multiplied by the inverse of its entry in column c
+  unfoldable pub scaled : ℕ → Grid E → Grid E
+  scaled c A i j = cond (eqb i c) (O .times (A i j) (O .inverse (A c c))) (A i j)
+
+  -- every other row that is not skipped loses its factor times row c
+  unfoldable pub reduced : ℕ → Grid E → Grid E
+  reduced c A i j = cond (eqb i c || O .skips (A i c)) (A i j) (O .minus (A i j) (O .times (A i c) (A c j)))
+
+  -- the matrix with column c's pivot row in place
+  unfoldable pub pivoted : ℕ → ℕ → Grid E → Grid E
+  unfolding pivotRow swapped
+  pivoted n c A = swapped c (pivotRow n A c) A
+
+  unfoldable pub cleared : ℕ → Grid E → Grid E
+  unfolding scaled reduced
+  cleared c B = reduced c (scaled c B)
+
+  -- the columns from c on, `count` of them: stopped at the first pivot that is too small
+  unfoldable pub runFrom : ℕ → ℕ → ℕ → Grid E → Run E
+  unfolding pivoted cleared tooSmall
+  runFrom n zero c A = record { singular = false; left = A }
+  runFrom n (suc count) c A =
+      let B = pivoted n c A in
+      cond (tooSmall (O .weight (B c c))) (record { singular = true; left = B }) (runFrom n count (suc c) (cleared c B))
+
+  unfoldable pub run : ℕ → Grid E → Run E
+  unfolding runFrom
+  run n A = runFrom n n 0 A
+
+  -- a system beside its right sides
+  unfoldable pub beside : ℕ → Grid E → Grid E → Grid E
+  beside n A B i j = cond (ltb j n) (A i j) (B i (j - n))
+
+  -- the solution of A x = b, b given by row: its entry in row i
+  unfoldable pub solution : ℕ → Grid E → (ℕ → E) → ℕ → E
+  unfolding run beside
+  solution n A b i = run n (beside n A (λ (r k : ℕ). b r)) .left i n
+
+  -- 13 comes or not by the system alone
+  unfoldable pub singularSystem : ℕ → Grid E → Bool
+  unfolding run
+  singularSystem n A = run n A .singular

@@ -1,0 +1,4 @@
+pub mod GaussJordan
+pub mod Solving
+pub mod Work
+pub mod Computed

@@ -1,0 +1,68 @@
+// Blocks of the work slice: n rows of w entries, of which the m columns from `at` on are put there or taken out.
+// The functions here have a `requires`, which their callers prove.
+use crate::rows;
+use complex::Complex;
+use complex::entry::put;
+ghost use mathlib.Core.Path.{_≡_};
+ghost use Prim.Native.Nat.{ℕ, _+_, _*_, _<_, _≤_};
+ghost use lib.ListN.{length};
+ghost use Rattle.complex.specs.Matrices.{entryAt, grid};
+ghost use Rattle.gauss_jordan.specs.Work.{Block, withRow, placed, diagonal, beyond};
+
+fn place_row(work: &mut [f64], n: usize, w: usize, at: usize, m: usize, i: usize, from: &[f64])
+    requires { ⌜ (Block n w at m (length (now work)) (length (now from))) × (i < n) ⌝ }
+    ensures { λ _. ⌜ ((r j : ℕ) → j < w → entryAt w (now (work .exit)) r j ≡ withRow i (placed at m (entryAt m (now (from .entry))) (entryAt w (now (work .entry))) i) (entryAt w (now (work .entry))) r j) ⌝ }
+{
+    let p = 2 * (i * w) + 2 * at;
+    let pe = p + 2 * m;
+    let q = 2 * (i * m);
+    let qe = q + 2 * m;
+    rows::copy(&from[q..qe], &mut work[p..pe]);
+}
+
+// The matrix `from`, n rows of m entries, is put into the columns from `at` on.
+pub fn place(work: &mut [f64], n: usize, w: usize, at: usize, m: usize, from: &[f64])
+    requires { ⌜ Block n w at m (length (now work)) (length (now from)) ⌝ }
+    ensures { λ _. ⌜ ((i j : ℕ) → i < n → j < w → entryAt w (now (work .exit)) i j ≡ placed at m (entryAt m (now (from .entry))) (entryAt w (now (work .entry))) i j) ⌝ }
+{
+    let mut i = 0;
+    while i < n {
+        place_row(work, n, w, at, m, i, from);
+        i += 1;
+    }
+}
+
+fn take_row(work: &[f64], n: usize, w: usize, at: usize, m: usize, i: usize, to: &mut [f64])
+    requires { ⌜ (Block n w at m (length (now work)) (length (now to))) × (i < n) ⌝ }
+    ensures { λ _. ⌜ ((r j : ℕ) → j < m → entryAt m (now (to .exit)) r j ≡ withRow i (beyond at (entryAt w (now (work .entry))) i) (entryAt m (now (to .entry))) r j) ⌝ }
+{
+    let p = 2 * (i * w) + 2 * at;
+    let pe = p + 2 * m;
+    let q = 2 * (i * m);
+    let qe = q + 2 * m;
+    rows::copy(&work[p..pe], &mut to[q..qe]);
+}
+
+// The m columns from `at` on are copied to `to`, n rows of m entries.
+pub fn take(work: &[f64], n: usize, w: usize, at: usize, m: usize, to: &mut [f64])
+    requires { ⌜ Block n w at m (length (now work)) (length (now to)) ⌝ }
+    ensures { λ _. ⌜ now (to .exit) ≡ grid n m (beyond at (entryAt w (now (work .entry)))) ⌝ }
+{
+    let mut i = 0;
+    while i < n {
+        take_row(work, n, w, at, m, i, to);
+        i += 1;
+    }
+}
+
+// The identity's ones: in row i, column at + i becomes (1, 0).
+pub fn place_ones(work: &mut [f64], n: usize, w: usize, at: usize)
+    requires { ⌜ (length (now work) ≡ 2 * (n * w)) × (at + n ≤ w) ⌝ }
+    ensures { λ _. ⌜ ((i j : ℕ) → i < n → j < w → entryAt w (now (work .exit)) i j ≡ diagonal at (entryAt w (now (work .entry))) i j) ⌝ }
+{
+    let mut i = 0;
+    while i < n {
+        put(work, i * w + (at + i), Complex { re: 1.0, im: 0.0 });
+        i += 1;
+    }
+}

@@ -1,0 +1,78 @@
+-- The refusals by number, and the answers that carry them. 0 is no refusal.
+use Prim.Native.Nat.{ℕ, zero, suc}
+use mathlib.Core.Bool.{Bool, cond}
+use mathlib.Core.List.{List}
+use Rattle.refusals.specs.declared.Outcome.{Outcome}
+use Rattle.refusals.specs.declared.Outcome.the-variants.{Done, Refused}
+
+-- the library's limit on buses, branches and lists
+unfoldable pub limit : ℕ
+limit = 64
+
+-- ---- told from the input
+
+-- more buses or branches than the limit, or a list longer than it
+abbrev pub tooMany : ℕ
+tooMany = 1
+
+-- a matrix, output or work slice is not of its exact length
+abbrev pub wrongLength : ℕ
+wrongLength = 2
+
+-- branch lists differ in length, or injections or voltages don't match the external or REI list
+abbrev pub unlikeLists : ℕ
+unlikeLists = 3
+
+-- REI with no bus
+abbrev pub noBus : ℕ
+noBus = 4
+
+-- a solve or inverse of size 0, or a right side of another length
+abbrev pub noSystem : ℕ
+noSystem = 5
+
+-- a branch end not below the number of buses
+abbrev pub noSuchEnd : ℕ
+noSuchEnd = 6
+
+-- a Ward list names a bus not below the size
+abbrev pub noSuchBus : ℕ
+noSuchBus = 7
+
+-- a Ward bus stands twice in the lists together
+abbrev pub busTwice : ℕ
+busTwice = 8
+
+-- a record that no making or removal can have left
+abbrev pub badRecord : ℕ
+badRecord = 9
+
+-- ---- told from the state
+
+-- the bus is not active
+abbrev pub notActive : ℕ
+notActive = 11
+
+-- the removed bus's own entry is too small to divide by
+abbrev pub smallEntry : ℕ
+smallEntry = 12
+
+-- a chosen pivot is too small to divide by
+abbrev pub smallPivot : ℕ
+smallPivot = 13
+
+-- ---- the answers
+
+-- number k where the test holds, else what comes after
+abbrev pub refuse : Bool → ℕ → ℕ → ℕ
+refuse test k next = cond test k next
+
+-- the answer of a call with this refusal
+unfoldable pub outcome : ℕ → Outcome
+outcome zero = Done
+outcome (suc k) = Refused (suc k)
+
+-- the number of an answer
+unfoldable pub number : Outcome → ℕ
+number Done = 0
+number (Refused k) = k

@@ -1,0 +1,66 @@
+-- What `solve_linear` and `complex_matrix_inverse` answer, and what they leave in the slices handed to them.
+use Prim.Native.Nat.{ℕ, _+_, _*_}
+use mathlib.Core.Bool.{Bool, not, _&&_, _||_, cond}
+use mathlib.Core.List.{List}
+use lib.Dec.{eqb, ltb}
+use lib.ListN.{length}
+use lib.Ieee.{Float}
+use Rattle.complex.specs.Entries.{entry}
+use Rattle.complex.specs.Matrices.{entryAt, grid, zeros}
+use Rattle.refusals.specs.declared.Outcome.{Outcome}
+use Rattle.refusals.specs.Refusals.{limit, tooMany, wrongLength, noSystem, smallPivot, refuse, outcome}
+use Rattle.gauss_jordan.specs.Solving.{singular, solve, inverse}
+
+-- A call that ends in an elimination, with one output slice and one work slice.
+pub record Left : Type 0 where
+  pub answer : Outcome
+  pub output : List Float
+  pub work : List Float
+
+-- `told` is the refusal from the input, `small` whether a pivot is too small. On a refusal the output is as it was; the work slice is cleared unless the input was refused.
+unfoldable pub afterElimination : ℕ → Bool → List Float → List Float → List Float → Left
+unfolding outcome zeros
+afterElimination told small new old work =
+    let number = cond (eqb told 0) (cond small smallPivot 0) told in
+    record {
+      answer = outcome number;
+      output = cond (eqb number 0) new old;
+      work = cond (eqb told 0) (zeros (length work)) work;
+    }
+
+-- ---- the solution of one system: a has n rows of n, b and x have n entries, work has n rows of n + 1
+
+-- told from the size and the lengths; 0 is no refusal
+unfoldable pub solveRefusal : ℕ → ℕ → ℕ → ℕ → ℕ → ℕ
+unfolding limit
+solveRefusal n a b x work =
+    refuse (ltb limit n) tooMany
+    (refuse (not (eqb a (2 * (n * n)) && (eqb x (2 * n) && eqb work (2 * (n * (n + 1)))))) wrongLength
+    (refuse (eqb n 0 || not (eqb b (2 * n))) noSystem 0))
+
+unfoldable pub afterSolve : ℕ → List Float → List Float → List Float → List Float → Left
+unfolding solveRefusal afterElimination
+afterSolve n a b x work =
+    afterElimination
+    (solveRefusal n (length a) (length b) (length x) (length work))
+    (singular n (entryAt n a))
+    (grid n 1 (λ (i k : ℕ). solve n (entryAt n a) (entry b) i))
+    x work
+
+-- ---- the inverse: mat and inverse have n rows of n, work has n rows of 2 n
+
+unfoldable pub inverseRefusal : ℕ → ℕ → ℕ → ℕ → ℕ
+unfolding limit
+inverseRefusal n mat inverse work =
+    refuse (ltb limit n) tooMany
+    (refuse (not (eqb mat (2 * (n * n)) && (eqb inverse (2 * (n * n)) && eqb work (4 * (n * n))))) wrongLength
+    (refuse (eqb n 0) noSystem 0))
+
+unfoldable pub afterInverse : ℕ → List Float → List Float → List Float → Left
+unfolding inverseRefusal afterElimination
+afterInverse n mat out work =
+    afterElimination
+    (inverseRefusal n (length mat) (length out) (length work))
+    (singular n (entryAt n mat))
+    (grid n n (inverse n (entryAt n mat)))
+    out work
