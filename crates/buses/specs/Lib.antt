@@ -1,0 +1,2 @@
+pub mod Buses
+pub mod Limits

@@ -1,0 +1,132 @@
+-- What `thevenin_impedance` answers and leaves: only the n rows and columns of a matrix count for its inverse, and each test picks its case.
+-- Assumes nothing.
+use mathlib.Core.Path.{_≡_, refl, sym, ap, ap₂, _∙_}
+use mathlib.Core.Logic.{_⊎_, inl, inr}
+use mathlib.Core.Bool.{Bool, true, false, not, _||_, cond}
+use mathlib.Core.List.{List}
+use Prim.Native.Nat.{ℕ, zero, suc, _+_, _*_, _-_, _≤_, _<_}
+use native.Mathlib.Nat.{mul-le-mul, mul-le-mul-left, mul-add}
+use native.Mathlib.Omega.{arith}
+use borrow.Author.Tests.{le-ltb, ne-eqb, eq-eqb}
+use lib.Dec.{eqb, ltb}
+use lib.ListN.{length, take}
+use lib.Ieee.{Float}
+use lib.Ieee.Bits.{is-true}
+use Rattle.complex.specs.declared.Complex.{Complex}
+use Rattle.complex.specs.Arithmetic.{cadd, csub, cmul}
+use Rattle.complex.specs.Matrices.{Matrix, entryAt, zeros}
+use Rattle.complex.proofs.Matrices.{row-within, entry-within}
+use Rattle.refusals.specs.Refusals.{limit, tooMany, wrongLength, badRecord, notActive, smallPivot, refuse}
+use Rattle.gauss_jordan.specs.GaussJordan.{run, beside, solution, singularSystem}
+use Rattle.gauss_jordan.specs.Solving.{operations, singular, solve, inverse, unitColumn}
+use Rattle.gauss_jordan.proofs.GaussJordan.{run-same, singular-system, beside-system}
+use Rattle.kron_core.specs.declared.KronReducer.{KronReducer}
+use Rattle.kron_core.specs.declared.Impedance.{Impedance}
+use Rattle.kron_core.specs.declared.Impedance.the-variants.{Value, Refused}
+use Rattle.kron_core.specs.declared.removal.Found.the-variants.{At, Nothing}
+use Rattle.buses.specs.Buses.{mem, place}
+use Rattle.kron_core.specs.Reducer.{activeOf, sound, inputRefusal}
+use Rattle.kron_core.specs.Removal.{foundIn, Holds}
+use Rattle.kron_core.specs.Reading.{readingRefusal, two, across, impedance, impedanceRefusal, afterImpedance}
+use Rattle.kron_core.proofs.Positions.{lt-or-ge}
+use Rattle.kron_core.proofs.Taking.{found-at, found-not, took-lt}
+use Rattle.kron_core.proofs.Calls.{accepts-has, accepted-holds, entryAt-take}
+use Rattle.kron_core.proofs.Reading.{reading-accepted}
+
+-- ---- a work slice of n rows of 2 n entries
+
+pub work-room : (n p : ℕ) → n ≤ limit → p < n → (p * (n + n) + (n + n) ≤ n * (n + n)) × (n * (n + n) ≤ 8192)
+unfolding limit
+work-room n p a b = (row-within n (n + n) p b, mul-le-mul {n₁ = n} {m₁ = n + n} {n₂ = 64} {m₂ = 128} a (omega arith))
+
+-- ---- the same entries, the same inverse
+
+module _ (n : ℕ) (A B : Matrix) (same : (i j : ℕ) → i < n → j < n → A i j ≡ B i j) where
+  pub singular-same : singular n A ≡ singular n B
+  singular-same = sym (singular-system operations n A A (λ (i j : ℕ) (h : i < n) (k : j < n). refl)) ∙ singular-system operations n A B same
+
+  past : (R : Matrix) (i j : ℕ) → n ≤ j → beside operations n A R i j ≡ beside operations n B R i j
+  unfolding beside
+  past R i j k = rw (le-ltb j n k)
+
+  beside-same : (R : Matrix) (i j : ℕ) → i < n → beside operations n A R i j ≡ beside operations n B R i j
+  beside-same R i j h = elim (lt-or-ge j n) [
+    | inl k ↦ beside-system operations n A R i j k ∙ same i j h k ∙ sym (beside-system operations n B R i j k)
+    | inr k ↦ past R i j k
+  ]
+
+  pub inverse-same : (i c : ℕ) → i < n → inverse n A i c ≡ inverse n B i c
+  unfolding solution
+  inverse-same i c h =
+      run-same operations n (n + 1) (omega arith) (beside operations n A (λ (r k : ℕ). unitColumn c r)) (beside operations n B (λ (r k : ℕ). unitColumn c r))
+      (λ (i j : ℕ) (h : i < n) (k : j < n + 1). beside-same (λ (r k : ℕ). unitColumn c r) i j h) .left i n h (omega arith)
+
+pub across-same : (Z W : Matrix) (p q : ℕ) → Z p p ≡ W p p → Z q q ≡ W q q → Z p q ≡ W p q → across Z p q ≡ across W p q
+unfolding across
+across-same Z W p q a b c = rw (a, b, c)
+
+-- ---- the answer
+
+refused-is : (f : ℕ) (z : Complex) → (f ≡ 0 → ⊥) → Refused f ≡ impedance f z
+unfolding impedance
+refused-is zero z n = absurd (n refl)
+refused-is (suc f) z n = refl
+
+-- an input refusal is never 13
+not-pivot : (per : ℕ) (r : KronReducer) (ys : List Float) (m : ℕ) → eqb (readingRefusal per r ys m) smallPivot ≡ false
+unfolding readingRefusal inputRefusal
+not-pivot per r ys m = go (ltb limit (r .made)) (ltb limit 0) (eqb m (per * (r .made * r .made))) (eqb (length ys) (2 * (r .made * r .made))) (sound r)
+  where
+    go : (a o b c d : Bool) → eqb (refuse a tooMany (refuse (not b) wrongLength (refuse (a || o) tooMany (refuse (not c) wrongLength (refuse (not d) badRecord 0))))) smallPivot ≡ false
+    go true o b c d = refl
+    go false o false c d = refl
+    go false true true c d = refl
+    go false false true false d = refl
+    go false false true true false = refl
+    go false false true true true = refl
+
+-- in the end 0 or 13
+pivot-or-none : (b : Bool) → (eqb (refuse b smallPivot 0) 0 || eqb (refuse b smallPivot 0) smallPivot) ≡ true
+pivot-or-none true = refl
+pivot-or-none false = refl
+
+module _ (r : KronReducer) (ys : List Float) (i j : ℕ) (ws : List Float) where
+  pub impedance-refused : (f : ℕ) → (f ≡ 0 → ⊥) → f ≡ readingRefusal 4 r ys (length ws) → (Refused f ≡ afterImpedance r ys i j ws .answer) × (ws ≡ afterImpedance r ys i j ws .work)
+  unfolding afterImpedance
+  impedance-refused f n e =
+      let p : eqb f smallPivot ≡ false = ap (λ (k : ℕ). eqb k smallPivot) e ∙ not-pivot 4 r ys (length ws) in
+      rw (← e, ne-eqb f 0 n, ne-eqb f 0 n, p) (refused-is f (across (inverse (r .«n_buses») (entryAt (r .«n_buses») ys)) (place i (activeOf r)) (place j (activeOf r))) n, refl)
+
+  -- where the input is accepted
+  module _ (ok : readingRefusal 4 r ys (length ws) ≡ 0) where
+    pub impedance-first : foundIn i (activeOf r) ≡ Nothing → (Refused 11 ≡ afterImpedance r ys i j ws .answer) × (ws ≡ afterImpedance r ys i j ws .work)
+    unfolding afterImpedance impedanceRefusal impedance
+    impedance-first e = rw (ok, found-not i (activeOf r) e) (refl, refl)
+
+    module _ (p : ℕ) (at-i : foundIn i (activeOf r) ≡ At p) where
+      pub impedance-second : foundIn j (activeOf r) ≡ Nothing → (Refused 11 ≡ afterImpedance r ys i j ws .answer) × (ws ≡ afterImpedance r ys i j ws .work)
+      unfolding afterImpedance impedanceRefusal impedance
+      impedance-second e = rw (ok, is-true (mem i (activeOf r)) (found-at i (activeOf r) p at-i .0), found-not j (activeOf r) e) (refl, refl)
+
+      module _ (q : ℕ) (at-j : foundIn j (activeOf r) ≡ At q) where
+        pub impedance-found : (o : Impedance) (zs : List Float)
+            → (o ≡ impedance (refuse (singular (r .«n_buses») (entryAt (r .«n_buses») ys)) smallPivot 0) (across (inverse (r .«n_buses») (entryAt (r .«n_buses») ys)) p q)) × (zs ≡ zeros (length ws))
+            → (o ≡ afterImpedance r ys i j ws .answer) × (zs ≡ afterImpedance r ys i j ws .work)
+        unfolding afterImpedance impedanceRefusal
+        impedance-found o zs h =
+            let a = found-at i (activeOf r) p at-i in
+            let b = found-at j (activeOf r) q at-j in
+            rw (ok, is-true (mem i (activeOf r)) (a .0), is-true (mem j (activeOf r)) (b .0), pivot-or-none (singular (r .«n_buses») (entryAt (r .«n_buses») ys)), a .1, b .1) h
+
+    -- what the elimination may use
+    pub impedance-holds : length (r .«active_buses») ≡ limit → Holds (r .«n_buses») (r .«active_buses») ys
+    impedance-holds long = accepted-holds r ys 0 long (reading-accepted 4 r ys (length ws) ok .1)
+
+    pub impedance-room : length (r .«active_buses») ≡ limit → 2 * (r .«n_buses» * (r .«n_buses» + r .«n_buses»)) ≤ length ws
+    impedance-room long =
+        let acc = reading-accepted 4 r ys (length ws) ok in
+        let h = impedance-holds long .fits in
+        let s = accepts-has r ys 0 (acc .1) .slice in
+        let n = r .«n_buses» in
+        let d : n * (n + n) ≡ n * n + n * n = mul-add n n n in
+        omega (arith, acc .0, h, s, d)

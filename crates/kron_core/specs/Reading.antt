@@ -1,0 +1,78 @@
+-- What `reduced_matrix` and `thevenin_impedance` answer and leave, for every record and slice.
+use Prim.Native.Nat.{ℕ, zero, suc, _*_}
+use mathlib.Core.Bool.{Bool, not, _||_, cond}
+use mathlib.Core.List.{List}
+use lib.Dec.{eqb, ltb}
+use lib.ListN.{length}
+use lib.Ieee.{Float, binary64, ofBits}
+use Rattle.complex.specs.declared.Complex.{Complex}
+use Rattle.complex.specs.Constants.{plus0}
+use Rattle.complex.specs.Arithmetic.{cadd, csub, cmul}
+use Rattle.complex.specs.Matrices.{Matrix, entryAt, zeros}
+use Rattle.refusals.specs.declared.Outcome.{Outcome}
+use Rattle.refusals.specs.Refusals.{limit, tooMany, wrongLength, notActive, smallPivot, refuse, outcome}
+use Rattle.gauss_jordan.specs.Solving.{singular, inverse}
+use Rattle.kron_core.specs.declared.KronReducer.{KronReducer}
+use Rattle.kron_core.specs.declared.Impedance.{Impedance}
+use Rattle.kron_core.specs.declared.Impedance.the-variants.{Value, Refused}
+use Rattle.buses.specs.Buses.{mem, place}
+use Rattle.kron_core.specs.Reducer.{activeOf, inputRefusal, view, laidOut}
+
+-- 1, 2 (also of a second slice, of m numbers, that must have `per` for each entry at making), 9 or 0
+unfoldable pub readingRefusal : ℕ → KronReducer → List Float → ℕ → ℕ
+readingRefusal per r ys m =
+    refuse (ltb limit (r .made)) tooMany
+    (refuse (not (eqb m (per * (r .made * r .made)))) wrongLength
+    (inputRefusal r ys 0))
+
+-- ---- the present matrix
+
+pub record AfterMatrix : Type 0 where
+  pub answer : Outcome
+  pub out : List Float
+
+-- the present rows, +0 behind; where refused the output as it was
+unfoldable pub afterMatrix : KronReducer → List Float → List Float → AfterMatrix
+afterMatrix r ys os =
+    let f = readingRefusal 2 r ys (length os) in
+    record { answer = outcome f; out = cond (eqb f 0) (laidOut (2 * (r .made * r .made)) (activeOf r) (view r ys .entries)) os }
+
+-- ---- Thevenin impedance
+
+-- 2.0
+unfoldable pub two : Float
+two = ofBits binary64 0x4000000000000000
+
+-- z_ii + z_jj - (2, 0) z_ij, of the inverse's rows p and q
+unfoldable pub across : Matrix → ℕ → ℕ → Complex
+unfolding two plus0
+across Z p q = csub (cadd (Z p p) (Z q q)) (cmul (record { re = two; im = plus0 }) (Z p q))
+
+-- the answer of a call with this refusal
+unfoldable pub impedance : ℕ → Complex → Impedance
+impedance zero z = Value z
+impedance (suc k) z = Refused (suc k)
+
+-- after an accepted input: 11 (the first bus, then the second), 13 or 0
+unfoldable pub impedanceRefusal : ℕ → List ℕ → Matrix → ℕ → ℕ → ℕ
+impedanceRefusal n xs Y i j =
+    refuse (not (mem i xs)) notActive
+    (refuse (not (mem j xs)) notActive
+    (refuse (singular n Y) smallPivot 0))
+
+pub record AfterImpedance : Type 0 where
+  pub answer : Impedance
+  pub work : List Float
+
+-- the work slice is +0 after acceptance or 13, else as it was
+unfoldable pub afterImpedance : KronReducer → List Float → ℕ → ℕ → List Float → AfterImpedance
+afterImpedance r ys i j ws =
+    let xs = activeOf r in
+    let n = r .«n_buses» in
+    let Y = entryAt n ys in
+    let f = readingRefusal 4 r ys (length ws) in
+    let g = cond (eqb f 0) (impedanceRefusal n xs Y i j) f in
+    record {
+      answer = impedance g (across (inverse n Y) (place i xs) (place j xs));
+      work = cond (eqb g 0 || eqb g smallPivot) (zeros (length ws)) ws;
+    }
