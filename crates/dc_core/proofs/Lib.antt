@@ -1,0 +1,4 @@
+pub mod DcCases
+pub mod Kept
+pub mod OutageLaws
+pub mod Refusing
