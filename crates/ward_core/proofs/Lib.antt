@@ -1,0 +1,9 @@
+pub mod WardCases
+pub mod WardLaws
+pub mod WardPlaces
+pub mod WardSolved
+pub mod WardStudied
+pub mod WardSums
+pub mod Scans
+pub mod WardBuses
+pub mod WardTold

@@ -1,0 +1,55 @@
+-- `equivalents::ward_lengths::told` meets its contract.
+-- Assumes nothing.
+use mathlib.Core.Path.{_≡_, refl, sym, ap, subst, _∙_}
+use mathlib.Core.Bool.{true, false}
+use mathlib.Core.List.{List}
+use Prim.Native.Nat.{ℕ, suc, _+_, _*_, _-_, _≤_, _<_}
+use native.Mathlib.Omega.{arith}
+use lib.ListN.{length, getD, take, drop, length-set}
+use lib.Ieee.{Float, nan}
+use borrow.Author.Needs.{needs}
+use Rattle.complex.specs.declared.Complex.{Complex}
+use native.Mathlib.Nat.{mul-le-mul, add-assoc, sub-zero}
+use borrow.Author.Tests.{lt-ltb, le-ltb, eq-eqb, ne-eqb, not-true, not-false}
+use Rattle.refusals.specs.Refusals.{limit}
+use Rattle.buses.specs.Buses.{allBelow}
+use Rattle.ward_core.specs.Ward.{Study, repeats, busRefusal}
+use Rattle.ward_core.specs.WardCalls.{studyOf, roomOf, after, crowded, uneven, told, cut, studied, Fitting, Joined, Listed}
+use Rattle.ward_core.proofs.WardBuses.{listed-cut, cut-joined, bus-lacks, bus-repeats, bus-fine, studied-refused, listed-of}
+use Rattle.ward_core.proofs.WardTold.{few, toldOf, after-refused, after-told, told-fitting}
+use Rattle.ward_core.proofs.ward_lengths.told.Statement.{statement}
+use Rattle.ward_core.proofs.ward_lengths.told.Tie as tie
+
+crowded-requires : tie.Need-crowded-requires
+crowded-requires c κs = search needs
+
+returns : tie.Need-returns
+unfolding told
+returns c = rw (sym (c .before .crowded .ensures) ∙ c .if1 .taken)
+
+uneven-requires : tie.Need-uneven-requires
+uneven-requires c κs =
+    let a = c .before .before .args in
+    let f = few (a .n) (a .i) (a .e) (a .b) (a .p) (a .q) (sym (c .before .crowded .ensures) ∙ c .if1 .left) in
+    (omega (arith, f .size), omega (arith, f .internal), omega (arith, f .external), omega (arith, f .boundary))
+
+returns-2 : tie.Need-returns-2
+unfolding told
+returns-2 c = rw (sym (c .before .before .before .crowded .ensures) ∙ c .before .before .if1 .left, sym (c .before .uneven .ensures) ∙ c .if2 .taken)
+
+returns-3 : tie.Need-returns-3
+unfolding told
+returns-3 c = simp (sym (c .before .before .before .before .crowded .ensures) ∙ c .before .before .before .if1 .left, sym (c .before .before .uneven .ensures) ∙ c .before .if2 .left, ne-eqb (c .before .before .before .before .before .args .p) (c .before .before .before .before .before .args .e) (c .if3 .taken))
+
+returns-4 : tie.Need-returns-4
+unfolding told
+returns-4 c = simp (sym (c .before .before .before .before .before .crowded .ensures) ∙ c .before .before .before .before .if1 .left, sym (c .before .before .before .uneven .ensures) ∙ c .before .before .if2 .left, eq-eqb (c .before .before .before .before .before .before .args .p) (c .before .before .before .before .before .before .args .e) (c .before .if3 .left), ne-eqb (c .before .before .before .before .before .before .args .q) (c .before .before .before .before .before .before .args .e) (c .if4 .taken))
+
+returns-5 : tie.Need-returns-5
+unfolding told
+returns-5 c = simp (sym (c .before .before .before .before .before .crowded .ensures) ∙ c .before .before .before .before .if1 .left, sym (c .before .before .before .uneven .ensures) ∙ c .before .before .if2 .left, eq-eqb (c .before .before .before .before .before .before .args .p) (c .before .before .before .before .before .before .args .e) (c .before .if3 .left), eq-eqb (c .before .before .before .before .before .before .args .q) (c .before .before .before .before .before .before .args .e) (c .if4 .left))
+
+pub told-spec : {M : Type 1} → statement M
+told-spec =
+    tie.close
+    (tie.spec crowded-requires returns uneven-requires returns-2 returns-3 returns-4 returns-5)

@@ -1,0 +1,5 @@
+pub mod Ward
+pub mod WardExtended
+pub mod WardWork
+pub mod WardCalls
+pub mod WardComputed

@@ -1,0 +1,74 @@
+// Ward and extended Ward equivalents of a bus matrix that stands in a lent slice.
+ghost use mathlib.Core.Path.{_≡_};
+ghost use Rattle.complex.specs.Values.{F64s};
+ghost use Rattle.ward_core.specs.Ward as ward;
+ghost use Rattle.ward_core.specs.WardCalls as spec;
+
+pub mod ward_lengths;
+pub mod ward_lists;
+pub mod ward_rows;
+pub mod ward_study;
+
+// Of a study: the size of the given matrix, how many buses the equivalent keeps, and 1 less their quotient.
+pub struct WardSummary {
+    pub n_buses_reduced: usize,
+    pub n_buses_equivalent: usize,
+    pub reduction_ratio: f64,
+}
+
+pub enum WardAnswer {
+    Done(WardSummary),
+    Refused(u32),
+}
+
+// Ward's equivalent of the n buses of y for the internal and boundary buses, in this order: its matrix in y_ward, and what each boundary
+// bus gets, in MW and MVAr, in p_ward and q_ward. p_ext and q_ext are the injections at the external buses, in MW and MVAr, base_mva in MVA.
+// Buses are numbered from 0. Refused: 1, 2, 3, 7, 8 from the input, 13 where a pivot is too small; then no output is written.
+// The work slice has 2 e (e + r + 1) numbers for e external and r retained buses, all +0 after acceptance or 13.
+pub fn compute(
+    n: usize,
+    y: &[f64],
+    internal: &[usize],
+    external: &[usize],
+    boundary: &[usize],
+    base_mva: f64,
+    p_ext: &[f64],
+    q_ext: &[f64],
+    y_ward: &mut [f64],
+    p_ward: &mut [f64],
+    q_ward: &mut [f64],
+    work: &mut [f64],
+) -> WardAnswer
+    ensures { λ r. ⌜ (spec.after r (now («y_ward» .exit)) (now («p_ward» .exit)) (now («q_ward» .exit)) (now (work .exit)) ≡ ward.afterWard (spec.studyOf n (now (y .entry)) (now (internal .entry)) (now (external .entry)) (now (boundary .entry)) «base_mva» (now («p_ext» .entry)) (now («q_ext» .entry))) (spec.roomOf (now («y_ward» .entry)) (now («p_ward» .entry)) (now («q_ward» .entry)) (now (work .entry)))) × F64s (now (y .entry)) ⌝ }
+{
+    let told = ward_lengths::told(
+        n,
+        y.len(),
+        internal.len(),
+        external.len(),
+        boundary.len(),
+        p_ext.len(),
+        q_ext.len(),
+        y_ward.len(),
+        p_ward.len(),
+        q_ward.len(),
+        work.len(),
+    );
+    if told != 0 {
+        return WardAnswer::Refused(told);
+    }
+    ward_study::study(
+        n,
+        y,
+        internal,
+        external,
+        boundary,
+        base_mva,
+        p_ext,
+        q_ext,
+        y_ward,
+        p_ward,
+        q_ward,
+        work,
+    )
+}

@@ -1,0 +1,89 @@
+// The refusals of a Ward study that the size and the lengths tell, lowest number first; 0 is none.
+// Nothing is multiplied before the lengths are known to be within the limit.
+use refusals::LIMIT;
+ghost use mathlib.Core.Path.{_≡_};
+ghost use Prim.Native.Nat.{_<_};
+ghost use Rattle.ward_core.specs.WardCalls as spec;
+
+// More buses than the limit, or a longer list.
+fn crowded(n: usize, i: usize, e: usize, b: usize, p: usize, q: usize) -> bool
+    ensures { λ r. ⌜ r ≡ spec.crowded n i e b p q ⌝ }
+{
+    if n > LIMIT {
+        return true;
+    }
+    if i > LIMIT {
+        return true;
+    }
+    if e > LIMIT {
+        return true;
+    }
+    if b > LIMIT {
+        return true;
+    }
+    if p > LIMIT {
+        return true;
+    }
+    q > LIMIT
+}
+
+// A slice not of its exact length.
+fn uneven(
+    n: usize,
+    y: usize,
+    i: usize,
+    e: usize,
+    b: usize,
+    yw: usize,
+    pw: usize,
+    qw: usize,
+    w: usize,
+) -> bool
+    requires { ⌜ (n < 65) × (i < 65) × (e < 65) × (b < 65) ⌝ }
+    ensures { λ r. ⌜ r ≡ spec.uneven n y i e b yw pw qw w ⌝ }
+{
+    let r = i + b;
+    if y != 2 * (n * n) {
+        return true;
+    }
+    if yw != 2 * (r * r) {
+        return true;
+    }
+    if pw != b {
+        return true;
+    }
+    if qw != b {
+        return true;
+    }
+    w != 2 * (e * (e + r + 1))
+}
+
+pub fn told(
+    n: usize,
+    y: usize,
+    i: usize,
+    e: usize,
+    b: usize,
+    p: usize,
+    q: usize,
+    yw: usize,
+    pw: usize,
+    qw: usize,
+    w: usize,
+) -> u32
+    ensures { λ r. ⌜ r ≡ spec.told n y i e b p q yw pw qw w ⌝ }
+{
+    if crowded(n, i, e, b, p, q) {
+        return 1;
+    }
+    if uneven(n, y, i, e, b, yw, pw, qw, w) {
+        return 2;
+    }
+    if p != e {
+        return 3;
+    }
+    if q != e {
+        return 3;
+    }
+    0
+}
