@@ -1,0 +1,4 @@
+// The REI equivalent.
+pub use rei_core::ReiAnswer;
+pub use rei_core::ReiEquivalent;
+pub use rei_core::compute;

@@ -1,0 +1,4 @@
+// Ward and extended Ward.
+pub use ward_core::WardAnswer;
+pub use ward_core::WardSummary;
+pub use ward_core::compute;
