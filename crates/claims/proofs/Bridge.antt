@@ -1,0 +1,223 @@
+-- The bridge: what a list of calls leaves is, as data, the record and layout of the account's state. So row p is the p-th kept bus, and the slice's entries are the formula's.
+-- Assumes nothing.
+use mathlib.Core.Path.{_≡_, refl, sym, ap, subst, _∙_}
+use mathlib.Core.Bool.{Bool, true, false, not, cond}
+use mathlib.Core.Logic.{_⊎_, inl, inr}
+use mathlib.Core.List.{List, [], _∷_}
+use Prim.Native.Nat.{ℕ, _*_, _≤_, _<_}
+use lib.Dec.{T, eqb, leb, ltb, eqb→eq, leb→le, nltb→le, nleb→lt, lit≤}
+use lib.ListN.{length}
+use lib.Ieee.{Float}
+use lib.Ieee.Bits.{is-true}
+use Rattle.refusals.specs.Refusals.{limit, tooMany, wrongLength, notActive, smallEntry, outcome}
+use Rattle.kron_core.specs.declared.KronReducer.{KronReducer}
+use Rattle.buses.specs.Buses.{mem}
+use Rattle.kron_core.specs.Kron.{State, start, tooSmall, refusal, accepts, remove, eliminate, taken, stop}
+use Rattle.kron_core.specs.Reducer.{Making, Made, makingRefusal, activeOf, afterNew, inputRefusal, Held, held, laid, leaves, removable, refusalOf, afterBus, afterBuses}
+use Rattle.kron_core.proofs.States.{Accepted, taken-accepted, append-accepted, eliminate-append, eliminate-active, Regular, regular-start, regular-eliminate}
+use Rattle.kron_core.proofs.Reducer.{active-recordOf, entry-laidOut, laidOut-all, input-laid, removable-laid, refusal-laid, leaves-laid, input-long, removable-long}
+use Rattle.claims.specs.Accounts.{Call, bus, buses, stepHeld, leftFrom, left, entry, Account, fresh, stateOf, removes, step, accountFrom, account, kept, busAt}
+
+-- ---- a making that is accepted
+
+pub made-small : (M : Making) → Made M → M .size ≤ limit
+unfolding makingRefusal
+made-small M h = nltb→le limit (M .size) (go (ltb limit (M .size)) (not (eqb (length (M .given)) (2 * (M .size * M .size)))) h)
+  where
+    go : (b c : Bool) → T (eqb (cond b tooMany (cond c wrongLength 0)) 0) → T (not b)
+    go true c h = h
+    go false c h = tt
+
+pub made-length : (M : Making) → Made M → length (M .given) ≡ 2 * (M .size * M .size)
+unfolding makingRefusal
+made-length M h = eqb→eq (length (M .given)) (2 * (M .size * M .size)) (go (ltb limit (M .size)) (eqb (length (M .given)) (2 * (M .size * M .size))) h)
+  where
+    go : (b c : Bool) → T (eqb (cond b tooMany (cond (not c) wrongLength 0)) 0) → T c
+    go true c h = absurd h
+    go false true h = tt
+    go false false h = h
+
+-- ---- the account
+
+-- size and old entries are those at making
+pub account-size : (a : Account) (calls : List Call) → accountFrom a calls .size ≡ a .size
+unfolding accountFrom step
+account-size a [] = refl
+account-size a (c ∷ cs) = account-size (step a c) cs
+
+pub account-old : (a : Account) (calls : List Call) → accountFrom a calls .old ≡ a .old
+unfolding accountFrom step
+account-old a [] = refl
+account-old a (c ∷ cs) = account-old (step a c) cs
+
+state-step : (a : Account) (c : Call) → stateOf (step a c) ≡ eliminate (stateOf a) (removes a c)
+unfolding stateOf step
+state-step a c = eliminate-append (start (a .size) (a .old)) (a .removed) (removes a c)
+
+pub regular-state : (a : Account) → Regular (a .size) (stateOf a)
+unfolding stateOf
+regular-state a = regular-eliminate (a .size) (start (a .size) (a .old)) (a .removed) (regular-start (a .size) (a .old))
+
+pub kept-state : (a : Account) → stateOf a .active ≡ kept a
+unfolding stateOf
+kept-state a = eliminate-active (start (a .size) (a .old)) (a .removed)
+
+-- ---- one call
+
+module _ (a : Account) (small : a .size ≤ limit) where
+  abbrev here : Held
+  here = laid (a .size) (stateOf a)
+
+  within : (ks : List ℕ) → length ks ≤ limit → leaves (here .rec) (here .slice) (removable (here .rec) (here .slice) ks) ≡ laid (a .size) (eliminate (stateOf a) (taken (stateOf a) ks))
+  within ks l =
+      ap (leaves (here .rec) (here .slice)) (removable-laid (a .size) (stateOf a) small (regular-state a) ks l)
+      ∙ leaves-laid (a .size) (stateOf a) small (regular-state a) (taken (stateOf a) ks) (taken-accepted (stateOf a) ks)
+
+  one-call : (c : Call) → stepHeld here c ≡ laid (a .size) (eliminate (stateOf a) (removes a c))
+  unfolding stepHeld afterBus afterBuses removes
+  one-call (bus k) = within (k ∷ []) (unfold limit in lit≤ tt)
+  one-call (buses ks) = go (leb (length ks) limit) (leb→le (length ks) limit) (nleb→lt (length ks) limit)
+    where
+      go : (b : Bool) → (T b → length ks ≤ limit) → (T (not b) → limit < length ks) → leaves (here .rec) (here .slice) (removable (here .rec) (here .slice) ks) ≡ laid (a .size) (eliminate (stateOf a) (cond b (taken (stateOf a) ks) []))
+      go true f g = within ks (f tt)
+      go false f g = ap (leaves (here .rec) (here .slice)) (removable-long (here .rec) (here .slice) ks (g tt)) ∙ unfold leaves eliminate in refl
+
+-- ---- all calls
+
+left-from : (a : Account) (calls : List Call) → a .size ≤ limit → leftFrom (laid (a .size) (stateOf a)) calls ≡ laid (a .size) (stateOf (accountFrom a calls))
+unfolding leftFrom accountFrom step
+left-from a [] small = refl
+left-from a (c ∷ cs) small =
+    ap (λ (h : Held). leftFrom h cs) (one-call a small c ∙ ap (laid (a .size)) (sym (state-step a c)))
+    ∙ left-from (step a c) cs small
+
+fresh-is : (M : Making) → Made M → held (afterNew M .rec) (M .given) ≡ laid (M .size) (stateOf (fresh M))
+unfolding afterNew laid stateOf fresh eliminate
+fresh-is M made = rw (is-true (eqb (makingRefusal M) 0) made, laidOut-all (M .size) (M .given) (made-length M made))
+
+pub left-is : (M : Making) (calls : List Call) → Made M → left M calls ≡ laid (M .size) (stateOf (account M calls))
+unfolding left
+left-is M calls made = ap (λ (h : Held). leftFrom h calls) (fresh-is M made) ∙ unfold fresh in left-from (fresh M) calls (made-small M made)
+
+-- ---- the buses removed
+
+removes-accepted : (a : Account) (c : Call) → Accepted (stateOf a) (removes a c)
+unfolding removes
+removes-accepted a (bus k) = taken-accepted (stateOf a) (k ∷ [])
+removes-accepted a (buses ks) = go (leb (length ks) limit)
+  where
+    go : (b : Bool) → Accepted (stateOf a) (cond b (taken (stateOf a) ks) [])
+    go true = taken-accepted (stateOf a) ks
+    go false = tt
+
+-- each bus removed was accepted when its turn came
+abbrev AllAccepted : Account → Type 0
+AllAccepted a = Accepted (start (a .size) (a .old)) (a .removed)
+
+accepted-from : (a : Account) (calls : List Call) → AllAccepted a → AllAccepted (accountFrom a calls)
+unfolding accountFrom step stateOf
+accepted-from a [] h = h
+accepted-from a (c ∷ cs) h = accepted-from (step a c) cs (append-accepted (start (a .size) (a .old)) (a .removed) (removes a c) h (removes-accepted a c))
+
+pub all-accepted : (M : Making) (calls : List Call) → AllAccepted (account M calls)
+all-accepted M calls = accepted-from (fresh M) calls (unfold fresh in tt)
+
+-- ---- rows and entries
+
+-- the active list is the other buses in their old order, and the present size is their number
+pub kept-is : (M : Making) (calls : List Call) → Made M → activeOf (left M calls .rec) ≡ kept (account M calls)
+unfolding laid
+kept-is M calls made = rw (left-is M calls made) (active-recordOf (M .size) (stateOf (account M calls) .active) ∙ kept-state (account M calls))
+
+pub size-is : (M : Making) (calls : List Call) → Made M → left M calls .rec .«n_buses» ≡ length (kept (account M calls))
+unfolding laid
+size-is M calls made = rw (left-is M calls made) (ap length (kept-state (account M calls)))
+
+-- the slice's entry in row p and column q is the formula's between the kept buses of that row and column
+pub entry-is : (M : Making) (calls : List Call) → Made M → (p q : ℕ) → p < length (kept (account M calls)) → q < length (kept (account M calls))
+    → entry (left M calls) p q ≡ stateOf (account M calls) .entries (busAt (account M calls) p) (busAt (account M calls) q)
+unfolding laid
+entry-is M calls made p q x y =
+    let s = stateOf (account M calls) in
+    let e = kept-state (account M calls) in
+    rw (left-is M calls made, ← e) (entry-laidOut (2 * (M .size * M .size)) (s .active) (s .entries) p q (rw e x) (rw e y))
+
+-- ---- the refusals and removals of a call after a list of calls
+
+stop-one : (s : State) (k : ℕ) → stop s (k ∷ []) ≡ refusal s k
+unfolding stop
+stop-one s k = go (accepts s k) (eqb→eq (refusal s k) 0)
+  where
+    go : (b : Bool) → (T b → refusal s k ≡ 0) → cond b 0 (refusal s k) ≡ refusal s k
+    go true f = sym (f tt)
+    go false f = refl
+
+module _ (M : Making) (calls : List Call) (made : Made M) where
+  abbrev rec : KronReducer
+  rec = left M calls .rec
+
+  abbrev slice : List Float
+  slice = left M calls .slice
+
+  abbrev now : State
+  now = stateOf (account M calls)
+
+  -- what holds of the account's record and layout holds of what is left
+  by-layout : (P : Held → Type 0) → P (laid (M .size) now) → P (left M calls)
+  by-layout P = subst P (sym (left-is M calls made))
+
+  regular-now : Regular (M .size) now
+  regular-now = subst (λ (n : ℕ). Regular n now) (account-size (fresh M) calls ∙ unfold fresh in refl) (regular-state (account M calls))
+
+  -- the input refusals of record and slice, 1, 2 and 9, never come: a list within the limit is not refused from the input, and a longer one is refused with 1 for its length
+  pub no-input-refusal : (l : ℕ) → l ≤ limit → inputRefusal rec slice l ≡ 0
+  no-input-refusal l h = by-layout (λ (g : Held). inputRefusal (g .rec) (g .slice) l ≡ 0) (input-laid (M .size) now (made-small M made) regular-now l h)
+
+  pub long-refused : (l : ℕ) → limit < l → inputRefusal rec slice l ≡ tooMany
+  long-refused l h = input-long rec slice l h
+
+  -- so a call answers what the account's state tells
+  pub refusal-is : (ks : List ℕ) → length ks ≤ limit → refusalOf rec slice ks ≡ stop now ks
+  refusal-is ks h = by-layout (λ (g : Held). refusalOf (g .rec) (g .slice) ks ≡ stop now ks) (refusal-laid (M .size) now (made-small M made) regular-now ks h)
+
+  -- and it removes the buses that the account says
+  pub removed-is : (ks : List ℕ) → removable rec slice ks ≡ removes (account M calls) (buses ks)
+  unfolding removes
+  removed-is ks = go (leb (length ks) limit) (leb→le (length ks) limit) (nleb→lt (length ks) limit)
+    where
+      go : (b : Bool) → (T b → length ks ≤ limit) → (T (not b) → limit < length ks) → removable rec slice ks ≡ cond b (taken now ks) []
+      go true f g = by-layout (λ (g : Held). removable (g .rec) (g .slice) ks ≡ taken now ks) (removable-laid (M .size) now (made-small M made) regular-now ks (f tt))
+      go false f g = removable-long rec slice ks (g tt)
+
+  -- the answers of the two calls, by the account
+  pub answer-bus : (k : ℕ) → afterBus rec slice k .out .answer ≡ outcome (refusal now k)
+  unfolding afterBus
+  answer-bus k = ap outcome (refusal-is (k ∷ []) (unfold limit in lit≤ tt) ∙ stop-one now k)
+
+  pub answer-buses : (ks : List ℕ) → length ks ≤ limit → afterBuses rec slice ks .out .removals .answer ≡ outcome (stop now ks)
+  unfolding afterBuses
+  answer-buses ks h = ap outcome (refusal-is ks h)
+
+  pub count-is : (ks : List ℕ) → afterBuses rec slice ks .out .removals .removed ≡ length (removes (account M calls) (buses ks))
+  unfolding afterBuses
+  count-is ks = ap length (removed-is ks)
+
+  -- a call that removes nothing leaves all as it was, and what stands behind the rows too
+  pub nothing-removed : (c : Call) → removes (account M calls) c ≡ [] → stepHeld (left M calls) c ≡ left M calls
+  unfolding stepHeld afterBus afterBuses leaves removes limit
+  nothing-removed (bus k) e = ap (leaves rec slice) (removed-is (k ∷ []) ∙ e)
+  nothing-removed (buses ks) e = ap (leaves rec slice) (removed-is ks ∙ e)
+
+-- a refusal told from the state is 11 or 12
+pub stop-cases : (s : State) (ks : List ℕ) → (stop s ks ≡ 0) ⊎ ((stop s ks ≡ notActive) ⊎ (stop s ks ≡ smallEntry))
+unfolding stop refusal
+stop-cases s [] = inl refl
+stop-cases s (k ∷ ks) = go (mem k (s .active)) (tooSmall (s .entries k k)) (stop-cases (remove s k) ks)
+  where
+    go : (b c : Bool) → (stop (remove s k) ks ≡ 0) ⊎ ((stop (remove s k) ks ≡ notActive) ⊎ (stop (remove s k) ks ≡ smallEntry))
+        → let f = cond b (cond c smallEntry 0) notActive in
+        let r = cond (eqb f 0) (stop (remove s k) ks) f in
+        (r ≡ 0) ⊎ ((r ≡ notActive) ⊎ (r ≡ smallEntry))
+    go true true ih = inr (inr refl)
+    go true false ih = ih
+    go false c ih = inr (inl refl)

@@ -1,0 +1,98 @@
+-- A study that meets the premise of `wardRows`: the row of bus 2 has zeros towards the one external bus and keeps its values,
+-- the row of bus 1 changes and gets an injection. Assumes nothing.
+use mathlib.Core.Path.{_≡_, refl}
+use mathlib.Core.Logic.{inl, inr}
+use mathlib.Core.Bool.{Bool, true, false, not, _||_, _&&_}
+use mathlib.Core.List.{List, [], _∷_}
+use Prim.Native.Nat.{ℕ, zero, suc, _<_}
+use native.Mathlib.Omega.{arith}
+use lib.Dec.{T, eqb, lit<, eqb→eq}
+use lib.ListN.{length, getD}
+use lib.Ieee.{Float, nan, binary64, fits, ofBits, span, climb, size, odd, units, round, neg, sum, add, sub, mul, div, lt, eq, ofInt, ofFields}
+use lib.Ieee.Fits.{nan-fits, and-l, and-r}
+use Rattle.complex.specs.Arithmetic.{cadd, csub, cmul, sqmag, cdiv, complexInv}
+use Rattle.complex.specs.Constants.{plus0, one, tiny}
+use Rattle.complex.specs.Entries.{entry}
+use Rattle.complex.specs.Magnitude.{abs}
+use Rattle.complex.specs.Matrices.{upTo, entryAt, row, rows, zeros}
+use Rattle.complex.specs.Values.{_≈_, Zero, isZero, allFinite, F64s}
+use Rattle.refusals.specs.Refusals.{limit}
+use Rattle.gauss_jordan.specs.GaussJordan.{stays, tooSmall, heldAfter, pivotRow, swapped, scaled, reduced, pivoted, cleared, runFrom, run, beside, solution, singularSystem}
+use Rattle.gauss_jordan.specs.Solving.{skipped}
+use Rattle.gauss_jordan.specs.Computed.{ofSearch, ofScaling, ofReducing, ofReductions, ofRunFrom, ofRun, ofSolve}
+use Rattle.buses.specs.Buses.{_∈_, allBelow}
+use Rattle.ward_core.specs.Ward.{Study, Room, retained, listed, externals, admittance, sumUp, system, response, rowTimes, equivalent, current, injectedP, injectedQ, driven, transferred, injectionP, injectionQ, repeats, tooLong, misfit, unmatched, busRefusal, inputRefusal, thenPivots, refusal, Accepted, reduction, summary, answered, filled, workAfter, roomAfter, afterWard}
+use Rattle.ward_core.specs.WardComputed.{ofEach, ofProducts, ofRowTimes, ofResponse, ofEntry, ofCurrents, ofDriven, ofInjection, ofReduction, ofEquivalent, ofInjections, ofStudy}
+use Rattle.buses.proofs.Buses.{in-cases}
+use Rattle.claims.specs.WardRows.{givenOf, FiniteStudy, old, rowBuses, busOfRow, ZeroRow, KeepsRow}
+use Rattle.claims.proofs.WardKeeps.{zero-row}
+
+abbrev z : Float
+z = ofBits binary64 0
+
+abbrev I : Float
+I = ofBits binary64 0x3ff0000000000000
+
+abbrev -I : Float
+-I = ofBits binary64 0xbff0000000000000
+
+abbrev II : Float
+II = ofBits binary64 0x4000000000000000
+
+-- buses 0 - 1 - 2 - 3 in a row; bus 0 is external, with a shunt
+abbrev line : List Float
+line =
+    II ∷ z ∷ -I ∷ z ∷ z ∷ z ∷ z ∷ z
+    ∷ -I ∷ z ∷ II ∷ z ∷ -I ∷ z ∷ z ∷ z
+    ∷ z ∷ z ∷ -I ∷ z ∷ II ∷ z ∷ -I ∷ z
+    ∷ z ∷ z ∷ z ∷ z ∷ -I ∷ z ∷ I ∷ z ∷ []
+
+abbrev S : Study
+S = record { size = 4; given = line; internal = 3 ∷ []; external = 0 ∷ []; boundary = 2 ∷ 1 ∷ []; base = II; p-ext = I ∷ []; q-ext = I ∷ [] }
+
+abbrev o : Room
+unfolding zeros
+o = record { y-ward = zeros 18; p-ward = zeros 2; q-ward = zeros 2; work = zeros 10 }
+
+accepted : Accepted S o
+unfolding retained listed admittance sumUp system response rowTimes equivalent current injectedP injectedQ driven transferred injectionP injectionQ repeats tooLong misfit unmatched busRefusal inputRefusal thenPivots refusal reduction summary answered filled workAfter roomAfter afterWard allBelow limit stays tooSmall heldAfter pivotRow swapped scaled reduced pivoted cleared runFrom run beside solution singularSystem skipped cadd csub cmul sqmag cdiv complexInv plus0 one tiny entry abs upTo entryAt row rows zeros ofBits span climb size odd units round neg sum add sub mul div lt eq ofInt ofFields
+accepted = tt
+
+allFit : List Float → Bool
+allFit [] = true
+allFit (x ∷ xs) = fits binary64 x && allFit xs
+
+f64s-of : (xs : List Float) → T (allFit xs) → F64s xs
+unfolding allFit
+f64s-of [] h i = nan-fits binary64
+f64s-of (x ∷ xs) h zero = and-l (fits binary64 x) (allFit xs) h
+f64s-of (x ∷ xs) h (suc i) = f64s-of xs (and-r (fits binary64 x) (allFit xs) h) i
+
+f64s : F64s line
+unfolding allFit fits ofBits ofFields odd
+f64s = f64s-of line tt
+
+given : T (allFinite (givenOf S))
+unfolding givenOf allFinite ofBits ofFields odd
+given = tt
+
+computed : T (allFinite (ofStudy S))
+unfolding retained listed admittance sumUp system response rowTimes equivalent current injectedP injectedQ driven transferred injectionP injectionQ repeats tooLong misfit unmatched busRefusal inputRefusal thenPivots refusal reduction summary answered filled workAfter roomAfter afterWard allBelow limit stays tooSmall heldAfter pivotRow swapped scaled reduced pivoted cleared runFrom run beside solution singularSystem skipped cadd csub cmul sqmag cdiv complexInv plus0 one tiny entry abs upTo entryAt row rows zeros ofBits span climb size odd units round neg sum add sub mul div lt eq ofInt ofFields ofSearch ofScaling ofReducing ofReductions ofRunFrom ofRun ofSolve ofEach ofProducts ofRowTimes ofResponse ofEntry ofCurrents ofDriven ofInjection ofReduction ofEquivalent ofInjections ofStudy allFinite
+computed = tt
+
+finite-study : FiniteStudy S
+finite-study = record { f64s = f64s; given = given; computed = computed }
+
+zero-towards : ZeroRow S 1
+unfolding ZeroRow old busOfRow rowBuses entryAt entry ofBits ofFields odd eq
+zero-towards e h = elim (in-cases e 0 [] h) [ inl q ↦ rw q tt | inr n ↦ absurd n ]
+
+-- row 1, of bus 2, is the boundary's first
+keeps : KeepsRow S (afterWard S o .room) 1
+unfolding rowBuses
+keeps = zero-row S o accepted finite-study 1 (lit< tt) zero-towards
+
+-- row 2, of bus 1: its own entry was 2 and is 1.5, and P was 0 and is 0.5
+changes : T (not (eq (entryAt 3 (afterWard S o .room .y-ward) 2 2 .re) (old S 1 1 .re))) × T (not (isZero (getD (afterWard S o .room .p-ward) 1 nan)))
+unfolding old retained listed admittance sumUp system response rowTimes equivalent current injectedP injectedQ driven transferred injectionP injectionQ repeats tooLong misfit unmatched busRefusal inputRefusal thenPivots refusal reduction summary answered filled workAfter roomAfter afterWard allBelow limit stays tooSmall heldAfter pivotRow swapped scaled reduced pivoted cleared runFrom run beside solution singularSystem skipped cadd csub cmul sqmag cdiv complexInv plus0 one tiny entry abs upTo entryAt row rows zeros ofBits span climb size odd units round neg sum add sub mul div lt eq ofInt ofFields
+changes = (tt, tt)

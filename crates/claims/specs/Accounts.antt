@@ -1,0 +1,72 @@
+-- A list of removal calls on a reducer freshly made: what the calls leave, and, from the making and the calls alone, which buses they remove.
+use Prim.Native.Nat.{ℕ}
+use mathlib.Core.Bool.{cond}
+use mathlib.Core.List.{List, [], _∷_, _++_}
+use lib.Dec.{leb}
+use lib.ListN.{length, getD}
+use Rattle.complex.specs.Matrices.{Matrix, upTo, entryAt}
+use Rattle.refusals.specs.Refusals.{limit}
+use Rattle.buses.specs.Buses.{others}
+use Rattle.kron_core.specs.Kron.{State, start, eliminate, taken}
+use Rattle.kron_core.specs.Reducer.{Making, afterNew, Held, held, afterBus, afterBuses}
+
+-- a call of `eliminate_bus` with a bus, or of `eliminate_buses` with a list of buses: any numbers, in any order
+pub data Call : Type 0 where
+  bus : ℕ → Call
+  buses : List ℕ → Call
+
+-- ---- what is left: record and slice, by the definitions that the contracts of the calls cite
+
+unfoldable pub stepHeld : Held → Call → Held
+stepHeld h (bus k) = let a = afterBus (h .rec) (h .slice) k in held (a .out .rec) (a .slice)
+stepHeld h (buses ks) = let a = afterBuses (h .rec) (h .slice) ks in held (a .out .rec) (a .slice)
+
+-- each call gets what the one before left, also after a refusal
+unfoldable pub leftFrom : Held → List Call → Held
+leftFrom h [] = h
+leftFrom h (c ∷ cs) = leftFrom (stepHeld h c) cs
+
+-- from the record of the making and the slice that it was made of
+unfoldable pub left : Making → List Call → Held
+left M calls = leftFrom (held (afterNew M .rec) (M .given)) calls
+
+-- the entry in row p and column q of the matrix in the slice: a row is as long as there are buses now
+abbrev pub entry : Held → Matrix
+entry h p q = entryAt (h .rec .«n_buses») (h .slice) p q
+
+-- ---- the account: the size and the entries at making ("old"), and the buses removed since, in the order of the calls
+
+pub record Account : Type 0 where
+  pub size : ℕ
+  pub old : Matrix
+  pub removed : List ℕ
+
+unfoldable pub fresh : Making → Account
+fresh M = record { size = M .size; old = entryAt (M .size) (M .given); removed = [] }
+
+-- the old matrix after the removals, by Kron's formula
+unfoldable pub stateOf : Account → State
+stateOf a = eliminate (start (a .size) (a .old)) (a .removed)
+
+-- the buses that a call removes: those before the first refused one; none where the list is longer than the limit
+unfoldable pub removes : Account → Call → List ℕ
+removes a (bus k) = taken (stateOf a) (k ∷ [])
+removes a (buses ks) = cond (leb (length ks) limit) (taken (stateOf a) ks) []
+
+unfoldable pub step : Account → Call → Account
+step a c = record { size = a .size; old = a .old; removed = a .removed ++ removes a c }
+
+unfoldable pub accountFrom : Account → List Call → Account
+accountFrom a [] = a
+accountFrom a (c ∷ cs) = accountFrom (step a c) cs
+
+abbrev pub account : Making → List Call → Account
+account M calls = accountFrom (fresh M) calls
+
+-- "kept" are all other buses: the first of them in old row order has the first row and column, and so on
+abbrev pub kept : Account → List ℕ
+kept a = others (a .removed) (upTo (a .size))
+
+-- the kept bus of row and column p
+abbrev pub busAt : Account → ℕ → ℕ
+busAt a p = getD (kept a) p 0

@@ -1,0 +1,6 @@
+pub mod Accounts
+pub mod Chains
+pub mod Finite
+pub mod Removals
+pub mod Demand3
+pub mod WardRows

@@ -1,0 +1,78 @@
+-- Demand 3 of Ward's study: a retained row with zeros towards all external buses keeps its values and gets zero injection.
+use Prim.Native.Nat.{ℕ, _+_, _<_}
+use mathlib.Core.Path.{_≡_}
+use mathlib.Core.List.{List, _∷_, _++_}
+use lib.Dec.{T}
+use lib.ListN.{length, getD}
+use lib.Ieee.{Float, nan}
+use Rattle.complex.specs.Matrices.{Matrix, entryAt}
+use Rattle.complex.specs.Values.{_≈_, isZero, Zero, allFinite, F64s}
+use Rattle.buses.specs.Buses.{_∈_}
+use Rattle.ward_core.specs.Ward.{Study, Room, Accepted, afterWard}
+use Rattle.ward_core.specs.WardExtended.{Extended, ExtendedRoom, AcceptedX, afterExtended}
+use Rattle.ward_core.specs.WardComputed.{ofStudy, ofExtended}
+
+-- ---- the premise
+
+-- all numbers of a study that are given
+unfoldable pub givenOf : Study → List Float
+givenOf S = S .given ++ (S .base ∷ (S .p-ext ++ S .q-ext))
+
+-- all given and all computed in the study are finite; f64s is no restriction: the matrix is a slice of f64
+pub record FiniteStudy (S : Study) : Type 0 where
+  pub f64s : F64s (S .given)
+  pub given : T (allFinite (givenOf S))
+  pub computed : T (allFinite (ofStudy S))
+
+pub record FiniteExtended (S : Extended) : Type 0 where
+  pub f64s : F64s (S .study .given)
+  pub given : T (allFinite (givenOf (S .study) ++ S .v-ext))
+  pub computed : T (allFinite (ofExtended S))
+
+-- ---- a retained row
+
+-- the given entry between two buses
+unfoldable pub old : Study → Matrix
+old S = entryAt (S .size) (S .given)
+
+-- row p of the equivalent is this bus's: the internal ones first, then the boundary ones
+unfoldable pub rowBuses : Study → List ℕ
+rowBuses S = S .internal ++ S .boundary
+
+unfoldable pub busOfRow : Study → ℕ → ℕ
+unfolding rowBuses
+busOfRow S p = getD (rowBuses S) p 0
+
+-- zeros towards all external buses
+unfoldable pub ZeroRow : Study → ℕ → Type 0
+unfolding old busOfRow
+ZeroRow S p = (e : ℕ) → e ∈ S .external → Zero (old S (busOfRow S p) e)
+
+-- each entry of row p equals the given one between the same two buses
+unfoldable pub KeepsValues : Study → Room → ℕ → Type 0
+unfolding old busOfRow rowBuses
+KeepsValues S o p =
+    let r = length (rowBuses S) in
+    (q : ℕ) → q < r → entryAt r (o .y-ward) p q ≈ old S (busOfRow S p) (busOfRow S q)
+
+-- what stands at row p's place among the boundary rows, if it is one, is zero
+unfoldable pub ZeroAt : Study → ℕ → List Float → Type 0
+ZeroAt S p xs = (t : ℕ) → t < length (S .boundary) → p ≡ length (S .internal) + t → T (isZero (getD xs t nan))
+
+pub record KeepsRow (S : Study) (o : Room) (p : ℕ) : Type 0 where
+  pub values : KeepsValues S o p
+  pub active : ZeroAt S p (o .p-ward)
+  pub reactive : ZeroAt S p (o .q-ward)
+
+pub record KeepsRowX (S : Extended) (o : ExtendedRoom) (p : ℕ) : Type 0 where
+  pub row : KeepsRow (S .study) (o .room) p
+  pub correction : ZeroAt (S .study) p (o .correction)
+  pub compensation : ZeroAt (S .study) p (o .compensation)
+
+-- ---- the claim
+
+pub record WardRows : Type 0 where
+  pub study : (S : Study) (o : Room) → Accepted S o → FiniteStudy S
+      → (p : ℕ) → p < length (rowBuses S) → ZeroRow S p → KeepsRow S (afterWard S o .room) p
+  pub extended : (S : Extended) (o : ExtendedRoom) → AcceptedX S o → FiniteExtended S
+      → (p : ℕ) → p < length (rowBuses (S .study)) → ZeroRow (S .study) p → KeepsRowX S (afterExtended S o .room) p
