@@ -1,0 +1,33 @@
+-- The definition of the program, computed on small inputs.
+-- Assumes nothing.
+use mathlib.Core.Path.{_≡_, refl}
+use lib.Ieee
+use Rattle.complex.specs.Constants
+use Rattle.complex.specs.Arithmetic
+use Rattle.complex.specs.Entries
+use Rattle.complex.specs.Matrices
+use Rattle.refusals.specs.Refusals
+use Rattle.buses.specs.Buses
+use Rattle.kron_core.specs.Kron
+use Rattle.kron_core.specs.Reducer
+use Rattle.lines.specs.Bytes.{ascii}
+use Rattle.lines.specs.Words
+use Rattle.lines.specs.Lines
+use Rattle.lines.specs.Reading
+use Rattle.lines.specs.Printing
+use Rattle.lines.specs.Reduce.{printed}
+
+nothing : printed (ascii "") ≡ ascii "bad line 1\n"
+unfolding printed Reading.run Reading.first Lines.lines Printing.text Printing.textOf Printing.badText Printing.numberLine Words.decimal
+nothing = refl
+
+no-buses : printed (ascii "buses 0") ≡ ascii "kept 0\n"
+unfolding printed Reading.run Reading.first Reading.most Reading.entries Reading.drops Lines.lines Lines.startsWith Lines.numberAfter Words.decimalOf Reducer.afterNew Reducer.makingRefusal Refusals.limit Matrices.upTo Printing.text Printing.textOf Printing.keptText Printing.numberLine Printing.busLines Printing.entryLines Words.decimal
+no-buses = refl
+
+-- the two-bus case
+two-bus :
+    printed (ascii "buses 2\n3ff0000000000000 0000000000000000\nbff0000000000000 0000000000000000\nbff0000000000000 0000000000000000\n4000000000000000 0000000000000000\ndrop 1\n")
+    ≡ ascii "kept 1\nbus 0\n3fe0000000000000 0000000000000000\n"
+unfolding printed Reading.run Reading.first Reading.most Reading.entries Reading.drops Lines.lines Lines.startsWith Lines.numberAfter Lines.entryOf Words.decimalOf Words.hexOf Reducer.afterNew Reducer.makingRefusal Refusals.limit Matrices.upTo Printing.text Printing.textOf Printing.keptText Printing.numberLine Printing.busLines Printing.entryLines Printing.entryLine Words.decimal Words.hex Reducer.afterBus Reducer.leaves Reducer.removable Reducer.refusalOf Reducer.inputRefusal Reducer.sound Reducer.view Reducer.laid Kron.eliminate Kron.taken Kron.stop Kron.refusal Kron.tooSmall Kron.kron Buses.others Buses.place Buses.rising Buses.allBelow Buses.allZero Refusals.outcome Entries.entry Matrices.entryAt Matrices.row Arithmetic.cmul Arithmetic.csub Arithmetic.cdiv Constants.plus0 Constants.tiny Ieee.ofBits Ieee.toBits Ieee.add Ieee.sub Ieee.mul Ieee.div Ieee.lt
+two-bus = refl

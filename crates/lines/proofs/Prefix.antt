@@ -1,0 +1,253 @@
+-- The program reads no further than its buffer: what it prints for an input is what it prints for the first so many bytes of it.
+-- Assumes nothing.
+use Prim.Native.Nat.{ℕ, zero, suc, _+_, _-_, _*_, _^_, _≤_, _<_}
+use mathlib.Core.Path.{_≡_, refl, sym, ap, subst, _∙_}
+use mathlib.Core.Bool.{Bool, true, false, cond}
+use mathlib.Core.List.{List, [], _∷_, _++_}
+use native.Mathlib.Nat.{le-trans, mul-le-mul, mul-le-mul-left}
+use native.Mathlib.Decide.{decLt, ℕ-discrete}
+use borrow.Author.Tests.{eq-eqb, ne-eqb}
+use native.Mathlib.Omega.{arith}
+use lib.Dec.{T, eqb, leb, lit≤, lit<, leb→le, eqb-refl}
+use lib.ListN.{length, take, drop, length-append, length-take, length-drop}
+use lib.Seq.{take-nil, length-take-le}
+use lib.Ieee.{Float}
+use lib.Ieee.Bits.{is-true}
+use Rattle.complex.specs.Matrices.{entryAt, upTo}
+use Rattle.complex.proofs.Matrices.{length-upTo}
+use Rattle.refusals.specs.declared.Outcome.{Outcome}
+use Rattle.refusals.specs.declared.Outcome.the-variants.{Done, Refused}
+use Rattle.refusals.specs.Refusals.{limit, outcome}
+use Rattle.kron_core.specs.declared.KronReducer.{KronReducer}
+use Rattle.buses.specs.Buses.{_∈_, others, place}
+use Rattle.kron_core.specs.Kron.{State, accepts, refusal, remove, eliminate, taken, stop}
+use Rattle.kron_core.specs.Reducer.{makingOf, recordOf, refusalOf, afterNew, afterBus, Held, held, laid}
+use Rattle.buses.proofs.Buses.{below-all, others-one, place-lt}
+use Rattle.kron_core.proofs.States.{Regular, accepted-active, eliminate-active}
+use Rattle.kron_core.proofs.Reducer.{refusal-laid}
+use Rattle.lines.specs.declared.words.Number.{Number}
+use Rattle.lines.specs.declared.words.Number.the-variants.{Is, Not}
+use Rattle.lines.specs.declared.text.Entry.{Entry}
+use Rattle.lines.specs.declared.text.Entry.the-variants.{Words, NoEntry}
+use Rattle.lines.specs.declared.read.End.the-variants.{BadLine}
+use Rattle.lines.specs.Bytes.{Bytes, ascii}
+use Rattle.lines.specs.Lines.{lines, span, busesOf, dropOf, entryOf}
+use Rattle.lines.specs.Reading.{most, Run, ended, noReducer, ofWord, onNumber, onOutcome, onEntry, afterDrop, drops, entries, noBuses, first, run}
+use Rattle.lines.specs.Printing.{text}
+use Rattle.lines.specs.Reduce.{printed, inputLength}
+use Rattle.lines.proofs.LineLaws.{span-le, entry-length}
+use Rattle.lines.proofs.ReadLaws.{first-and-rest, entry-33}
+use Rattle.lines.proofs.WordSizes.{number-size, number-long}
+use Rattle.lines.proofs.Cutting.{firstLine, behind, cut-same, Long, cut-long}
+use Rattle.lines.proofs.Fit.{Laid, laid-new, fresh, within, left-is, laid-bus}
+
+-- ---- a drop that is carried out: the bus is small, and one bus fewer is left
+
+outcome-done : (f : ℕ) → outcome f ≡ Done → f ≡ 0
+unfolding outcome
+outcome-done zero e = refl
+outcome-done (suc f) e = absurd (let z : _≡_ {A = ℕ} 0 1 = cc in omega arith)
+
+none-refused : (x : ℕ) → cond (eqb x 0) 0 x ≡ 0 → T (eqb x 0)
+none-refused x e = go (ℕ-discrete x 0)
+  where
+    go : Dec (x ≡ 0) → T (eqb x 0)
+    go (yes p) = subst T (sym (eq-eqb x 0 p)) tt
+    go (no n) = absurd (n (rw (ne-eqb x 0 n) at e))
+
+stop-accepts : (s : State) (k : ℕ) → stop s (k ∷ []) ≡ 0 → T (accepts s k)
+unfolding stop
+stop-accepts s k e = none-refused (refusal s k) e
+
+taken-one : (s : State) (k : ℕ) → T (accepts s k) → taken s (k ∷ []) ≡ k ∷ []
+unfolding taken
+taken-one s k t = rw (is-true (accepts s k) t)
+
+length-less : (k : ℕ) (s : State) (n : ℕ) → Regular n s → k ∈ s .active → length (others (k ∷ []) (s .active)) < length (s .active)
+length-less k s n g m =
+    let xs = s .active in
+    let p = place k xs in
+    let l : p < length xs = place-lt k xs m in
+    omega
+    (arith, ap length (others-one k xs (g .rises) m), length-append (take p xs) (drop (suc p) xs), length-take-le p xs (omega arith), length-drop (suc p) xs)
+
+module _ (n : ℕ) (r : KronReducer) (ys : List Float) (k : ℕ) (h : Laid n r ys) (e : afterBus r ys k .out .answer ≡ Done) where
+  no-refusal : refusalOf r ys (k ∷ []) ≡ 0
+  unfolding afterBus
+  no-refusal = outcome-done (refusalOf r ys (k ∷ [])) e
+
+  accepted : T (accepts (h .state) k)
+  accepted =
+      stop-accepts (h .state) k
+      (sym (refusal-laid n (h .state) (within n r ys k h) (h .regular) (k ∷ []) (unfold limit in lit≤ tt))
+      ∙ sym (ap (λ (x : Held). refusalOf (x .rec) (x .slice) (k ∷ [])) (h .laid-is))
+      ∙ no-refusal)
+
+  pub bus-small : k < most
+  bus-small = le-trans (below-all n (h .state .active) (h .regular .below) k (accepted-active (h .state) k accepted)) (h .small)
+
+  pub bus-fewer : afterBus r ys k .out .rec .«n_buses» < r .«n_buses»
+  unfolding laid
+  bus-fewer =
+      let s = h .state in
+      omega
+      (arith, ap (λ (x : Held). x .rec .«n_buses») (left-is n r ys k h), ap (λ (x : Held). x .rec .«n_buses») (h .laid-is), ap (λ (ks : List ℕ). length (eliminate s ks .active)) (taken-one s k accepted), ap length (eliminate-active s (k ∷ [])), length-less k s n (h .regular) (accepted-active s k accepted))
+
+-- ---- the drop lines
+
+-- so many bytes are enough for the drops of c buses, and one line more
+abbrev enough : ℕ → ℕ → Type 0
+enough c m = 8 * c + 34 ≤ m
+
+abbrev Same : ℕ → KronReducer → List Float → Bytes → ℕ → Type 0
+Same p r ys d m = drops p r ys (lines d) ≡ drops p r ys (lines (take m d))
+
+module _ (n p : ℕ) (r : KronReducer) (ys : List Float) (h : Laid n r ys)
+    (rest : (r′ : KronReducer) (ys′ : List Float) (d : Bytes) (m : ℕ) → Laid n r′ ys′ → r′ .«n_buses» < r .«n_buses» → enough (r′ .«n_buses») m → Same (p + 1) r′ ys′ d m) where
+  -- a line within the cut
+  short : (d : Bytes) (m : ℕ) → 0 < length d → span d < 34 → enough (r .«n_buses») m → Same p r ys d m
+  unfolding drops
+  short d m nonempty l room =
+      ap (drops p r ys) (first-and-rest d nonempty)
+      ∙ number (dropOf (firstLine d)) refl
+      ∙ sym (ap (drops p r ys) (cut-same m d nonempty (omega arith)))
+    where
+      ls : List Bytes
+      ls = lines (behind d)
+
+      ls′ : List Bytes
+      ls′ = lines (take (m - suc (span d)) (behind d))
+
+      done : (k : ℕ) → dropOf (firstLine d) ≡ Is k → (o : Outcome) → afterBus r ys k .out .answer ≡ o
+          → onOutcome o k (afterBus r ys k .out .rec) (afterBus r ys k .slice) (λ r′ ys′. drops (p + 1) r′ ys′ (lines (behind d)))
+          ≡ onOutcome o k (afterBus r ys k .out .rec) (afterBus r ys k .slice) (λ r′ ys′. drops (p + 1) r′ ys′ (lines (take (m - suc (span d)) (behind d))))
+      done k e Done a =
+          let small : k < most = bus-small n r ys k h a in
+          let fewer : afterBus r ys k .out .rec .«n_buses» < r .«n_buses» = bus-fewer n r ys k h a in
+          let size : length (firstLine d) ≤ 7 = number-size (ascii "drop ") (firstLine d) k 2 e (le-trans small (unfold most in lit≤ tt)) (lit≤ tt) in
+          rest (afterBus r ys k .out .rec) (afterBus r ys k .slice) (behind d) (m - suc (span d)) (laid-bus n r ys k h) fewer
+          (omega (arith, length-take (span d) d, span-le d, size, fewer, room))
+      done k e (Refused f) a = refl
+
+      number : (w : Number) → dropOf (firstLine d) ≡ w
+          → onNumber (dropOf (firstLine d)) (λ k. afterDrop k (afterBus r ys k) (λ r′ ys′. drops (p + 1) r′ ys′ (lines (behind d)))) (ended (BadLine p) r ys)
+          ≡ onNumber (dropOf (firstLine d)) (λ k. afterDrop k (afterBus r ys k) (λ r′ ys′. drops (p + 1) r′ ys′ (lines (take (m - suc (span d)) (behind d))))) (ended (BadLine p) r ys)
+      number (Is k) e = rw e (done k e (afterBus r ys k .out .answer) refl)
+      number Not e = rw e
+
+  -- a line that the cut may go through
+  long : (d : Bytes) (m : ℕ) → 34 ≤ span d → enough (r .«n_buses») m → Same p r ys d m
+  unfolding drops
+  long d m l room =
+      let c = cut-long m d l (omega arith) in
+      ap (drops p r ys) (first-and-rest d (omega (arith, span-le d)))
+      ∙ rw (number-long (ascii "drop ") (firstLine d) (lit≤ tt) (omega (arith, length-take (span d) d, span-le d)))
+      (sym (ap (drops p r ys) (c .cut-is) ∙ rw (number-long (ascii "drop ") (c .line) (lit≤ tt) (c .long))))
+
+  pub one-line : (d : Bytes) (m : ℕ) → enough (r .«n_buses») m → Same p r ys d m
+  one-line [] m room = ap (λ (d : Bytes). drops p r ys (lines d)) (sym (take-nil m))
+  one-line (b ∷ bs) m room = go (decLt (span (b ∷ bs)) 34)
+    where
+      go : Dec (span (b ∷ bs) < 34) → Same p r ys (b ∷ bs) m
+      go (yes l) = short (b ∷ bs) m (omega arith) l room
+      go (no l) = long (b ∷ bs) m (omega arith) room
+
+pub drops-cut : (c n p : ℕ) (r : KronReducer) (ys : List Float) (d : Bytes) (m : ℕ) → Laid n r ys → r .«n_buses» ≤ c → enough (r .«n_buses») m → Same p r ys d m
+drops-cut zero n p r ys d m h few room = one-line n p r ys h (λ r′ ys′ d′ m′ h′ l e. absurd (omega arith)) d m room
+drops-cut (suc c) n p r ys d m h few room =
+    one-line n p r ys h (λ r′ ys′ d′ m′ h′ l e. drops-cut c n (p + 1) r′ ys′ d′ m′ h′ (omega arith) e) d m room
+
+-- ---- the entry lines
+
+abbrev SameEntries : ℕ → ℕ → ℕ → List Float → Bytes → ℕ → Type 0
+SameEntries n k p ys d m = entries n k p ys (lines d) ≡ entries n k p ys (lines (take m d))
+
+module _ (n k p : ℕ) (ys : List Float)
+    (rest : (zs : List Float) (d : Bytes) (m : ℕ) → length zs + 2 * k ≡ 2 * (n * n) → 34 * k + 8 * n + 34 ≤ m → SameEntries n k (p + 1) zs d m) where
+  entry-short : (d : Bytes) (m : ℕ) → 0 < length d → span d < 34 → length ys + 2 * suc k ≡ 2 * (n * n) → 34 * suc k + 8 * n + 34 ≤ m → SameEntries n (suc k) p ys d m
+  unfolding entries
+  entry-short d m nonempty l e room =
+      ap (entries n (suc k) p ys) (first-and-rest d nonempty)
+      ∙ found (entryOf (firstLine d)) refl
+      ∙ sym (ap (entries n (suc k) p ys) (cut-same m d nonempty (omega arith)))
+    where
+      found : (w : Entry) → entryOf (firstLine d) ≡ w
+          → onEntry (entryOf (firstLine d)) (λ a b. entries n k (p + 1) (ys ++ (ofWord a ∷ ofWord b ∷ [])) (lines (behind d))) (ended (BadLine p) noReducer ys)
+          ≡ onEntry (entryOf (firstLine d)) (λ a b. entries n k (p + 1) (ys ++ (ofWord a ∷ ofWord b ∷ [])) (lines (take (m - suc (span d)) (behind d)))) (ended (BadLine p) noReducer ys)
+      found (Words a b) f =
+          rw f
+          (rest (ys ++ (ofWord a ∷ ofWord b ∷ [])) (behind d) (m - suc (span d)) (omega (arith, length-append ys (ofWord a ∷ ofWord b ∷ [])))
+          (omega (arith, entry-33 (firstLine d) a b f, length-take (span d) d, span-le d, room)))
+      found NoEntry f = rw f
+
+  entry-long : (d : Bytes) (m : ℕ) → 34 ≤ span d → 34 ≤ m → SameEntries n (suc k) p ys d m
+  unfolding entries
+  entry-long d m l room =
+      let c = cut-long m d l room in
+      ap (entries n (suc k) p ys) (first-and-rest d (omega (arith, span-le d)))
+      ∙ rw (entry-length (firstLine d) (omega (arith, length-take (span d) d, span-le d)))
+      (sym (ap (entries n (suc k) p ys) (c .cut-is) ∙ rw (entry-length (c .line) (omega (arith, c .long)))))
+
+  one-entry : (d : Bytes) (m : ℕ) → length ys + 2 * suc k ≡ 2 * (n * n) → 34 * suc k + 8 * n + 34 ≤ m → SameEntries n (suc k) p ys d m
+  one-entry [] m e room = ap (λ (d : Bytes). entries n (suc k) p ys (lines d)) (sym (take-nil m))
+  one-entry (b ∷ bs) m e room = go (decLt (span (b ∷ bs)) 34)
+    where
+      go : Dec (span (b ∷ bs) < 34) → SameEntries n (suc k) p ys (b ∷ bs) m
+      go (yes l) = entry-short (b ∷ bs) m (omega arith) l e room
+      go (no l) = entry-long (b ∷ bs) m (omega arith) (omega arith)
+
+made-buses : (n : ℕ) (ys : List Float) → n ≤ most → length ys ≡ 2 * (n * n) → afterNew (makingOf n ys) .rec .«n_buses» ≡ n
+unfolding laid
+made-buses n ys h e = ap (λ (x : Held). x .rec .«n_buses») (fresh n ys h e) ∙ length-upTo n
+
+pub entries-cut : (n k p : ℕ) (ys : List Float) (d : Bytes) (m : ℕ) → n ≤ most → length ys + 2 * k ≡ 2 * (n * n) → 34 * k + 8 * n + 34 ≤ m → SameEntries n k p ys d m
+unfolding entries
+entries-cut n zero p ys d m h e room =
+    let b : afterNew (makingOf n ys) .rec .«n_buses» ≡ n = made-buses n ys h (omega arith) in
+    drops-cut n n p (afterNew (makingOf n ys) .rec) ys d m (laid-new n ys h (omega arith)) (omega arith) (omega arith)
+entries-cut n (suc k) p ys d m h e room = one-entry n k p ys (λ zs d′ m′ e′ room′. entries-cut n k (p + 1) zs d′ m′ h e′ room′) d m e room
+
+-- ---- the first line, and the whole
+
+first-short : (d : Bytes) → 0 < length d → span d < 34 → run d ≡ run (take inputLength d)
+unfolding run first inputLength most
+first-short d nonempty l =
+    ap first (first-and-rest d nonempty)
+    ∙ number (busesOf (firstLine d)) refl
+    ∙ sym (ap first (cut-same inputLength d nonempty (omega arith)))
+  where
+    size : (n : ℕ) → busesOf (firstLine d) ≡ Is n → (b : Bool) → (T b → n ≤ most)
+        → cond b (entries n (n * n) 2 [] (lines (behind d))) noBuses ≡ cond b (entries n (n * n) 2 [] (lines (take (inputLength - suc (span d)) (behind d)))) noBuses
+    size n e true f =
+        let few : n ≤ most = f tt in
+        let sq : n * n ≤ most * most = mul-le-mul few few in
+        let len : length (firstLine d) ≤ 8 = number-size (ascii "buses ") (firstLine d) n 2 e (let z : n < 100 = omega arith in z) (lit≤ tt) in
+        entries-cut n (n * n) 2 [] (behind d) (inputLength - suc (span d)) few (omega arith) (omega (arith, length-take (span d) d, span-le d, len, sq, few))
+    size n e false f = refl
+
+    number : (w : Number) → busesOf (firstLine d) ≡ w
+        → onNumber (busesOf (firstLine d)) (λ n. cond (leb n most) (entries n (n * n) 2 [] (lines (behind d))) noBuses) noBuses
+        ≡ onNumber (busesOf (firstLine d)) (λ n. cond (leb n most) (entries n (n * n) 2 [] (lines (take (inputLength - suc (span d)) (behind d)))) noBuses) noBuses
+    number (Is n) e = rw e (size n e (leb n most) (leb→le n most))
+    number Not e = rw e
+
+first-long : (d : Bytes) → 34 ≤ span d → run d ≡ run (take inputLength d)
+unfolding run first inputLength most
+first-long d l =
+    let c = cut-long inputLength d l (lit≤ tt) in
+    ap first (first-and-rest d (omega (arith, span-le d)))
+    ∙ rw (number-long (ascii "buses ") (firstLine d) (lit≤ tt) (omega (arith, length-take (span d) d, span-le d)))
+    (sym (ap first (c .cut-is) ∙ rw (number-long (ascii "buses ") (c .line) (lit≤ tt) (c .long))))
+
+pub run-prefix : (input : Bytes) → run input ≡ run (take inputLength input)
+run-prefix [] = ap run (sym (take-nil inputLength))
+run-prefix (b ∷ bs) = go (decLt (span (b ∷ bs)) 34)
+  where
+    go : Dec (span (b ∷ bs) < 34) → run (b ∷ bs) ≡ run (take inputLength (b ∷ bs))
+    go (yes l) = first-short (b ∷ bs) (omega arith) l
+    go (no l) = first-long (b ∷ bs) (omega arith)
+
+-- what is printed for an input is what is printed for the bytes that the buffer holds
+pub printed-prefix : (input : Bytes) → printed input ≡ printed (take inputLength input)
+unfolding printed
+printed-prefix input = ap text (run-prefix input)

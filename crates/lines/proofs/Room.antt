@@ -1,0 +1,90 @@
+-- The text of every run fits the output: how long numbers, bus lines and the whole can get.
+-- Assumes nothing.
+use Prim.Native.Nat.{ℕ, zero, suc, _+_, _*_, _/_, _≤_, _<_}
+use mathlib.Core.Path.{_≡_, refl, sym, ap, ap₂, _∙_}
+use mathlib.Core.Bool.{Bool, true, false, cond}
+use mathlib.Core.List.{List, [], _∷_, _++_}
+use native.Mathlib.Nat.{mul-le-mul}
+use native.Mathlib.Decide.{decLt}
+use native.Mathlib.Omega.{arith}
+use lib.Dec.{ltb}
+use lib.ListN.{length, getD, length-append}
+use lib.Ieee.{Float}
+use Rattle.complex.specs.declared.Complex.{Complex}
+use Rattle.complex.specs.Entries.{entry}
+use Rattle.complex.proofs.Entries.{entry-append-left}
+use Rattle.kron_core.specs.declared.KronReducer.{KronReducer}
+use Rattle.lines.specs.declared.read.End.{End}
+use Rattle.lines.specs.declared.read.End.the-variants.{Kept, RefusedDrop, BadLine}
+use Rattle.lines.specs.Bytes.{Bytes, ascii}
+use Rattle.lines.specs.Words.{places, decimal}
+use Rattle.lines.specs.Reading.{most, Run}
+use Rattle.lines.specs.Printing.{numberLine, busLines, entryLine, entryLines, keptText, refusedText, badText, textOf, text}
+use Rattle.lines.specs.Reduce.{outputLength}
+use Rattle.lines.proofs.WordLaws.{places-stop, places-more, length-decimal}
+use Rattle.lines.proofs.PrintLaws.{length-number-line, length-refused, length-kept}
+use Rattle.lines.proofs.Fit.{Fit, FitRun}
+
+places-upto : (k n : ℕ) → places k n ≤ k
+unfolding places
+places-upto zero n = omega arith
+places-upto (suc k) n = go (ltb n 10) (places-upto k (n / 10))
+  where
+    go : (t : Bool) → places k (n / 10) ≤ k → cond t 1 (suc (places k (n / 10))) ≤ suc k
+    go true h = omega arith
+    go false h = omega arith
+
+pub decimal-twenty : (n : ℕ) → length (decimal n) ≤ 20
+decimal-twenty n = omega (arith, length-decimal n, places-upto 20 n)
+
+pub decimal-two : (n : ℕ) → n < 100 → length (decimal n) ≤ 2
+decimal-two n h = go (decLt n 10)
+  where
+    go : Dec (n < 10) → length (decimal n) ≤ 2
+    go (yes l) = omega (arith, length-decimal n, places-stop 19 n l)
+    go (no l) =
+        let m : 10 ≤ n = omega arith in
+        omega (arith, length-decimal n, places-more 19 n m, places-stop 18 (n / 10) (omega arith))
+
+bus-lines-short : (ks : List ℕ) (n : ℕ) → ((i : ℕ) → i < n → getD ks i 0 < 100) → length (busLines n ks) ≤ 7 * n
+unfolding busLines
+bus-lines-short ks zero f = omega arith
+bus-lines-short ks (suc n) f =
+    let line = numberLine (ascii "bus ") (getD ks n 0) in
+    let h : length (busLines n ks) ≤ 7 * n = bus-lines-short ks n (λ i l. f i (omega arith)) in
+    omega (arith, h, length-append (busLines n ks) line, length-number-line (ascii "bus ") (getD ks n 0), decimal-two (getD ks n 0) (f n (omega arith)))
+
+-- the numbers of a run print alike from a longer slice
+pub entry-lines-front : (k : ℕ) (ys zs : List Float) → 2 * k ≤ length ys → entryLines k (ys ++ zs) ≡ entryLines k ys
+unfolding entryLines
+entry-lines-front zero ys zs h = refl
+entry-lines-front (suc k) ys zs h =
+    ap₂ (λ (a : Bytes) (b : Bytes). a ++ b) (entry-lines-front k ys zs (omega arith)) (ap entryLine (entry-append-left ys zs k (omega arith)))
+
+pub text-front : (e : End) (r : KronReducer) (ys zs : List Float) → 2 * (r .«n_buses» * r .«n_buses») ≤ length ys → textOf e r (ys ++ zs) ≡ textOf e r ys
+unfolding textOf keptText
+text-front Kept r ys zs h =
+    ap
+    (λ (b : Bytes). numberLine (ascii "kept ") (r .«n_buses») ++ busLines (r .«n_buses») (r .«active_buses») ++ b)
+    (entry-lines-front (r .«n_buses» * r .«n_buses») ys zs h)
+text-front (RefusedDrop f k) r ys zs h = refl
+text-front (BadLine p) r ys zs h = refl
+
+kept-room : (r : KronReducer) (ys : List Float) → Fit r ys → length (keptText r ys) ≤ outputLength
+unfolding most outputLength
+kept-room r ys f =
+    let n = r .«n_buses» in
+    let few : n ≤ 64 = f .few in
+    let sq : n * n ≤ 64 * 64 = mul-le-mul few few in
+    omega
+    (arith, few, sq, length-kept r ys, length-number-line (ascii "kept ") n, decimal-two n (omega (arith, few)), bus-lines-short (r .«active_buses») n (λ i l. let z : getD (r .«active_buses») i 0 < 64 = f .below i l in omega arith))
+
+text-of-room : (e : End) (r : KronReducer) (ys : List Float) → Fit r ys → length (textOf e r ys) ≤ outputLength
+unfolding textOf outputLength most badText
+text-of-room Kept r ys f = kept-room r ys f
+text-of-room (RefusedDrop x k) r ys f = omega (arith, length-refused x k, decimal-twenty x, decimal-twenty k)
+text-of-room (BadLine p) r ys f = omega (arith, length-number-line (ascii "bad line ") p, decimal-twenty p)
+
+pub text-room : (R : Run) → FitRun R → length (text R) ≤ outputLength
+unfolding text
+text-room R f = text-of-room (R .reading .end) (R .reading .rec) (R .numbers) f

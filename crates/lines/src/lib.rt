@@ -1,0 +1,51 @@
+// The text of the program `reduce`: from the bytes that it reads to the bytes that it writes.
+ghost use mathlib.Core.Path.{_≡_};
+ghost use Rattle.lines.specs.Reduce.{afterReduce};
+use print::print;
+use read::read;
+
+mod clear;
+pub mod print;
+pub mod read;
+mod text;
+mod words;
+
+// The most buses that `reduce` reads, and the lengths that follow from it: of the matrix slice, of the output, and of the
+// longest input that can matter.
+pub const MOST: usize = 64;
+
+pub const MATRIX: usize = 2 * (MOST * MOST);
+
+pub const OUTPUT: usize = 8 + 7 * MOST + 34 * (MOST * MOST);
+
+pub const INPUT: usize = 9 + 34 * (MOST * MOST) + 8 * MOST + 34;
+
+// The refusal of a slice that is not of its exact length.
+const WRONG_LENGTH: u32 = 2;
+
+// How many bytes were written, or refused with its number.
+pub enum Answer {
+    Written(usize),
+    Refused(u32),
+}
+
+// What `reduce` prints for this input, at the output's front, with 0 behind it. The matrix slice is +0 afterwards.
+pub fn reduce(input: &[u8], output: &mut [u8], matrix: &mut [f64]) -> Answer
+    ensures { λ o. ⌜
+        (o ≡ afterReduce (now (input .entry)) (now (output .entry)) (now (matrix .entry)) .answer)
+        × (now (output .exit) ≡ afterReduce (now (input .entry)) (now (output .entry)) (now (matrix .entry)) .output)
+        × (now (matrix .exit) ≡ afterReduce (now (input .entry)) (now (output .entry)) (now (matrix .entry)) .matrix)
+        ⌝ }
+{
+    if output.len() != OUTPUT {
+        return Answer::Refused(WRONG_LENGTH);
+    }
+    if matrix.len() != MATRIX {
+        return Answer::Refused(WRONG_LENGTH);
+    }
+    let reading = read(input, matrix);
+    clear::bytes(output);
+    let n = print(output, reading, matrix);
+    clear::numbers(matrix);
+    Answer::Written(n)
+}

@@ -1,0 +1,173 @@
+// Printing: each function writes one text at an index of the output and answers the next index.
+// They are called where there is room for the text.
+use crate::read::End;
+use crate::read::Reading;
+use crate::words::word_of;
+use complex::Complex;
+use complex::entry::get;
+use kron_core::KronReducer;
+ghost use mathlib.Core.Path.{_≡_};
+ghost use mathlib.Core.List.{_∷_, []};
+ghost use Prim.Native.Nat.{_+_, _*_, _<_, _≤_};
+ghost use lib.ListN.{length};
+ghost use Rattle.lines.specs.Words.{glyph as glyphOf, digits, places as placesOf, decimal, hex};
+ghost use Rattle.lines.specs.Writing.{Room, Wrote, written};
+ghost use Rattle.lines.specs.Printing as spec;
+
+fn glyph(d: u64) -> u8
+    requires { ⌜ d < 16 ⌝ }
+    ensures { λ r. ⌜ r ≡ glyphOf d ⌝ }
+{
+    if d < 10 {
+        return 48 + d as u8;
+    }
+    87 + d as u8
+}
+
+// The last k digits of n in a base up to 16.
+fn spell(out: &mut [u8], at: usize, base: u64, k: usize, n: u64)
+    requires { ⌜ (0 < base) × (base ≤ 16) × (at + k ≤ length (now out)) ⌝ }
+    ensures { λ _. ⌜ now (out .exit) ≡ written (now (out .entry)) at (digits base k n) ⌝ }
+{
+    let mut i = k;
+    let mut rest = n;
+    while i > 0 {
+        i -= 1;
+        out[at + i] = glyph(rest % base);
+        rest = rest / base;
+    }
+}
+
+fn places(n: u64) -> usize
+    ensures { λ r. ⌜ (r ≡ placesOf 20 n) × (r ≤ 20) ⌝ }
+{
+    let mut k = 1;
+    let mut rest = n;
+    while k < 20 {
+        if rest < 10 {
+            return k;
+        }
+        rest = rest / 10;
+        k += 1;
+    }
+    k
+}
+
+fn put_decimal(out: &mut [u8], at: usize, n: u64) -> usize
+    requires { ⌜ Room (now out) at (decimal n) ⌝ }
+    ensures { λ r. ⌜ Wrote (now (out .entry)) at (decimal n) r (now (out .exit)) ⌝ }
+{
+    let k = places(n);
+    spell(out, at, 10, k, n);
+    at + k
+}
+
+fn put_hex(out: &mut [u8], at: usize, n: u64) -> usize
+    requires { ⌜ Room (now out) at (hex n) ⌝ }
+    ensures { λ r. ⌜ Wrote (now (out .entry)) at (hex n) r (now (out .exit)) ⌝ }
+{
+    spell(out, at, 16, 16, n);
+    at + 16
+}
+
+fn put_byte(out: &mut [u8], at: usize, b: u8) -> usize
+    requires { ⌜ Room (now out) at (b ∷ []) ⌝ }
+    ensures { λ r. ⌜ Wrote (now (out .entry)) at (b ∷ []) r (now (out .exit)) ⌝ }
+{
+    out[at] = b;
+    at + 1
+}
+
+fn put(out: &mut [u8], at: usize, text: &[u8]) -> usize
+    requires { ⌜ Room (now out) at (now text) ⌝ }
+    ensures { λ r. ⌜ Wrote (now (out .entry)) at (now (text .entry)) r (now (out .exit)) ⌝ }
+{
+    let mut i = 0;
+    while i < text.len() {
+        out[at + i] = text[i];
+        i += 1;
+    }
+    at + i
+}
+
+// The number between a keyword and a line feed.
+fn put_line(out: &mut [u8], at: usize, key: &[u8], n: u64) -> usize
+    requires { ⌜ Room (now out) at (spec.numberLine (now key) n) ⌝ }
+    ensures { λ r. ⌜ Wrote (now (out .entry)) at (spec.numberLine (now (key .entry)) n) r (now (out .exit)) ⌝ }
+{
+    let a = put(out, at, key);
+    let b = put_decimal(out, a, n);
+    put_byte(out, b, b'\n')
+}
+
+fn put_refused(out: &mut [u8], number: u32, bus: u64) -> usize
+    requires { ⌜ Room (now out) 0 (spec.refusedText number bus) ⌝ }
+    ensures { λ r. ⌜ Wrote (now (out .entry)) 0 (spec.refusedText number bus) r (now (out .exit)) ⌝ }
+{
+    let a = put(out, 0, b"refused ");
+    let b = put_decimal(out, a, number as u64);
+    put_line(out, b, b" ", bus)
+}
+
+fn put_entry(out: &mut [u8], at: usize, c: Complex) -> usize
+    requires { ⌜ Room (now out) at (spec.entryLine c) ⌝ }
+    ensures { λ r. ⌜ Wrote (now (out .entry)) at (spec.entryLine c) r (now (out .exit)) ⌝ }
+{
+    let re = word_of(c.re);
+    let im = word_of(c.im);
+    let a = put_hex(out, at, re);
+    let b = put_byte(out, a, b' ');
+    let d = put_hex(out, b, im);
+    put_byte(out, d, b'\n')
+}
+
+fn put_buses(out: &mut [u8], at: usize, buses: &[usize], n: usize) -> usize
+    requires { ⌜ (n ≤ length (now buses)) × Room (now out) at (spec.busLines n (now buses)) ⌝ }
+    ensures { λ r. ⌜ Wrote (now (out .entry)) at (spec.busLines n (now (buses .entry))) r (now (out .exit)) ⌝ }
+{
+    let mut i = 0;
+    let mut p = at;
+    while i < n {
+        p = put_line(out, p, b"bus ", buses[i] as u64);
+        i += 1;
+    }
+    p
+}
+
+fn put_entries(out: &mut [u8], at: usize, ys: &[f64], n: usize) -> usize
+    requires { ⌜ (2 * n ≤ length (now ys)) × Room (now out) at (spec.entryLines n (now ys)) ⌝ }
+    ensures { λ r. ⌜ Wrote (now (out .entry)) at (spec.entryLines n (now (ys .entry))) r (now (out .exit)) ⌝ }
+{
+    let mut i = 0;
+    let mut p = at;
+    while i < n {
+        p = put_entry(out, p, get(ys, i));
+        i += 1;
+    }
+    p
+}
+
+fn put_kept(out: &mut [u8], rec: KronReducer, ys: &[f64]) -> usize
+    requires { ⌜ spec.Whole rec (now ys) × Room (now out) 0 (spec.keptText rec (now ys)) ⌝ }
+    ensures { λ r. ⌜ Wrote (now (out .entry)) 0 (spec.keptText rec (now (ys .entry))) r (now (out .exit)) ⌝ }
+{
+    let n = rec.n_buses;
+    let buses = rec.active_buses;
+    let a = put_line(out, 0, b"kept ", n as u64);
+    let b = put_buses(out, a, &buses, n);
+    put_entries(out, b, ys, n * n)
+}
+
+// How a run ended, from the start of the output on; ys begins with the run's numbers.
+pub fn print(out: &mut [u8], reading: Reading, ys: &[f64]) -> usize
+    requires { ⌜ spec.Whole (reading .rec) (now ys) × Room (now out) 0 (spec.textOf (reading .end) (reading .rec) (now ys)) ⌝ }
+    ensures { λ r. ⌜ Wrote (now (out .entry)) 0 (spec.textOf (reading .end) (reading .rec) (now (ys .entry))) r (now (out .exit)) ⌝ }
+{
+    let end = reading.end;
+    let rec = reading.rec;
+    match end {
+        End::Kept => put_kept(out, rec, ys),
+        End::RefusedDrop(f, bus) => put_refused(out, f, bus),
+        End::BadLine(p) => put_line(out, 0, b"bad line ", p as u64),
+    }
+}
