@@ -1,0 +1,96 @@
+// The port: slices made before the clock starts; outputs and work slices are not cleared between calls.
+use crate::inputs::Inputs;
+use crate::timing::Work;
+use crate::Task;
+use oracle::call::Call;
+use oracle::functions::reducer::record_words;
+use oracle::functions::ward::Study;
+use oracle::functions::*;
+use oracle::words::{bytes_of, bytes_of_reals, words_of};
+
+// How an export is called, and how many bytes its lengths count by.
+#[derive(Clone, Copy)]
+pub struct Exports {
+    pub name: &'static str,
+    pub unit: usize,
+    pub call: fn(&Call, &[(*mut u8, usize)]) -> u32,
+}
+
+fn study(i: &Inputs) -> Study {
+    Study {
+        n: i.n,
+        y: i.y.clone(),
+        internal: i.internal.clone(),
+        external: i.external.clone(),
+        boundary: i.boundary.clone(),
+        base: 100.0,
+        p: i.p.clone(),
+        q: i.q.clone(),
+        v: i.v.clone(),
+    }
+}
+
+fn call(task: Task, i: &Inputs) -> Call {
+    let n = i.n;
+    let record = || bytes_of(&record_words(n, &(0..n).collect::<Vec<_>>()));
+    let y = || bytes_of_reals(&i.y);
+    match task {
+        Task::Removal => eliminate_bus::of(record(), y(), n / 2),
+        Task::Removals => eliminate_buses::of(record(), y(), &i.half),
+        Task::Solve => solve_linear::of(n, &i.y, &i.right),
+        Task::Inverse => complex_matrix_inverse::of(n, &i.y),
+        Task::Thevenin => thevenin_impedance::of(record(), y(), 0, n - 1),
+        Task::Ward => ward_compute::of(&study(i)),
+        Task::ExtendedWard => ward_compute_extended::of(&study(i)),
+        Task::Rei => rei_compute::of(&i.from[..n / 2], &i.from[n / 2..], &i.y, &i.x, &i.x, n as u64),
+        Task::Retained => retained_buses::of(n, &i.half),
+        Task::BBus => build_b_bus::of(n, &i.from, &i.to, &i.x),
+        Task::Lodf => lodf_matrix::of(n, &i.ptdf, &i.from, &i.to),
+    }
+}
+
+// The slices of one call, aligned as numbers, and where they stand.
+struct Lent {
+    _slices: Vec<Vec<u64>>,
+    at: Vec<(*mut u8, usize)>,
+}
+
+fn lent(call: &Call, unit: usize) -> Lent {
+    let mut slices: Vec<Vec<u64>> = call.slices.iter().map(|bytes| words_of(bytes)).collect();
+    let at = slices
+        .iter_mut()
+        .map(|s| (s.as_mut_ptr().cast(), 8 * s.len() / unit))
+        .collect();
+    Lent { _slices: slices, at }
+}
+
+struct PortWork {
+    call: Call,
+    exports: Exports,
+    // a removal changes its slices, so each call has its own
+    changing: bool,
+    copies: Vec<Lent>,
+}
+
+impl Work for PortWork {
+    fn reset(&mut self, copies: usize) {
+        let wanted = if self.changing { copies } else { 1 };
+        if self.changing || self.copies.is_empty() {
+            self.copies = (0..wanted).map(|_| lent(&self.call, self.exports.unit)).collect();
+        }
+    }
+    fn run(&mut self, copy: usize) {
+        let at = &self.copies[if self.changing { copy } else { 0 }].at;
+        assert_eq!((self.exports.call)(&self.call, at), 0);
+    }
+}
+
+pub fn side(task: Task, i: &Inputs, exports: Exports) -> Box<dyn Work> {
+    let changing = matches!(task, Task::Removal | Task::Removals);
+    Box::new(PortWork {
+        call: call(task, i),
+        exports,
+        changing,
+        copies: Vec::new(),
+    })
+}

@@ -1,0 +1,90 @@
+// Rounds of calls on fresh copies; sides take turns, and the ratio of each round counts.
+// Time is the processor time of the thread, so that other programs on the machine count less.
+
+#[repr(C)]
+struct Timespec {
+    seconds: i64,
+    nanoseconds: i64,
+}
+
+const THREAD_TIME: i32 = 3;
+
+extern "C" {
+    fn clock_gettime(clock: i32, time: *mut Timespec) -> i32;
+}
+
+fn now() -> f64 {
+    let mut time = Timespec {
+        seconds: 0,
+        nanoseconds: 0,
+    };
+    assert_eq!(unsafe { clock_gettime(THREAD_TIME, &mut time) }, 0);
+    time.seconds as f64 + 1e-9 * time.nanoseconds as f64
+}
+
+pub trait Work {
+    fn reset(&mut self, copies: usize);
+    fn run(&mut self, copy: usize);
+}
+
+struct Fresh<S, F> {
+    start: S,
+    copies: Vec<S>,
+    run: F,
+}
+
+impl<S: Clone, F: FnMut(&mut S)> Work for Fresh<S, F> {
+    fn reset(&mut self, copies: usize) {
+        self.copies = vec![self.start.clone(); copies];
+    }
+    fn run(&mut self, copy: usize) {
+        (self.run)(&mut self.copies[copy]);
+    }
+}
+
+// a call that may change what it is given: every call of a round has a copy of its own
+pub fn work<S: Clone + 'static>(start: S, run: impl FnMut(&mut S) + 'static) -> Box<dyn Work> {
+    Box::new(Fresh {
+        start,
+        copies: Vec::new(),
+        run,
+    })
+}
+
+const ROUNDS: usize = 41;
+const ROUND_SECONDS: f64 = 0.002;
+const MOST: usize = 2000;
+
+// seconds of one call, over a round of so many
+fn round(side: &mut dyn Work, calls: usize) -> f64 {
+    side.reset(calls);
+    let start = now();
+    for i in 0..calls {
+        side.run(i);
+    }
+    (now() - start) / calls as f64
+}
+
+fn median(mut xs: Vec<f64>) -> f64 {
+    xs.sort_by(f64::total_cmp);
+    xs[xs.len() / 2]
+}
+
+// The Rust's median time, and for each other side its median time and the median of the rounds' ratios.
+pub fn timed(rust: &mut dyn Work, others: &mut [Box<dyn Work>]) -> (f64, Vec<(f64, f64)>) {
+    round(rust, 2);
+    let calls = ((ROUND_SECONDS / round(rust, 8)) as usize).clamp(2, MOST);
+    let mut times = vec![Vec::new(); 1 + others.len()];
+    for _ in 0..ROUNDS {
+        times[0].push(round(rust, calls));
+        for (i, side) in others.iter_mut().enumerate() {
+            times[i + 1].push(round(side.as_mut(), calls));
+        }
+    }
+    let of_rust = times[0].clone();
+    let ratios = |ts: &Vec<f64>| median(ts.iter().zip(&of_rust).map(|(t, r)| t / r).collect());
+    (
+        median(of_rust.clone()),
+        times[1..].iter().map(|ts| (median(ts.clone()), ratios(ts))).collect(),
+    )
+}

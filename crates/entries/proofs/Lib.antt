@@ -1,0 +1,3 @@
+pub mod BytesLaws
+pub mod SlicesLaws
+pub mod OutcomesLaws

@@ -1,0 +1,4 @@
+pub mod Bytes
+pub mod Dc
+pub mod Slices
+pub mod Scalars

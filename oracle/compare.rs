@@ -1,0 +1,65 @@
+// Compares the port with the Rust: compare [SEED [CASES [ROOTS]]], CASES random calls of each entry.
+use oracle::call::Function;
+use oracle::functions::{scalars, sound, SCALARS, STUDIES};
+use oracle::port::Port;
+use oracle::source::Source;
+use oracle::spoil::spoil;
+use oracle::tally::Tally;
+use oracle::{ask, matrices, roots, small};
+
+#[cfg(port_linked)]
+#[macro_use]
+mod entries;
+#[cfg(port_linked)]
+mod linked;
+
+#[cfg(port_linked)]
+fn port() -> Option<Box<dyn Port>> {
+    Some(Box::new(linked::Linked))
+}
+
+#[cfg(not(port_linked))]
+fn port() -> Option<Box<dyn Port>> {
+    None
+}
+
+fn number(at: usize, default: usize) -> usize {
+    std::env::args()
+        .nth(at)
+        .map_or(default, |word| word.parse().expect("a number"))
+}
+
+fn main() {
+    ask::quietly();
+    let (seed, cases, tested_roots) = (number(1, 1), number(2, 20_000), number(3, 1_000_000));
+    let port = port();
+    let port = port.as_deref();
+    let mut tally = Tally::default();
+    let mut s = Source::new(seed as u64);
+
+    small::every(&mut |call| tally.run(&call, port));
+    roots::each(&mut s, tested_roots, &mut |x| {
+        tally.run(&scalars::of(Function::Sqrt, vec![x]), port)
+    });
+    for function in SCALARS.into_iter().chain(STUDIES) {
+        for n in 0..=66 {
+            tally.run(&sound(function, &mut s, n), port);
+        }
+        for _ in 0..cases {
+            let n = matrices::size(&mut s);
+            let mut call = sound(function, &mut s, n);
+            if s.one_in(4) {
+                spoil(&mut s, &mut call);
+            }
+            tally.run(&call, port);
+        }
+    }
+
+    tally.print();
+    let (total, failed) = (tally.total(), tally.failures());
+    match port {
+        Some(_) => println!("oracle: seed {seed}, {total} calls compared with the Rust, {failed} differ"),
+        None => println!("oracle: seed {seed}, {total} answers of the Rust, {failed} not as listed, no port linked"),
+    }
+    std::process::exit(if failed == 0 { 0 } else { 1 });
+}

@@ -1,0 +1,74 @@
+// One call of an entry: the numbers and the slices that it is handed, in the order of include/jeturipe.h.
+
+#[derive(Clone, Copy, Debug, PartialEq, Eq, PartialOrd, Ord)]
+pub enum Function {
+    Cadd,
+    Csub,
+    Cneg,
+    Cmul,
+    Cdiv,
+    ComplexInv,
+    Abs,
+    Sqrt,
+    Magnitude,
+    SolveLinear,
+    ComplexMatrixInverse,
+    KronNew,
+    EliminateBus,
+    EliminateBuses,
+    ReducedMatrix,
+    TheveninImpedance,
+    WardCompute,
+    WardComputeExtended,
+    ReiCompute,
+    RetainedBuses,
+    BuildBBus,
+    LodfMatrix,
+}
+
+#[derive(Clone, Debug)]
+pub struct Call {
+    pub function: Function,
+    pub wholes: Vec<u64>,
+    pub reals: Vec<f64>,
+    pub slices: Vec<Vec<u8>>,
+}
+
+impl Call {
+    // numbers of 8 bytes in slice i, the last one perhaps cut
+    pub fn count(&self, i: usize) -> usize {
+        self.slices[i].len() / 8
+    }
+
+    // slice i holds exactly so many numbers
+    pub fn holds(&self, i: usize, count: u128) -> bool {
+        self.slices[i].len() as u128 == 8 * count
+    }
+
+    // some slice ends within a number
+    pub fn cut(&self) -> bool {
+        self.slices.iter().any(|s| s.len() % 8 != 0)
+    }
+
+    pub fn size(&self) -> usize {
+        self.wholes[0] as usize
+    }
+}
+
+// what an output or work slice holds before the call: bytes that no call would write
+pub fn dirty(count: usize) -> Vec<u8> {
+    (0..8 * count).map(|i| 0xa5 ^ (i % 251) as u8).collect()
+}
+
+// A call as a line for a report.
+pub fn shown(call: &Call) -> String {
+    let mut line = format!("{:?} numbers {:?} {:?}", call.function, call.wholes, call.reals);
+    for (i, slice) in call.slices.iter().enumerate() {
+        line += &format!("\n    slice {i}, {} bytes:", slice.len());
+        for part in slice.chunks(8).take(24) {
+            let digits: String = part.iter().rev().map(|b| format!("{b:02x}")).collect();
+            line += &format!(" {digits}");
+        }
+    }
+    line
+}

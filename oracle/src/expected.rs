@@ -1,0 +1,122 @@
+// What a call must answer, and what every slice must hold after it.
+use crate::ask::{Asked, Manner};
+use crate::call::{Call, Function};
+use crate::differences::{judged, state_number, Difference, Told};
+use crate::words::{words_of, NAN};
+
+#[derive(Clone, Debug, PartialEq)]
+pub enum After {
+    // the same bytes
+    Held,
+    // the same numbers, a NaN perhaps written anew
+    Alike,
+    Zero,
+    Words(Vec<u64>),
+}
+
+pub struct Expected {
+    pub number: u32,
+    pub after: Vec<After>,
+    pub told: Told,
+}
+
+impl Expected {
+    fn held(call: &Call, number: u32, told: Told) -> Self {
+        Expected {
+            number,
+            after: vec![After::Held; call.slices.len()],
+            told,
+        }
+    }
+
+    fn wrong(call: &Call, why: String) -> Self {
+        Self::held(call, 0, Told::Wrong(why))
+    }
+
+    pub fn with(mut self, slice: usize, after: After) -> Self {
+        self.after[slice] = after;
+        self
+    }
+
+    pub fn words(self, slice: usize, words: Vec<u64>) -> Self {
+        self.with(slice, After::Words(words))
+    }
+
+    pub fn noting(mut self, difference: Difference) -> Self {
+        self.told = Told::Differs(difference, Manner::Accepts);
+        self
+    }
+
+    pub fn failing(mut self, why: &str) -> Self {
+        self.told = Told::Wrong(why.to_string());
+        self
+    }
+}
+
+// Refused by the input if a fault applies; else as the Rust says, with what is written where it accepts.
+// `work` is the slice that 13 leaves all +0.
+pub fn expected<T>(
+    call: &Call,
+    faults: &[u32],
+    asked: Asked<T>,
+    work: Option<usize>,
+    written: impl FnOnce(Expected, T) -> Expected,
+) -> Expected {
+    if !faults.is_empty() {
+        return Expected::held(call, faults[0], judged(call.function, faults, asked.manner()));
+    }
+    match asked {
+        Asked::Accepts(answer) => {
+            let done = written(Expected::held(call, 0, Told::ByReference), answer);
+            match work {
+                Some(w) => done.with(w, After::Zero),
+                None => done,
+            }
+        }
+        Asked::Errs(kind) => match (state_number(call.function, kind), work) {
+            (Some(13), Some(w)) => Expected::held(call, 13, Told::ByReference).with(w, After::Zero),
+            (Some(number), _) if may_refuse(call.function, number) => Expected::held(call, number, Told::ByReference),
+            _ => Expected::wrong(call, format!("no fault, and the Rust errs with {kind:?}")),
+        },
+        Asked::Panics => Expected::wrong(call, "no fault, and the Rust panics".to_string()),
+        Asked::NotAsked => Expected::wrong(call, "no fault, and the Rust was not asked".to_string()),
+    }
+}
+
+fn may_refuse(function: Function, number: u32) -> bool {
+    use Function::*;
+    match number {
+        11 => matches!(function, EliminateBus | EliminateBuses | TheveninImpedance),
+        12 => matches!(function, EliminateBus | EliminateBuses),
+        13 => matches!(
+            function,
+            SolveLinear | ComplexMatrixInverse | TheveninImpedance | WardCompute | WardComputeExtended
+        ),
+        _ => false,
+    }
+}
+
+// Whether a slice that held `before` holds what it must.
+pub fn met(after: &After, before: &[u8], got: &[u8]) -> bool {
+    match after {
+        After::Held => got == before,
+        After::Zero => got.iter().all(|&b| b == 0),
+        After::Words(words) => words_of(got) == *words && got.len() == 8 * words.len(),
+        After::Alike => {
+            let (a, b) = (words_of(before), words_of(got));
+            a.len() == b.len() && a.iter().zip(&b).all(|(&x, &y)| x == y || (nan(x) && y == NAN))
+        }
+    }
+}
+
+fn nan(word: u64) -> bool {
+    f64::from_bits(word).is_nan()
+}
+
+// The refusals of a list of (number, whether it applies), lowest first.
+pub fn faults(of: &[(u32, bool)]) -> Vec<u32> {
+    let mut numbers: Vec<u32> = of.iter().filter(|f| f.1).map(|f| f.0).collect();
+    numbers.sort();
+    numbers.dedup();
+    numbers
+}

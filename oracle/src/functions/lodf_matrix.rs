@@ -1,0 +1,73 @@
+// lodf_matrix(n, ptdf, branch_from, branch_to, lodf)
+use super::{ASKED, LIMIT};
+use crate::ask::{ask, Asked, Manner};
+use crate::call::{dirty, Call, Function};
+use crate::expected::{self, faults, Expected};
+use crate::numbers::{kind, reals, Kind};
+use crate::source::Source;
+use crate::words::{bytes_of, bytes_of_reals, real_rows_of, wholes_of, words_of_reals, words_of_wholes};
+use reference::reduction;
+
+const PTDF: usize = 0;
+const FROM: usize = 1;
+const TO: usize = 2;
+const LODF: usize = 3;
+
+pub fn of(n: usize, ptdf: &[f64], from: &[usize], to: &[usize]) -> Call {
+    let list = |xs: &[usize]| bytes_of(&words_of_wholes(xs));
+    let m = from.len();
+    Call {
+        function: Function::LodfMatrix,
+        wholes: vec![n as u64],
+        reals: Vec::new(),
+        slices: vec![bytes_of_reals(ptdf), list(from), list(to), dirty(m * m)],
+    }
+}
+
+pub fn expected(call: &Call) -> Expected {
+    let n = call.size();
+    let m = call.count(FROM);
+    let (from, to) = (wholes_of(&call.slices[FROM]), wholes_of(&call.slices[TO]));
+    let wide = m as u128;
+    let outside = |bus: &usize| *bus >= n;
+    let missing = from.iter().any(outside) || to.iter().any(outside);
+    let refusals = faults(&[
+        (1, n > LIMIT || m > LIMIT || call.count(TO) > LIMIT),
+        (
+            2,
+            !call.holds(PTDF, wide * n as u128) || !call.holds(LODF, wide * wide) || call.cut(),
+        ),
+        (3, call.count(TO) != m),
+        (6, missing),
+    ]);
+    let too_large = n > ASKED || m > ASKED;
+    let asked = if too_large {
+        Asked::NotAsked
+    } else {
+        ask(|| {
+            Ok(reduction::lodf_matrix(
+                &real_rows_of(&call.slices[PTDF], m, n),
+                &from,
+                &to,
+            ))
+        })
+    };
+    let manner = asked.manner();
+    let e = expected::expected(call, &refusals, asked, None, |e, l| {
+        e.words(LODF, words_of_reals(&l.concat()))
+    });
+    // the ends of a branch are looked up only where there is another branch
+    if refusals == [6] && (manner == Manner::Panics) != (m > 1) {
+        return e.failing("a missing branch end, and the Rust does not do what is listed");
+    }
+    e
+}
+
+pub fn random(s: &mut Source, n: usize) -> Call {
+    let m = if n == 0 { 0 } else { s.below((n + 3).min(LIMIT) + 1) };
+    let ends = |s: &mut Source| (0..m).map(|_| s.below(n)).collect::<Vec<_>>();
+    let (from, to) = (ends(s), ends(s));
+    let kind = if s.one_in(3) { Kind::Unit } else { kind(s) };
+    let ptdf = reals(s, kind, m * n);
+    of(n, &ptdf, &from, &to)
+}

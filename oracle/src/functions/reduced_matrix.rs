@@ -1,0 +1,35 @@
+// reduced_matrix(rec, y, out)
+use super::reducer;
+use crate::ask::{ask, Asked};
+use crate::call::{dirty, Call, Function};
+use crate::expected::{self, faults, Expected};
+use crate::source::Source;
+use crate::words::{padded, words_of_rows};
+
+const OUT: usize = 2;
+
+pub fn of(rec: Vec<u8>, y: Vec<u8>) -> Call {
+    let out = dirty(y.len() / 8);
+    Call {
+        function: Function::ReducedMatrix,
+        wholes: Vec::new(),
+        reals: Vec::new(),
+        slices: vec![rec, y, out],
+    }
+}
+
+pub fn expected(call: &Call) -> Expected {
+    let refusals = faults(&reducer::refusals(call, false, |square| call.holds(OUT, square)));
+    let asked = match reducer::reducer(call) {
+        None => Asked::NotAsked,
+        Some(r) => ask(|| Ok(r.reduced_matrix())),
+    };
+    expected::expected(call, &refusals, asked, None, |e, rows| {
+        e.words(OUT, padded(words_of_rows(&rows), call.count(OUT)))
+    })
+}
+
+pub fn random(s: &mut Source, made: usize) -> Call {
+    let (rec, y, _) = reducer::random(s, made);
+    of(rec, y)
+}

@@ -1,0 +1,64 @@
+// solve_linear(n, a, b, x, work)
+use super::{ASKED, LIMIT};
+use crate::ask::{ask, Asked};
+use crate::call::{dirty, Call, Function};
+use crate::expected::{self, faults, Expected};
+use crate::matrices::matrix;
+use crate::numbers::{kind, reals};
+use crate::source::Source;
+use crate::words::{bytes_of_reals, pairs_of, rows_of, words_of_pairs};
+use reference::reduction::WardEquivalent;
+
+const A: usize = 0;
+const B: usize = 1;
+const X: usize = 2;
+const WORK: usize = 3;
+
+pub fn of(n: usize, a: &[f64], b: &[f64]) -> Call {
+    Call {
+        function: Function::SolveLinear,
+        wholes: vec![n as u64],
+        reals: Vec::new(),
+        slices: vec![
+            bytes_of_reals(a),
+            bytes_of_reals(b),
+            dirty(2 * n),
+            dirty(2 * n * (n + 1)),
+        ],
+    }
+}
+
+pub fn expected(call: &Call) -> Expected {
+    let n = call.size();
+    let wide = n as u128;
+    let lengths = call.holds(A, 2 * wide * wide) && call.holds(X, 2 * wide) && call.holds(WORK, 2 * wide * (wide + 1));
+    let refusals = faults(&[
+        (1, n > LIMIT),
+        (2, !lengths || call.cut()),
+        (5, n == 0 || call.count(B) as u128 != 2 * wide),
+    ]);
+    let asked = if n > ASKED {
+        Asked::NotAsked
+    } else {
+        ask(|| WardEquivalent::solve_linear(&rows_of(&call.slices[A], n, n), &right_side(call)))
+    };
+    expected::expected(call, &refusals, asked, Some(WORK), |e, x| {
+        e.words(X, words_of_pairs(&x))
+    })
+}
+
+// half a complex number too many is one too many, half a one missing is one missing
+fn right_side(call: &Call) -> Vec<(f64, f64)> {
+    let mut b = pairs_of(&call.slices[B]);
+    if call.count(B) % 2 == 1 && b.len() >= call.size() {
+        b.push((0.0, 0.0));
+    }
+    b
+}
+
+pub fn random(s: &mut Source, n: usize) -> Call {
+    let a = matrix(s, n);
+    let kind = kind(s);
+    let b = reals(s, kind, 2 * n);
+    of(n, &a, &b)
+}

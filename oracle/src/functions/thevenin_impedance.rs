@@ -1,0 +1,39 @@
+// thevenin_impedance(rec, y, bus_i, bus_j, work, z)
+use super::reducer;
+use crate::ask::{ask, Asked};
+use crate::call::{dirty, Call, Function};
+use crate::expected::{self, faults, Expected};
+use crate::source::Source;
+use crate::words::words_of_pairs;
+
+const WORK: usize = 2;
+const Z: usize = 3;
+
+pub fn of(rec: Vec<u8>, y: Vec<u8>, bus_i: usize, bus_j: usize) -> Call {
+    let work = dirty(2 * (y.len() / 8));
+    Call {
+        function: Function::TheveninImpedance,
+        wholes: vec![bus_i as u64, bus_j as u64],
+        reals: Vec::new(),
+        slices: vec![rec, y, work, dirty(2)],
+    }
+}
+
+pub fn expected(call: &Call) -> Expected {
+    let refusals = faults(&reducer::refusals(call, false, |square| {
+        call.holds(WORK, 2 * square) && call.holds(Z, 2)
+    }));
+    let asked = match reducer::reducer(call) {
+        None => Asked::NotAsked,
+        Some(r) => ask(|| r.thevenin_impedance(call.wholes[0] as usize, call.wholes[1] as usize)),
+    };
+    expected::expected(call, &refusals, asked, Some(WORK), |e, z| {
+        e.words(Z, words_of_pairs(&[z]))
+    })
+}
+
+pub fn random(s: &mut Source, made: usize) -> Call {
+    let (rec, y, active) = reducer::random(s, made);
+    let (i, j) = (reducer::bus(s, made, &active), reducer::bus(s, made, &active));
+    of(rec, y, i, j)
+}

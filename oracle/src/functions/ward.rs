@@ -1,0 +1,145 @@
+// What both Ward calls share: the study's lists, its refusals, and the Rust's answer in the entry's order.
+use super::{ASKED, LIMIT};
+use crate::call::Call;
+use crate::matrices::matrix;
+use crate::numbers::{kind, real, reals, Kind};
+use crate::source::Source;
+use crate::words::{bytes_of, bytes_of_reals, rows_of, wholes_of, word, words_of_wholes};
+use reference::reduction::{WardEquivalent, WardEquivalentConfig, WardEquivalentResult};
+
+pub const Y: usize = 0;
+pub const INTERNAL: usize = 1;
+pub const EXTERNAL: usize = 2;
+pub const BOUNDARY: usize = 3;
+pub const P_EXT: usize = 4;
+pub const Q_EXT: usize = 5;
+
+pub struct Study {
+    pub n: usize,
+    pub y: Vec<f64>,
+    pub internal: Vec<usize>,
+    pub external: Vec<usize>,
+    pub boundary: Vec<usize>,
+    pub base: f64,
+    pub p: Vec<f64>,
+    pub q: Vec<f64>,
+    pub v: Vec<f64>,
+}
+
+impl Study {
+    pub fn retained(&self) -> usize {
+        self.internal.len() + self.boundary.len()
+    }
+
+    pub fn work(&self) -> usize {
+        let e = self.external.len();
+        2 * e * (e + self.retained() + 1)
+    }
+
+    // matrix, lists and injections, as both calls take them
+    pub fn given(&self) -> Vec<Vec<u8>> {
+        let list = |xs: &[usize]| bytes_of(&words_of_wholes(xs));
+        vec![
+            bytes_of_reals(&self.y),
+            list(&self.internal),
+            list(&self.external),
+            list(&self.boundary),
+            bytes_of_reals(&self.p),
+            bytes_of_reals(&self.q),
+        ]
+    }
+}
+
+// the outputs that follow the given slices
+pub struct Places {
+    pub y_ward: usize,
+    pub p_ward: usize,
+    pub q_ward: usize,
+    pub work: usize,
+    pub summary: usize,
+}
+
+// 1 2 3 7 8, without what the extended call adds
+pub fn refusals(call: &Call, at: &Places) -> Vec<(u32, bool)> {
+    let n = call.size();
+    let (e, b) = (call.count(EXTERNAL) as u128, call.count(BOUNDARY) as u128);
+    let r = call.count(INTERNAL) as u128 + b;
+    let lengths = call.holds(Y, 2 * n as u128 * n as u128)
+        && call.holds(at.y_ward, 2 * r * r)
+        && call.holds(at.p_ward, b)
+        && call.holds(at.q_ward, b)
+        && call.holds(at.work, 2 * e * (e + r + 1))
+        && call.holds(at.summary, 3);
+    let mut buses: Vec<usize> = (INTERNAL..=BOUNDARY).flat_map(|i| wholes_of(&call.slices[i])).collect();
+    let missing = buses.iter().any(|&bus| bus >= n);
+    buses.sort();
+    let twice = buses.windows(2).any(|w| w[0] == w[1]);
+    let unmatched = call.count(P_EXT) as u128 != e || call.count(Q_EXT) as u128 != e;
+    let long = (INTERNAL..=Q_EXT).any(|i| call.count(i) > LIMIT);
+    vec![
+        (1, n > LIMIT || long),
+        (2, !lengths || call.cut()),
+        (3, unmatched),
+        (7, missing),
+        (8, twice),
+    ]
+}
+
+// the Rust's study; none where it is too large to ask
+pub fn study(call: &Call, include_load_transfer: bool) -> Option<WardEquivalent> {
+    let n = call.size();
+    if n > ASKED {
+        return None;
+    }
+    let list = |i: usize| wholes_of(&call.slices[i]);
+    let config = WardEquivalentConfig {
+        internal_buses: list(INTERNAL),
+        external_buses: list(EXTERNAL),
+        boundary_buses: list(BOUNDARY),
+        include_load_transfer,
+        base_mva: call.reals[0],
+    };
+    Some(WardEquivalent::new(n, rows_of(&call.slices[Y], n, n), config))
+}
+
+// original size, equivalent size, ratio
+pub fn summary(w: &WardEquivalentResult) -> Vec<u64> {
+    vec![
+        w.n_buses_reduced as u64,
+        w.n_buses_equivalent as u64,
+        word(w.reduction_ratio),
+    ]
+}
+
+// Buses dealt to the three lists, a few to none.
+pub fn random(s: &mut Source, n: usize) -> Study {
+    let mut lists = [Vec::new(), Vec::new(), Vec::new()];
+    let spare = s.one_in(4);
+    let none_external = s.one_in(10);
+    for bus in s.shuffled(n) {
+        let list = s.below(if spare { 4 } else { 3 });
+        if list < 3 && !(list == 1 && none_external) {
+            lists[list].push(bus);
+        }
+    }
+    let [internal, external, boundary] = lists;
+    let e = external.len();
+    let kind = kind(s);
+    let base = if s.one_in(3) { real(s, kind) } else { 100.0 };
+    let v = if s.one_in(3) {
+        reals(s, kind, e)
+    } else {
+        reals(s, Kind::Unit, e).iter().map(|x| 1.0 + x / 8.0).collect()
+    };
+    Study {
+        n,
+        y: matrix(s, n),
+        internal,
+        external,
+        boundary,
+        base,
+        p: reals(s, kind, e),
+        q: reals(s, kind, e),
+        v,
+    }
+}

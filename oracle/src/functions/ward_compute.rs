@@ -1,0 +1,65 @@
+// ward_compute(n, y, internal, external, boundary, base_mva, p_ext, q_ext, y_ward, p_ward, q_ward, work, summary)
+use super::ward::{self, Places, Study};
+use crate::ask::{ask, Asked};
+use crate::call::{dirty, Call, Function};
+use crate::differences::Difference;
+use crate::expected::{self, faults, Expected};
+use crate::source::Source;
+use crate::words::{words_of_reals, words_of_rows};
+use reference::reduction::WardEquivalentResult;
+
+pub const AT: Places = Places {
+    y_ward: 6,
+    p_ward: 7,
+    q_ward: 8,
+    work: 9,
+    summary: 10,
+};
+
+pub fn of(s: &Study) -> Call {
+    let (r, b) = (s.retained(), s.boundary.len());
+    let mut slices = s.given();
+    slices.extend([2 * r * r, b, b, s.work(), 3].map(dirty));
+    Call {
+        function: Function::WardCompute,
+        wholes: vec![s.n as u64],
+        reals: vec![s.base],
+        slices,
+    }
+}
+
+fn asked(call: &Call, include_load_transfer: bool) -> Asked<WardEquivalentResult> {
+    let list = |i: usize| crate::words::reals_of(&call.slices[i]);
+    match ward::study(call, include_load_transfer) {
+        None => Asked::NotAsked,
+        Some(w) => ask(|| w.compute(&list(ward::P_EXT), &list(ward::Q_EXT))),
+    }
+}
+
+fn written(e: Expected, w: &WardEquivalentResult) -> Expected {
+    e.words(AT.y_ward, words_of_rows(&w.y_ward))
+        .words(AT.p_ward, words_of_reals(&w.p_ward_injections))
+        .words(AT.q_ward, words_of_reals(&w.q_ward_injections))
+        .words(AT.summary, ward::summary(w))
+}
+
+pub fn expected(call: &Call) -> Expected {
+    let refusals = faults(&ward::refusals(call, &AT));
+    let e = expected::expected(call, &refusals, asked(call, true), Some(AT.work), |e, w| written(e, &w));
+    if e.number != 0 || call.size() > 8 {
+        return e;
+    }
+    // the Rust's unread field, the other way
+    let again = expected::expected(call, &refusals, asked(call, false), Some(AT.work), |e, w| {
+        written(e, &w)
+    });
+    if again.number == e.number && again.after == e.after {
+        e.noting(Difference::LoadTransfer)
+    } else {
+        e.failing("include_load_transfer changes the Rust's answer")
+    }
+}
+
+pub fn random(s: &mut Source, n: usize) -> Call {
+    of(&ward::random(s, n))
+}

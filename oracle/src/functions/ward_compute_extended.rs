@@ -1,0 +1,58 @@
+// ward_compute_extended(n, y, internal, external, boundary, base_mva, p_ext, q_ext, v_ext,
+//     y_ward, p_ward, q_ward, voltage_correction, q_compensation, work, summary)
+use super::ward::{self, Places, Study};
+use super::LIMIT;
+use crate::ask::{ask, Asked};
+use crate::call::{dirty, Call, Function};
+use crate::expected::{self, faults, Expected};
+use crate::source::Source;
+use crate::words::{bytes_of_reals, reals_of, words_of_reals, words_of_rows};
+
+const V_EXT: usize = 6;
+const CORRECTION: usize = 10;
+const COMPENSATION: usize = 11;
+pub const AT: Places = Places {
+    y_ward: 7,
+    p_ward: 8,
+    q_ward: 9,
+    work: 12,
+    summary: 13,
+};
+
+pub fn of(s: &Study) -> Call {
+    let (r, b) = (s.retained(), s.boundary.len());
+    let mut slices = s.given();
+    slices.push(bytes_of_reals(&s.v));
+    slices.extend([2 * r * r, b, b, b, b, s.work(), 3].map(dirty));
+    Call {
+        function: Function::WardComputeExtended,
+        wholes: vec![s.n as u64],
+        reals: vec![s.base],
+        slices,
+    }
+}
+
+pub fn expected(call: &Call) -> Expected {
+    let b = call.count(ward::BOUNDARY) as u128;
+    let mut all = ward::refusals(call, &AT);
+    all.push((1, call.count(V_EXT) > LIMIT));
+    all.push((2, !call.holds(CORRECTION, b) || !call.holds(COMPENSATION, b)));
+    all.push((3, call.count(V_EXT) != call.count(ward::EXTERNAL)));
+    let list = |i: usize| reals_of(&call.slices[i]);
+    let asked = match ward::study(call, true) {
+        None => Asked::NotAsked,
+        Some(w) => ask(|| w.compute_extended(&list(ward::P_EXT), &list(ward::Q_EXT), &list(V_EXT))),
+    };
+    expected::expected(call, &faults(&all), asked, Some(AT.work), |e, x| {
+        e.words(AT.y_ward, words_of_rows(&x.ward_result.y_ward))
+            .words(AT.p_ward, words_of_reals(&x.ward_result.p_ward_injections))
+            .words(AT.q_ward, words_of_reals(&x.ward_result.q_ward_injections))
+            .words(AT.summary, ward::summary(&x.ward_result))
+            .words(CORRECTION, words_of_reals(&x.voltage_correction))
+            .words(COMPENSATION, words_of_reals(&x.q_compensation_mvar))
+    })
+}
+
+pub fn random(s: &mut Source, n: usize) -> Call {
+    of(&ward::random(s, n))
+}

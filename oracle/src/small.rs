@@ -1,0 +1,93 @@
+// Every small case: one and two buses with entries from short lists, and short lists of branches.
+use crate::call::{Call, Function};
+use crate::functions::*;
+use crate::functions::{reducer::record_words, ward::Study};
+use crate::numbers::SPECIALS;
+use crate::words::{bytes_of, bytes_of_reals};
+
+// all lists of `count` numbers out of `from`
+fn each(from: &[f64], count: usize, visit: &mut dyn FnMut(&[f64])) {
+    let mut at = vec![0; count];
+    loop {
+        let xs: Vec<f64> = at.iter().map(|&i| from[i]).collect();
+        visit(&xs);
+        let Some(i) = (0..count).rev().find(|&i| at[i] + 1 < from.len()) else {
+            return;
+        };
+        at[i] += 1;
+        at[i + 1..].fill(0);
+    }
+}
+
+// every call of a matrix of one or two buses
+fn on_matrix(n: usize, y: &[f64], visit: &mut dyn FnMut(Call)) {
+    let record = || bytes_of(&record_words(n, &(0..n).collect::<Vec<_>>()));
+    let slice = || bytes_of_reals(y);
+    let right: Vec<f64> = (0..2 * n).map(|i| 2.0 - i as f64).collect();
+    visit(solve_linear::of(n, y, &right));
+    visit(complex_matrix_inverse::of(n, y));
+    visit(eliminate_bus::of(record(), slice(), n - 1));
+    visit(eliminate_buses::of(record(), slice(), &[0, n - 1]));
+    visit(thevenin_impedance::of(record(), slice(), 0, n - 1));
+    let (external, boundary) = if n == 1 { (vec![0], vec![]) } else { (vec![1], vec![0]) };
+    let study = Study {
+        n,
+        y: y.to_vec(),
+        internal: vec![],
+        external,
+        boundary,
+        base: 100.0,
+        p: vec![50.0],
+        q: vec![-25.0],
+        v: vec![1.25],
+    };
+    visit(ward_compute::of(&study));
+    visit(ward_compute_extended::of(&study));
+    visit(rei_compute::of(
+        &[7],
+        &[3][..n - 1],
+        y,
+        &vec![-0.0; n],
+        &vec![1.0; n],
+        9,
+    ));
+}
+
+fn branches(visit: &mut dyn FnMut(Call)) {
+    let reactances = [0.1, -0.0, 1e-12, 9.999999999999999e-13, f64::NAN, f64::INFINITY];
+    for ends in 0..81 {
+        let e = [ends % 3, ends / 3 % 3, ends / 9 % 3, ends / 27];
+        each(&reactances, 2, &mut |x| visit(build_b_bus::of(2, &e[..2], &e[2..], x)));
+        each(&[0.0, 1.0, 0.5, f64::NAN], 4, &mut |t| {
+            visit(lodf_matrix::of(2, t, &e[..2], &e[2..]))
+        });
+    }
+    for n in 0..5 {
+        for list in 0..216 {
+            for count in 0..4 {
+                visit(retained_buses::of(n, &[list % 6, list / 6 % 6, list / 36][..count]));
+            }
+        }
+    }
+}
+
+pub fn every(visit: &mut dyn FnMut(Call)) {
+    each(&SPECIALS, 2, &mut |y| {
+        on_matrix(1, y, visit);
+        for function in SCALARS {
+            let (a, b) = (y[0], y[1]);
+            visit(scalars::of(function, vec![a, b, b, a]));
+            visit(scalars::of(function, vec![1.0, a, a, b]));
+        }
+    });
+    each(&[-1.0, 0.0, 1.0], 8, &mut |y| on_matrix(2, y, visit));
+    let edges = [0.0, -0.0, 1.0, -2.0, f64::NAN, f64::INFINITY, 1e-150, 9.99e-151];
+    each(&edges, 4, &mut |y| {
+        on_matrix(2, &[y[0], 0.0, y[1], -0.0, y[2], 0.0, y[3], 0.0], visit)
+    });
+    branches(visit);
+}
+
+pub fn is_scalar(function: Function) -> bool {
+    SCALARS.contains(&function)
+}

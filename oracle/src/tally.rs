@@ -1,0 +1,99 @@
+// Counts of a run, by entry, by number and by difference, and the first calls that fail.
+use crate::ask::Manner;
+use crate::call::{shown, Call, Function};
+use crate::differences::{Difference, Told};
+use crate::expected::{met, Expected};
+use crate::functions::expected;
+use crate::port::{Lent, Port};
+use std::collections::BTreeMap;
+
+#[derive(Default)]
+pub struct Tally {
+    pub calls: BTreeMap<Function, usize>,
+    pub answers: BTreeMap<(Function, u32), usize>,
+    pub differences: BTreeMap<(Difference, Manner), usize>,
+    pub failed: BTreeMap<Function, usize>,
+}
+
+const SHOWN: usize = 10;
+
+impl Tally {
+    // one call: what the reference says of it and, where there is a port, what that does
+    pub fn run(&mut self, call: &Call, port: Option<&dyn Port>) {
+        let e = expected(call);
+        *self.calls.entry(call.function).or_default() += 1;
+        *self.answers.entry((call.function, e.number)).or_default() += 1;
+        match &e.told {
+            Told::ByReference => {}
+            Told::Differs(difference, manner) => *self.differences.entry((*difference, *manner)).or_default() += 1,
+            Told::Wrong(why) => return self.fail(call, why),
+        }
+        if let Some(port) = port {
+            if let Err(why) = compared(call, &e, port, self.total()) {
+                self.fail(call, &why);
+            }
+        }
+    }
+
+    pub fn total(&self) -> usize {
+        self.calls.values().sum()
+    }
+
+    pub fn failures(&self) -> usize {
+        self.failed.values().sum()
+    }
+
+    fn fail(&mut self, call: &Call, why: &str) {
+        *self.failed.entry(call.function).or_default() += 1;
+        if self.failures() <= SHOWN {
+            println!("FAILED: {why}\n  {}", shown(call));
+        }
+    }
+
+    pub fn print(&self) {
+        for (function, count) in &self.calls {
+            let mut line = format!("{function:?}: {count} calls;");
+            for ((_, number), times) in self.answers.iter().filter(|a| a.0 .0 == *function) {
+                line += &if *number == 0 {
+                    format!(" accepted {times}")
+                } else {
+                    format!(", refused {number}: {times}")
+                };
+            }
+            if let Some(times) = self.failed.get(function) {
+                line += &format!("; FAILED {times}");
+            }
+            println!("{line}");
+        }
+        for ((difference, manner), times) in &self.differences {
+            println!("listed difference {difference:?}, the Rust {manner:?}: {times}");
+        }
+    }
+}
+
+fn compared(call: &Call, e: &Expected, port: &dyn Port, turn: usize) -> Result<(), String> {
+    let mut lent: Vec<Lent> = call
+        .slices
+        .iter()
+        .enumerate()
+        .map(|(i, s)| Lent::of(s, (turn + i) % 8))
+        .collect();
+    let number = port.call(call, &mut lent);
+    if number != e.number {
+        return Err(format!("answered {number}, expected {}", e.number));
+    }
+    for (i, after) in e.after.iter().enumerate() {
+        if !lent[i].edges_held() {
+            return Err(format!("wrote outside slice {i}"));
+        }
+        if !met(after, &call.slices[i], lent[i].bytes()) {
+            let mut got = call.clone();
+            got.slices[i] = lent[i].bytes().to_vec();
+            return Err(format!(
+                "answered {number}, slice {i} must be {after:?} and is in\n  {}",
+                shown(&got)
+            ));
+        }
+    }
+    Ok(())
+}
