@@ -9,3 +9,4 @@ pub mod Bridge
 pub mod Demand3
 pub mod Book
 pub mod Witnesses
+mod BookImpedance
