@@ -1,4 +1,1 @@
-pub mod Bytes
-pub mod Dc
-pub mod Slices
 pub mod Scalars

@@ -5,7 +5,7 @@ use mathlib.Core.List.{List, [], _∷_}
 use lib.ListN.{length}
 use lib.Ieee.{Float}
 use Rattle.complex.specs.declared.Complex.{Complex}
-use Rattle.entries.specs.Slices.{misfit, told, storedFloats}
+use Rattle.entry_slices.specs.Slices.{misfit, told, storedFloats}
 
 abbrev pub number : Float → Float → Complex
 number a b = record { re = a; im = b }

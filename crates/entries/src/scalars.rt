@@ -1,8 +1,8 @@
 // The entries on single complex and real numbers. The answer goes to a slice of its exact length.
-use crate::slices::misfit;
-use crate::slices::store_floats;
-use crate::slices::told;
 use complex::Complex;
+use entry_slices::slices::misfit;
+use entry_slices::slices::store_floats;
+use entry_slices::slices::told;
 ghost use mathlib.Core.Path.{_≡_};
 ghost use mathlib.Core.List.{[], _∷_};
 ghost use Rattle.complex.specs.Arithmetic as arithmetic;

@@ -1,6 +1,6 @@
 // The cases of a file, one after the other.
 use crate::numbers;
-use entries::bytes::word_at;
+use entry_slices::bytes::word_at;
 
 // How many cases the file says it has, and how many were read and agree.
 pub struct Replayed {

@@ -1,7 +1,6 @@
 // The functions on single numbers: 12 cadd, 13 csub, 14 cneg, 15 cmul, 16 cdiv, 17 complex_inv, 18 abs, 19 sqrt, 20 magnitude.
 use check::same;
 use complex::words::of_word;
-use entries::bytes::word_at;
 use entries::scalars::jeturipe_abs;
 use entries::scalars::jeturipe_cadd;
 use entries::scalars::jeturipe_cdiv;
@@ -11,6 +10,7 @@ use entries::scalars::jeturipe_complex_inv;
 use entries::scalars::jeturipe_csub;
 use entries::scalars::jeturipe_magnitude;
 use entries::scalars::jeturipe_sqrt;
+use entry_slices::bytes::word_at;
 
 // The number at an index of the inputs; 0.0 where there is none.
 fn number(s: &[u8], i: usize) -> f64 {

@@ -2,7 +2,7 @@
 -- Assumes nothing.
 use mathlib.Core.Path.{ap, _∙_}
 use Prim.Native.Nat.{ℕ}
-use Rattle.entries.specs.Slices.{told}
+use Rattle.entry_slices.specs.Slices.{told}
 use Rattle.entries.specs.Scalars.{refusalOf}
 use borrow.Author.Needs.{needs}
 use Rattle.entries.proofs.scalars.answer_real.Statement.{statement}

@@ -1,0 +1,72 @@
+-- What the entries of the DC parts answer and leave in their byte slices, by the library's own definitions.
+use Prim.Native.Nat.{ℕ, _+_, _*_}
+use mathlib.Core.Path.{_≡_}
+use mathlib.Core.List.{List, [], _∷_}
+use lib.ListN.{length}
+use lib.Ieee.{Float}
+use Rattle.dc_core.specs.declared.Retained.{Retained}
+use Rattle.dc_core.specs.declared.Retained.the-variants.{Count, Refused}
+use Rattle.dc_core.specs.Dc.{retainedAnswer, retainedOutput, buildRefusal, builtOutput, lodfRefusal, lodfOutput}
+use Rattle.entry_slices.specs.Rooms.{listRoom, squareRoom}
+use Rattle.entry_slices.specs.Slices.{floatsIn, wordsIn, spare, misfit, told, storedFloats, storedWords}
+
+-- ---- retained_buses
+
+-- the number of an answer, and its count
+unfoldable pub refusalOf : Retained → ℕ
+refusalOf (Count n) = 0
+refusalOf (Refused k) = k
+
+unfoldable pub countOf : Retained → ℕ
+countOf (Count n) = n
+countOf (Refused k) = 0
+
+-- The lists as the library is handed them, with over spare bytes beside; retained and count at entry, f is returned, and at the end.
+pub record KeptBy (n : ℕ) (interior held : List ℕ) (over : ℕ) (retained count : List ℕ) (f : ℕ) (retained′ count′ : List ℕ) : Type 0 where
+  pub number : f ≡ told over (refusalOf (retainedAnswer n interior held))
+  pub buses : retained′ ≡ storedWords f (retainedOutput n interior held) retained
+  pub counted : count′ ≡ storedWords f (countOf (retainedAnswer n interior held) ∷ []) count
+
+-- The byte slices interior, retained and count at entry, f is returned, and what retained and count hold at the end.
+abbrev pub Kept : ℕ → List ℕ → List ℕ → List ℕ → ℕ → List ℕ → List ℕ → Type 0
+Kept n interior retained count =
+    KeptBy n
+    (wordsIn listRoom interior)
+    (wordsIn listRoom retained)
+    (spare interior + spare retained + misfit (length count) 8)
+    retained
+    count
+
+-- ---- build_b_bus
+
+-- The lists as the library is handed them, held the room for the matrix, with over spare bytes beside; b at entry, f is returned, and b at the end.
+pub record BuiltBy (n : ℕ) (froms tos : List ℕ) (xs held : List Float) (over : ℕ) (b : List ℕ) (f : ℕ) (b′ : List ℕ) : Type 0 where
+  pub number : f ≡ told over (buildRefusal n froms tos xs (length held))
+  pub matrix : b′ ≡ storedFloats f (builtOutput n froms tos xs held) b
+
+-- The byte slices at entry, f is returned, and what b holds at the end.
+abbrev pub Built : ℕ → List ℕ → List ℕ → List ℕ → List ℕ → ℕ → List ℕ → Type 0
+Built n from to x b =
+    BuiltBy n
+    (wordsIn listRoom from)
+    (wordsIn listRoom to)
+    (floatsIn listRoom x)
+    (floatsIn squareRoom b)
+    (spare from + spare to + spare x + spare b)
+    b
+
+-- ---- lodf_matrix
+
+pub record OutagesBy (n : ℕ) (ptdf : List Float) (froms tos : List ℕ) (held : List Float) (over : ℕ) (lodf : List ℕ) (f : ℕ) (lodf′ : List ℕ) : Type 0 where
+  pub number : f ≡ told over (lodfRefusal n (length ptdf) froms tos (length held))
+  pub matrix : lodf′ ≡ storedFloats f (lodfOutput n ptdf froms tos held) lodf
+
+abbrev pub Outages : ℕ → List ℕ → List ℕ → List ℕ → List ℕ → ℕ → List ℕ → Type 0
+Outages n ptdf from to lodf =
+    OutagesBy n
+    (floatsIn squareRoom ptdf)
+    (wordsIn listRoom from)
+    (wordsIn listRoom to)
+    (floatsIn squareRoom lodf)
+    (spare ptdf + spare from + spare to + spare lodf)
+    lodf
