@@ -1,0 +1,47 @@
+// The DC parts.
+use entry_slices::outcomes::number;
+use equivalents::dc::Retained;
+ghost use mathlib.Core.Path.{_≡_};
+ghost use lib.ListN.{length};
+ghost use Rattle.dc_core.specs.Dc as spec;
+
+#[no_mangle]
+pub extern "C" fn jeturipe_f64_retained_buses(
+    n: usize,
+    interior: &[usize],
+    retained: &mut [usize],
+    _count: &mut [usize],
+) -> u32
+    ensures { λ _. ⌜ now (retained .exit) ≡ spec.retainedOutput n (now (interior .entry)) (now (retained .entry)) ⌝ }
+{
+    match equivalents::dc::retained_buses(n, interior, retained) {
+        Retained::Count(_) => 0,
+        Retained::Refused(f) => f,
+    }
+}
+
+#[no_mangle]
+pub extern "C" fn jeturipe_f64_build_b_bus(
+    n: usize,
+    branch_from: &[usize],
+    branch_to: &[usize],
+    branch_x: &[f64],
+    b: &mut [f64],
+) -> u32
+    ensures { λ _. ⌜ now (b .exit) ≡ spec.builtOutput n (now («branch_from» .entry)) (now («branch_to» .entry)) (now («branch_x» .entry)) (now (b .entry)) ⌝ }
+{
+    number(equivalents::dc::build_b_bus(n, branch_from, branch_to, branch_x, b))
+}
+
+#[no_mangle]
+pub extern "C" fn jeturipe_f64_lodf_matrix(
+    n: usize,
+    ptdf: &[f64],
+    branch_from: &[usize],
+    branch_to: &[usize],
+    lodf: &mut [f64],
+) -> u32
+    ensures { λ _. ⌜ now (lodf .exit) ≡ spec.lodfOutput n (now (ptdf .entry)) (now («branch_from» .entry)) (now («branch_to» .entry)) (now (lodf .entry)) ⌝ }
+{
+    number(equivalents::dc::lodf_matrix(n, ptdf, branch_from, branch_to, lodf))
+}
