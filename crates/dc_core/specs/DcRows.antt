@@ -1,11 +1,21 @@
--- What the loops of `lodf_matrix` compute, from one row of the PTDF. For the inner functions' contracts only.
-use Prim.Native.Nat.{ℕ}
+-- What inner loops compute: the marks of `retained_buses`, and `lodf_matrix` from one row of the PTDF. For the inner functions' contracts only.
+use Prim.Native.Nat.{ℕ, _<_}
+use mathlib.Core.Bool.{cond}
+use mathlib.Core.Path.{_≡_}
 use mathlib.Core.List.{List}
 use lib.Dec.{eqb}
-use lib.ListN.{getD}
+use lib.ListN.{length, getD}
 use lib.Ieee.{Float, nan}
 use Rattle.complex.specs.Arithmetic.{_⊖_}
+use Rattle.buses.specs.Buses.{mem}
 use Rattle.dc_core.specs.Dc.{outageFactor}
+
+-- the mark of bus k: whether the list names it
+unfoldable pub markOf : List ℕ → ℕ → ℕ
+markOf list k = cond (mem k list) 1 0
+
+abbrev pub Marked : List ℕ → List ℕ → Type 0
+Marked list marks = (k : ℕ) → k < length marks → getD marks k 0 ≡ markOf list k
 
 -- what the branch with this row takes of a transfer from bus i to bus j
 abbrev pub across : List Float → ℕ → ℕ → Float

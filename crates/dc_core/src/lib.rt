@@ -2,7 +2,6 @@
 // Buses and branches count from 0; matrices are of f64, row after row.
 use buses::lists::all_below;
 use buses::lists::clear;
-use buses::lists::holds;
 use buses::lists::no_buses;
 use buses::lists::over;
 use complex::magnitude::abs;
@@ -36,7 +35,9 @@ pub fn retained_buses(n: usize, interior: &[usize], retained: &mut [usize]) -> R
         return Retained::Refused(2);
     }
     no_buses(retained);
-    Retained::Count(keep(n, interior, retained))
+    let mut marks = [0; LIMIT];
+    mark(interior, &mut marks);
+    Retained::Count(keep(n, interior, &marks, retained))
 }
 
 // The matrix of the branches' susceptances; reactances in per unit.
@@ -80,16 +81,31 @@ pub fn lodf_matrix(
 
 // ---- inner functions
 
+// Sets the mark of each listed bus that has one, so that no bus is looked for in the list.
+fn mark(list: &[usize], marks: &mut [usize])
+    requires { ⌜ now marks ≡ replicate (length (now marks)) 0 ⌝ }
+    ensures { λ _. ⌜ rows.Marked (now (list .entry)) (now (marks .exit)) ⌝ }
+{
+    let mut i = 0;
+    while i < list.len() {
+        let bus = list[i];
+        if bus < marks.len() {
+            marks[bus] = 1;
+        }
+        i += 1;
+    }
+}
+
 // Into a cleared slice.
-fn keep(n: usize, interior: &[usize], retained: &mut [usize]) -> usize
-    requires { ⌜ now retained ≡ replicate n 0 ⌝ }
+fn keep(n: usize, interior: &[usize], marks: &[usize], retained: &mut [usize]) -> usize
+    requires { ⌜ (now retained ≡ replicate n 0) × (n ≤ length (now marks)) × rows.Marked (now interior) (now marks) ⌝ }
     ensures count { λ r. ⌜ r ≡ length (spec.kept n (now (interior .entry))) ⌝ }
     ensures output { λ _. ⌜ now (retained .exit) ≡ spec.keptSlice n (now (interior .entry)) ⌝ }
 {
     let mut count = 0;
     let mut k = 0;
     while k < n {
-        if !holds(interior, k) {
+        if marks[k] == 0 {
             retained[count] = k;
             count += 1;
         }
