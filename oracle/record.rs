@@ -2,7 +2,7 @@
 use oracle::ask::quietly;
 use oracle::call::{Call, Function};
 use oracle::functions::{expected, sound, SCALARS};
-use oracle::recorded::case;
+use oracle::recorded::{case, plain};
 use oracle::source::Source;
 use oracle::spoil::{spoil, unmatch};
 use oracle::words::bytes_of;
@@ -32,17 +32,19 @@ fn drawn(function: Function, s: &mut Source, n: usize) -> Call {
 }
 
 struct File {
-    words: Vec<u64>,
-    outcomes: BTreeMap<(u64, u32), usize>,
+    count: u64,
+    bytes: Vec<u8>,
+    outcomes: BTreeMap<(Function, u32), usize>,
 }
 
 impl File {
     fn add(&mut self, call: &Call) -> bool {
-        let e = expected(call);
-        let Some(words) = case(call, &e) else { return false };
-        *self.outcomes.entry((words[0], e.number)).or_default() += 1;
-        self.words[0] += 1;
-        self.words.extend(words);
+        let call = plain(call.clone());
+        let e = expected(&call);
+        let Some(bytes) = case(&call, &e) else { return false };
+        *self.outcomes.entry((call.function, e.number)).or_default() += 1;
+        self.count += 1;
+        self.bytes.extend(bytes);
         true
     }
 }
@@ -50,7 +52,8 @@ impl File {
 fn record(folder: &str, name: &str, seed: u64, wanted: Wanted) {
     let mut s = Source::new(seed);
     let mut file = File {
-        words: vec![0],
+        count: 0,
+        bytes: Vec::new(),
         outcomes: BTreeMap::new(),
     };
     for &(function, count, _) in wanted {
@@ -71,11 +74,11 @@ fn record(folder: &str, name: &str, seed: u64, wanted: Wanted) {
             }
         }
     }
-    let bytes = bytes_of(&file.words);
+    let bytes = [bytes_of(&[file.count]), file.bytes].concat();
     std::fs::write(format!("{folder}/{name}"), &bytes).expect("the folder is there");
     println!(
         "{name}: {} cases, {} bytes; (function, outcome) and how often: {:?}",
-        file.words[0],
+        file.count,
         bytes.len(),
         file.outcomes
     );
@@ -89,38 +92,43 @@ fn sizeable(call: &Call, n: usize) -> bool {
 fn main() {
     quietly();
     let folder = std::env::args().nth(1).expect("a folder");
-    let systems: Wanted = &[
-        (SolveLinear, 600, &[7, 8, 16, 33, 64]),
-        (ComplexMatrixInverse, 500, &[7, 8, 16, 32, 64]),
+    let files: [(&str, Wanted); 7] = [
+        (
+            "systems.bin",
+            &[
+                (SolveLinear, 500, &[7, 8, 16, 33, 64]),
+                (ComplexMatrixInverse, 400, &[7, 8, 16, 32, 64]),
+            ],
+        ),
+        (
+            "reducers.bin",
+            &[
+                (KronNew, 60, &[16, 64]),
+                (EliminateBus, 200, &[16, 64]),
+                (EliminateBuses, 220, &[8, 16, 33]),
+                (ReducedMatrix, 80, &[16]),
+            ],
+        ),
+        ("thevenin.bin", &[(TheveninImpedance, 300, &[8, 16, 48])]),
+        (
+            "ward.bin",
+            &[
+                (WardCompute, 300, &[8, 16, 48]),
+                (WardComputeExtended, 300, &[8, 16, 32]),
+            ],
+        ),
+        ("rei.bin", &[(ReiCompute, 250, &[8, 16, 40])]),
+        (
+            "dc.bin",
+            &[
+                (RetainedBuses, 150, &[16, 64]),
+                (BuildBBus, 250, &[8, 16, 64]),
+                (LodfMatrix, 250, &[8, 16, 40]),
+            ],
+        ),
+        ("scalars.bin", &SCALARS.map(|function| (function, 100, &[][..]))),
     ];
-    record(&folder, "systems.bin", 1, systems);
-    record(
-        &folder,
-        "removals.bin",
-        2,
-        &[(EliminateBus, 250, &[16, 64]), (EliminateBuses, 300, &[8, 16, 33])],
-    );
-    record(&folder, "thevenin.bin", 3, &[(TheveninImpedance, 300, &[8, 16, 64])]);
-    record(
-        &folder,
-        "ward.bin",
-        4,
-        &[
-            (WardCompute, 300, &[8, 16, 64]),
-            (WardComputeExtended, 300, &[8, 16, 32]),
-        ],
-    );
-    record(&folder, "rei.bin", 5, &[(ReiCompute, 250, &[8, 16, 40])]);
-    let dc: Wanted = &[
-        (RetainedBuses, 150, &[16, 64]),
-        (BuildBBus, 250, &[8, 16, 64]),
-        (LodfMatrix, 250, &[8, 16, 40]),
-    ];
-    record(&folder, "dc.bin", 6, dc);
-    record(
-        &folder,
-        "scalars.bin",
-        7,
-        &SCALARS.map(|function| (function, 100, &[][..])),
-    );
+    for (i, (name, wanted)) in files.into_iter().enumerate() {
+        record(&folder, name, i as u64 + 1, wanted);
+    }
 }
