@@ -1,0 +1,135 @@
+-- The drops of a run that is kept are the calls, and its entries the matrix of the making.
+-- Assumes nothing.
+use Prim.Native.Nat.{ℕ, zero, suc, _+_, _*_, _≤_}
+use mathlib.Core.Path.{_≡_, refl, sym, ap, subst, _∙_}
+use mathlib.Core.Bool.{Bool, true, false, cond}
+use mathlib.Core.List.{List, [], _∷_, _++_, map, append-assoc, append-nil}
+use native.Mathlib.Omega.{arith}
+use lib.Dec.{T, leb, leb→le}
+use lib.ListN.{length, take, drop, length-append}
+use lib.Ieee.{Float, binary64}
+use lib.Ieee.Fits.{nan-fits}
+use lib.Ieee.Bits.{ofBits-fits}
+use Rattle.complex.specs.Values.{F64s}
+use Rattle.refusals.specs.declared.Outcome.{Outcome}
+use Rattle.refusals.specs.declared.Outcome.the-variants.{Done, Refused}
+use Rattle.kron_core.specs.declared.KronReducer.{KronReducer}
+use Rattle.kron_core.specs.Reducer.{makingOf, afterNew, afterBus, Held, held}
+use Rattle.claims.specs.Accounts.{Call, bus, stepHeld, leftFrom, left}
+use Rattle.lines.specs.declared.words.Number.{Number}
+use Rattle.lines.specs.declared.words.Number.the-variants.{Is, Not}
+use Rattle.lines.specs.declared.text.Entry.{Entry}
+use Rattle.lines.specs.declared.text.Entry.the-variants.{Words, NoEntry}
+use Rattle.lines.specs.declared.read.End.{End}
+use Rattle.lines.specs.declared.read.End.the-variants.{Kept, RefusedDrop, BadLine}
+use Rattle.lines.specs.Bytes.{Bytes}
+use Rattle.lines.specs.Lines.{lines, busesOf, dropOf, entryOf}
+use Rattle.lines.specs.Reading.{most, Run, ended, noReducer, ofWord, onNumber, onOutcome, onEntry, afterDrop, drops, entries, noBuses, first, run}
+use Rattle.program_claims.specs.Inputs.{parts, numbersOf, busIn, dropped, callsOf, orNone}
+
+-- ---- a run that ended otherwise is not kept
+
+abbrev pub AtEnd : End → Type 0
+AtEnd Kept = Unit {0}
+AtEnd (RefusedDrop f k) = ⊥
+AtEnd (BadLine p) = ⊥
+
+pub at-end : (e : End) → e ≡ Kept → AtEnd e
+at-end e h = subst AtEnd (sym h) tt
+
+abbrev pub endOf : Run → End
+endOf R = R .reading .end
+
+abbrev pub heldOf : Run → Held
+heldOf R = held (R .reading .rec) (R .numbers)
+
+-- ---- the drops
+
+pub record AsCalls (R : Run) (h : Held) (ls : List Bytes) : Type 0 where
+  pub ends : heldOf R ≡ leftFrom h (callsOf ls)
+  pub all-lines : length (callsOf ls) ≡ length ls
+
+module _ (p : ℕ) (r : KronReducer) (ys : List Float) (l : Bytes) (ls : List Bytes)
+    (rest : (r′ : KronReducer) (ys′ : List Float) → endOf (drops (p + 1) r′ ys′ ls) ≡ Kept → AsCalls (drops (p + 1) r′ ys′ ls) (held r′ ys′) ls) where
+  abbrev next : KronReducer → List Float → Run
+  next r′ ys′ = drops (p + 1) r′ ys′ ls
+
+  abbrev Line : Run → Number → Type 0
+  Line R w = (heldOf R ≡ leftFrom (held r ys) (map bus (busIn w ++ dropped ls))) × (length (map bus (busIn w ++ dropped ls)) ≡ suc (length ls))
+
+  after : (k : ℕ) (o : Outcome) → let R = onOutcome o k (afterBus r ys k .out .rec) (afterBus r ys k .slice) next in endOf R ≡ Kept → Line R (Is k)
+  unfolding leftFrom stepHeld callsOf
+  after k Done h = let c = rest (afterBus r ys k .out .rec) (afterBus r ys k .slice) h in (c .ends, ap suc (c .all-lines))
+  after k (Refused f) h = absurd (at-end (RefusedDrop f k) h)
+
+  line : (w : Number) → let R = onNumber w (λ k. afterDrop k (afterBus r ys k) next) (ended (BadLine p) r ys) in endOf R ≡ Kept → Line R w
+  line (Is k) h = after k (afterBus r ys k .out .answer) h
+  line Not h = absurd (at-end (BadLine p) h)
+
+pub drops-calls : (p : ℕ) (r : KronReducer) (ys : List Float) (ls : List Bytes) → endOf (drops p r ys ls) ≡ Kept → AsCalls (drops p r ys ls) (held r ys) ls
+unfolding drops dropped callsOf leftFrom
+drops-calls p r ys [] h = record { ends = refl; all-lines = refl }
+drops-calls p r ys (l ∷ ls) h =
+    let c = line p r ys l ls (λ r′ ys′. drops-calls (p + 1) r′ ys′ ls) (dropOf l) h in
+    record { ends = c .0; all-lines = c .1 }
+
+-- ---- the entries
+
+-- k entry lines, then drops, where the numbers ys were read before
+pub record AsMade (n k : ℕ) (ys : List Float) (R : Run) (ls : List Bytes) : Type 0 where
+  pub there : k ≤ length ls
+  pub numbers : length (numbersOf (take k ls)) ≡ 2 * k
+  pub calls : let zs = ys ++ numbersOf (take k ls) in AsCalls R (held (afterNew (makingOf n zs) .rec) zs) (drop k ls)
+
+module _ (n k p : ℕ) (ys : List Float) (l : Bytes) (ls : List Bytes)
+    (rest : (zs : List Float) → endOf (entries n k (p + 1) zs ls) ≡ Kept → AsMade n k zs (entries n k (p + 1) zs ls) ls) where
+  entry : (w : Entry) → let R = onEntry w (λ a b. entries n k (p + 1) (ys ++ (ofWord a ∷ ofWord b ∷ [])) ls) (ended (BadLine p) noReducer ys) in
+      let zs = ys ++ (parts w ++ numbersOf (take k ls)) in
+      endOf R ≡ Kept
+      → (k ≤ length ls) × (length (parts w ++ numbersOf (take k ls)) ≡ 2 * suc k) × AsCalls R (held (afterNew (makingOf n zs) .rec) zs) (drop k ls)
+  entry (Words a b) h =
+      let c = rest (ys ++ (ofWord a ∷ ofWord b ∷ [])) h in
+      (c .there, omega (arith, c .numbers), subst (λ (zs : List Float). AsCalls (entries n k (p + 1) (ys ++ (ofWord a ∷ ofWord b ∷ [])) ls) (held (afterNew (makingOf n zs) .rec) zs) (drop k ls)) (append-assoc ys (ofWord a ∷ ofWord b ∷ []) (numbersOf (take k ls))) (c .calls))
+  entry NoEntry h = absurd (at-end (BadLine p) h)
+
+pub entries-made : (n k p : ℕ) (ys : List Float) (ls : List Bytes) → endOf (entries n k p ys ls) ≡ Kept → AsMade n k ys (entries n k p ys ls) ls
+unfolding entries numbersOf
+entries-made n zero p ys ls h = record { there = omega arith; numbers = refl; calls = simp append-nil (drops-calls p (afterNew (makingOf n ys) .rec) ys ls h) }
+entries-made n (suc k) p ys [] h = absurd (at-end (BadLine p) h)
+entries-made n (suc k) p ys (l ∷ ls) h =
+    let c = entry n k p ys l ls (λ zs. entries-made n k (p + 1) zs ls) (entryOf l) h in
+    record { there = omega (arith, c .0); numbers = c .1; calls = c .2 }
+
+-- ---- the first line
+
+-- the numbers of entry lines fit binary64, whatever their bits
+pub f64s : (ls : List Bytes) → F64s (numbersOf ls)
+unfolding numbersOf
+f64s [] i = nan-fits binary64
+f64s (l ∷ ls) i = entry-fits (entryOf l) (f64s ls) i
+  where
+    entry-fits : (w : Entry) → F64s (numbersOf ls) → F64s (parts w ++ numbersOf ls)
+    entry-fits (Words a b) f zero = ofBits-fits binary64 a
+    entry-fits (Words a b) f (suc zero) = ofBits-fits binary64 b
+    entry-fits (Words a b) f (suc (suc i)) = f i
+    entry-fits NoEntry f i = f i
+
+-- a first line with so many buses, entries and drops behind it
+pub record AsInput (l : Bytes) (ls : List Bytes) (R : Run) (n : ℕ) : Type 0 where
+  pub size : busesOf l ≡ Is n
+  pub small : n ≤ most
+  pub made : AsMade n (n * n) [] R ls
+
+pub first-buses : (l : Bytes) (ls : List Bytes) → endOf (first (l ∷ ls)) ≡ Kept → AsInput l ls (first (l ∷ ls)) (orNone (busesOf l))
+unfolding first
+first-buses l ls h = number (busesOf l) refl h
+  where
+    within : (n : ℕ) → busesOf l ≡ Is n → (b : Bool) → (T b → n ≤ most)
+        → let R = cond b (entries n (n * n) 2 [] ls) noBuses in endOf R ≡ Kept → AsInput l ls R n
+    within n e true f h = record { size = e; small = f tt; made = entries-made n (n * n) 2 [] ls h }
+    within n e false f h = absurd (at-end (BadLine 1) h)
+
+    number : (w : Number) → busesOf l ≡ w
+        → let R = onNumber w (λ n. cond (leb n most) (entries n (n * n) 2 [] ls) noBuses) noBuses in endOf R ≡ Kept → AsInput l ls R (orNone w)
+    number (Is n) e h = within n e (leb n most) (leb→le n most) h
+    number Not e h = absurd (at-end (BadLine 1) h)

@@ -1,0 +1,91 @@
+-- The claims on runs, from the law of the drops and demand 3.
+-- Assumes nothing.
+use Prim.Native.Nat.{ℕ, suc, _+_, _*_, _≤_}
+use mathlib.Core.Path.{_≡_, refl, sym, ap, subst, subst₂, _∙_}
+use mathlib.Core.Bool.{Bool, true, false, not, cond}
+use mathlib.Core.List.{List, [], _∷_, _++_}
+use native.Mathlib.Omega.{arith}
+use lib.Dec.{T, eqb, leb, ltb, eqb-refl}
+use lib.ListN.{length, take, drop, length-drop}
+use lib.Ieee.{Float}
+use borrow.Author.Tests.{le-ltb, eq-eqb}
+use Rattle.complex.specs.Values.{F64s}
+use Rattle.refusals.specs.Refusals.{limit, tooMany, wrongLength}
+use Rattle.kron_core.specs.declared.KronReducer.{KronReducer}
+use Rattle.kron_core.specs.Reducer.{Making, makingOf, makingRefusal, Made, recordOf, Held, held, laid}
+use Rattle.claims.specs.Accounts.{left, fresh, stateOf, kept}
+use Rattle.claims.specs.Finite.{Finite}
+use Rattle.claims.specs.Removals.{Unchanged, Independent}
+use Rattle.claims.proofs.Bridge.{left-is, kept-state}
+use Rattle.claims.proofs.Demand3.{demand3}
+use Rattle.lines.specs.declared.read.End.{End}
+use Rattle.lines.specs.declared.read.End.the-variants.{Kept, BadLine}
+use Rattle.lines.specs.Bytes.{Bytes}
+use Rattle.lines.specs.Lines.{lines, busesOf}
+use Rattle.lines.specs.Reading.{most, first, run}
+use Rattle.lines.specs.Printing.{text, textOf, keptText}
+use Rattle.program_claims.specs.Inputs.{orNone, numbersOf, callsOf, firstLine, sizeOf, entryPart, making, calls, accountOf, IsKept, heldAfter}
+use Rattle.program_claims.specs.Runs.{DropsAreCalls, ProgramClaims}
+use Rattle.program_claims.proofs.Calls.{at-end, endOf, heldOf, AsCalls, AsMade, AsInput, first-buses, f64s}
+
+-- a making of so many numbers is accepted
+made-of : (n : ℕ) (ys : List Float) → n ≤ most → length ys ≡ 2 * (n * n) → Made (makingOf n ys)
+unfolding makingRefusal limit most
+made-of n ys h e = rw (le-ltb limit n h, eq-eqb (length ys) (2 * (n * n)) e) tt
+
+-- ---- one input
+
+-- what is printed of a run that is kept
+kept-text : (input : Bytes) → IsKept input → text (run input) ≡ keptText (heldAfter input .rec) (heldAfter input .slice)
+unfolding text textOf heldAfter
+kept-text input h = ap (λ (e : End). textOf e (run input .reading .rec) (run input .numbers)) h
+
+drops-of : (input : Bytes) (ls : List Bytes) → lines input ≡ ls → IsKept input → DropsAreCalls input
+unfolding run sizeOf making calls heldAfter left
+drops-of input [] e h = absurd (at-end (BadLine 1) (unfold first in rw e at h))
+drops-of input (l ∷ ls) e h =
+    let a = first-buses l ls (rw e at h) in
+    let n = orNone (busesOf l) in
+    let m = a .made in
+    let c = m .calls in
+    let ends : heldAfter input ≡ left (making input) (calls input) = rw e (c .ends) in
+    record {
+      size = rw e (a .size);
+      made = rw e (made-of n (numbersOf (take (n * n) ls)) (a .small) (m .numbers));
+      all-lines = rw e (omega (arith, c .all-lines, m .there, length-drop (n * n) ls));
+      ends = ends;
+      prints = kept-text input h ∙ ap (λ (x : Held). keptText (x .rec) (x .slice)) ends;
+    }
+
+pub drops-are : (input : Bytes) → IsKept input → DropsAreCalls input
+drops-are input h = drops-of input (lines input) refl h
+
+-- the record is that of the kept buses
+pub buses-are : (input : Bytes) → IsKept input → run input .reading .rec ≡ recordOf (sizeOf input) (kept (accountOf input))
+unfolding heldAfter laid
+buses-are input h =
+    let d = drops-are input h in
+    ap (λ (x : Held). x .rec) (d .ends ∙ left-is (making input) (calls input) (d .made))
+    ∙ unfold making in ap (recordOf (sizeOf input)) (kept-state (accountOf input))
+
+given-f64s : (input : Bytes) → F64s (making input .given)
+unfolding making
+given-f64s input = f64s (entryPart input)
+
+pub unchanged : (input : Bytes) → IsKept input → Finite (making input) (calls input) → Unchanged (accountOf input) (heldAfter input)
+unchanged input h f =
+    subst (λ (x : Held). Unchanged (accountOf input) x) (sym (drops-are input h .ends))
+    (demand3 .removals .unchanged (making input) (calls input) (given-f64s input) f)
+
+-- ---- two inputs
+
+pub independent : (input input' : Bytes) → IsKept input → IsKept input' → Finite (making input) (calls input) → Finite (making input') (calls input')
+    → Independent (accountOf input) (heldAfter input) (accountOf input') (heldAfter input')
+independent input input' h h' f f' =
+    subst₂ (λ (x x' : Held). Independent (accountOf input) x (accountOf input') x') (sym (drops-are input h .ends)) (sym (drops-are input' h' .ends))
+    (demand3 .removals .independent (making input) (making input') (calls input) (calls input') (given-f64s input) (given-f64s input') f f')
+
+-- ---- all of them
+
+pub program-claims : ProgramClaims
+program-claims = record { drops = drops-are; buses = buses-are; unchanged = unchanged; independent = independent }

@@ -1,0 +1,50 @@
+-- The two-bus case is kept, its numbers are finite, and its drop is the one call. In a second input the entry that is printed must be the given one.
+-- Assumes nothing.
+use Prim.Native.Nat.{ℕ}
+use mathlib.Core.Path.{_≡_, refl, subst}
+use mathlib.Core.Logic.{inl, inr}
+use mathlib.Core.List.{List, [], _∷_}
+use lib.Dec.{lit<}
+use lib.Ieee
+use Rattle.complex.specs.Constants
+use Rattle.complex.specs.Arithmetic
+use Rattle.complex.specs.Entries
+use Rattle.complex.specs.Matrices
+use Rattle.complex.specs.Values.{_≈_, allFinite}
+use Rattle.refusals.specs.Refusals
+use Rattle.buses.specs.Buses
+use Rattle.buses.specs.Buses.{_∈_}
+use Rattle.buses.proofs.Buses.{in-cases}
+use Rattle.kron_core.specs.Kron
+use Rattle.kron_core.specs.Reducer
+use Rattle.claims.specs.Accounts
+use Rattle.claims.specs.Accounts.{Call, bus, entry}
+use Rattle.claims.specs.Chains.{Linked, Chain}
+use Rattle.claims.specs.Finite.{words, ofAccount, Finite}
+use Rattle.claims.proofs.Book.{book-words, book}
+use Rattle.lines.specs.Bytes.{Bytes, ascii}
+use Rattle.lines.specs.Words
+use Rattle.lines.specs.Lines
+use Rattle.lines.specs.Reading
+use Rattle.program_claims.specs.Inputs.{numbersOf, dropped, callsOf, sizeOf, making, calls, accountOf, IsKept, heldAfter}
+use Rattle.program_claims.proofs.Runs.{program-claims}
+
+-- M and `drop 1`
+two-bus : Bytes
+two-bus = ascii "buses 2\n3ff0000000000000 0000000000000000\nbff0000000000000 0000000000000000\nbff0000000000000 0000000000000000\n4000000000000000 0000000000000000\ndrop 1\n"
+
+two-bus-kept : IsKept two-bus
+unfolding two-bus Reading.run Reading.first Reading.most Reading.entries Reading.drops Lines.lines Lines.startsWith Lines.numberAfter Lines.entryOf Words.decimalOf Words.hexOf Reducer.afterNew Reducer.makingRefusal Refusals.limit Matrices.upTo Reducer.afterBus Reducer.leaves Reducer.removable Reducer.refusalOf Reducer.inputRefusal Reducer.sound Reducer.view Reducer.laid Kron.eliminate Kron.taken Kron.stop Kron.refusal Kron.tooSmall Kron.kron Buses.others Buses.place Buses.rising Buses.allBelow Buses.allZero Refusals.outcome Entries.entry Matrices.entryAt Matrices.row Arithmetic.cmul Arithmetic.csub Arithmetic.cdiv Constants.plus0 Constants.tiny Ieee.ofBits Ieee.toBits Ieee.add Ieee.sub Ieee.mul Ieee.div Ieee.lt
+two-bus-kept = refl
+
+two-bus-making : making two-bus ≡ book
+unfolding two-bus making sizeOf numbersOf Lines.lines Lines.startsWith Lines.numberAfter Lines.entryOf Words.decimalOf Words.hexOf words book-words
+two-bus-making = refl
+
+two-bus-calls : calls two-bus ≡ bus 1 ∷ []
+unfolding two-bus calls callsOf dropped sizeOf Lines.lines Lines.startsWith Lines.numberAfter Words.decimalOf
+two-bus-calls = refl
+
+two-bus-finite : Finite (making two-bus) (calls two-bus)
+unfolding two-bus making calls callsOf dropped sizeOf numbersOf Lines.lines Lines.startsWith Lines.numberAfter Lines.entryOf Words.decimalOf Words.hexOf Reducer.makingRefusal Refusals.limit Matrices.upTo Kron.eliminate Kron.taken Kron.refusal Kron.tooSmall Kron.kron Buses.others Buses.place Entries.entry Matrices.entryAt Arithmetic.cmul Arithmetic.csub Arithmetic.cdiv Constants.plus0 Constants.tiny Ieee.ofBits Ieee.add Ieee.sub Ieee.mul Ieee.div Ieee.lt Accounts.fresh Accounts.stateOf Accounts.removes Accounts.step Accounts.accountFrom allFinite ofAccount Kron.ofRemovals Kron.ofRow Kron.ofRows Arithmetic.sqmag Kron.newEntry
+two-bus-finite = record { made = tt; given = tt; computed = tt }

@@ -1,0 +1,85 @@
+-- What an input of `reduce` says: the buses, the matrix that a reducer is made of, and the drops as a list of calls.
+use Prim.Native.Nat.{ℕ, _*_}
+use mathlib.Core.List.{List, [], _∷_, _++_, map}
+use mathlib.Core.Path.{_≡_}
+use lib.ListN.{getD, take, drop}
+use lib.Ieee.{Float}
+use Rattle.kron_core.specs.Reducer.{Making, makingOf, Held, held}
+use Rattle.claims.specs.Accounts.{Call, bus, Account, account}
+use Rattle.lines.specs.declared.words.Number.{Number}
+use Rattle.lines.specs.declared.words.Number.the-variants.{Is, Not}
+use Rattle.lines.specs.declared.text.Entry.{Entry}
+use Rattle.lines.specs.declared.text.Entry.the-variants.{Words, NoEntry}
+use Rattle.lines.specs.declared.read.End.the-variants.{Kept}
+use Rattle.lines.specs.Bytes.{Bytes}
+use Rattle.lines.specs.Lines.{lines, busesOf, dropOf, entryOf}
+use Rattle.lines.specs.Reading.{ofWord, run}
+
+-- ---- lines that are taken for entries, and for drops
+
+-- real and imaginary part
+abbrev pub parts : Entry → List Float
+parts (Words a b) = ofWord a ∷ ofWord b ∷ []
+parts NoEntry = []
+
+-- the numbers of the entry lines, in order
+unfoldable pub numbersOf : List Bytes → List Float
+numbersOf [] = []
+numbersOf (l ∷ ls) = parts (entryOf l) ++ numbersOf ls
+
+abbrev pub busIn : Number → List ℕ
+busIn (Is k) = k ∷ []
+busIn Not = []
+
+-- the buses of the drop lines, in order
+unfoldable pub dropped : List Bytes → List ℕ
+dropped [] = []
+dropped (l ∷ ls) = busIn (dropOf l) ++ dropped ls
+
+-- a call of `eliminate_bus` for each
+unfoldable pub callsOf : List Bytes → List Call
+unfolding dropped
+callsOf ls = map bus (dropped ls)
+
+-- ---- the whole input
+
+abbrev pub firstLine : Bytes → Bytes
+firstLine input = getD (lines input) 0 []
+
+abbrev pub orNone : Number → ℕ
+orNone (Is n) = n
+orNone Not = 0
+
+-- the buses that the first line tells
+unfoldable pub sizeOf : Bytes → ℕ
+sizeOf input = orNone (busesOf (firstLine input))
+
+-- the lines behind the first: so many are entries, and the others drops
+abbrev pub entryCount : Bytes → ℕ
+entryCount input = sizeOf input * sizeOf input
+
+abbrev pub entryPart : Bytes → List Bytes
+entryPart input = take (entryCount input) (drop 1 (lines input))
+
+abbrev pub dropPart : Bytes → List Bytes
+dropPart input = drop (entryCount input) (drop 1 (lines input))
+
+unfoldable pub making : Bytes → Making
+making input = makingOf (sizeOf input) (numbersOf (entryPart input))
+
+unfoldable pub calls : Bytes → List Call
+calls input = callsOf (dropPart input)
+
+-- demand 3's account of these calls
+abbrev pub accountOf : Bytes → Account
+accountOf input = account (making input) (calls input)
+
+-- ---- the run
+
+-- the input is read to its end, and no drop is refused: what is left is printed
+abbrev pub IsKept : Bytes → Type 0
+IsKept input = run input .reading .end ≡ Kept
+
+-- the record, and the numbers of the matrix, at the run's end
+unfoldable pub heldAfter : Bytes → Held
+heldAfter input = held (run input .reading .rec) (run input .numbers)

@@ -1,0 +1,34 @@
+-- What demand 3 says of the program `reduce`: its drops are a list of calls, and the claims on lists of calls hold of what it prints.
+use Prim.Native.Nat.{ℕ, _+_}
+use mathlib.Core.Path.{_≡_}
+use lib.ListN.{length}
+use Rattle.kron_core.specs.Reducer.{Made, recordOf}
+use Rattle.claims.specs.Accounts.{left, kept}
+use Rattle.claims.specs.Finite.{Finite}
+use Rattle.claims.specs.Removals.{Unchanged, Independent}
+use Rattle.lines.specs.declared.words.Number.the-variants.{Is}
+use Rattle.lines.specs.Bytes.{Bytes}
+use Rattle.lines.specs.Lines.{lines, busesOf}
+use Rattle.lines.specs.Reading.{run}
+use Rattle.lines.specs.Printing.{text, keptText}
+use Rattle.program_claims.specs.Inputs.{firstLine, sizeOf, entryCount, making, calls, accountOf, IsKept, heldAfter}
+
+-- of an input that is kept: the first line tells the buses; the making is accepted, so each line behind it that is due is an entry; each
+-- line behind those is a call; and what the run ends with, and prints, is what the calls leave
+pub record DropsAreCalls (input : Bytes) : Type 0 where
+  pub size : busesOf (firstLine input) ≡ Is (sizeOf input)
+  pub made : Made (making input)
+  pub all-lines : 1 + entryCount input + length (calls input) ≡ length (lines input)
+  pub ends : heldAfter input ≡ left (making input) (calls input)
+  pub prints : text (run input) ≡ keptText (left (making input) (calls input) .rec) (left (making input) (calls input) .slice)
+
+-- for every input that is kept
+pub record ProgramClaims : Type 0 where
+  pub drops : (input : Bytes) → IsKept input → DropsAreCalls input
+  -- the kept buses of the account are those printed, and give the rows and columns
+  pub buses : (input : Bytes) → IsKept input → run input .reading .rec ≡ recordOf (sizeOf input) (kept (accountOf input))
+  -- with finite numbers, an entry has its old value unless a chain joins its buses through dropped ones
+  pub unchanged : (input : Bytes) → IsKept input → Finite (making input) (calls input) → Unchanged (accountOf input) (heldAfter input)
+  -- two inputs that differ in the rows and columns of a group of dropped buses: no entry differs without a chain into the group and one out of it
+  pub independent : (input input' : Bytes) → IsKept input → IsKept input' → Finite (making input) (calls input) → Finite (making input') (calls input')
+      → Independent (accountOf input) (heldAfter input) (accountOf input') (heldAfter input')
