@@ -75,30 +75,40 @@ drops-calls p r ys (l ∷ ls) h =
 
 -- ---- the entries
 
--- k entry lines, then drops, where the numbers ys were read before
+-- k entry lines, where the numbers ys were read before, and then the drops on what they make
 pub record AsMade (n k : ℕ) (ys : List Float) (R : Run) (ls : List Bytes) : Type 0 where
   pub there : k ≤ length ls
   pub numbers : length (numbersOf (take k ls)) ≡ 2 * k
-  pub calls : let zs = ys ++ numbersOf (take k ls) in AsCalls R (held (afterNew (makingOf n zs) .rec) zs) (drop k ls)
+  pub place : ℕ
+  pub then : let zs = ys ++ numbersOf (take k ls) in R ≡ drops place (afterNew (makingOf n zs) .rec) zs (drop k ls)
 
 module _ (n k p : ℕ) (ys : List Float) (l : Bytes) (ls : List Bytes)
     (rest : (zs : List Float) → endOf (entries n k (p + 1) zs ls) ≡ Kept → AsMade n k zs (entries n k (p + 1) zs ls) ls) where
-  entry : (w : Entry) → let R = onEntry w (λ a b. entries n k (p + 1) (ys ++ (ofWord a ∷ ofWord b ∷ [])) ls) (ended (BadLine p) noReducer ys) in
+  entry : (w : Entry)
+      → let R = onEntry w (λ a b. entries n k (p + 1) (ys ++ (ofWord a ∷ ofWord b ∷ [])) ls) (ended (BadLine p) noReducer ys) in
       let zs = ys ++ (parts w ++ numbersOf (take k ls)) in
       endOf R ≡ Kept
-      → (k ≤ length ls) × (length (parts w ++ numbersOf (take k ls)) ≡ 2 * suc k) × AsCalls R (held (afterNew (makingOf n zs) .rec) zs) (drop k ls)
+      → (k ≤ length ls) × (length (parts w ++ numbersOf (take k ls)) ≡ 2 * suc k) × (at : ℕ) × (R ≡ drops at (afterNew (makingOf n zs) .rec) zs (drop k ls))
   entry (Words a b) h =
       let c = rest (ys ++ (ofWord a ∷ ofWord b ∷ [])) h in
-      (c .there, omega (arith, c .numbers), subst (λ (zs : List Float). AsCalls (entries n k (p + 1) (ys ++ (ofWord a ∷ ofWord b ∷ [])) ls) (held (afterNew (makingOf n zs) .rec) zs) (drop k ls)) (append-assoc ys (ofWord a ∷ ofWord b ∷ []) (numbersOf (take k ls))) (c .calls))
+      (
+        c .there,
+        omega (arith, c .numbers),
+        c .place,
+        subst
+        (λ (zs : List Float). entries n k (p + 1) (ys ++ (ofWord a ∷ ofWord b ∷ [])) ls ≡ drops (c .place) (afterNew (makingOf n zs) .rec) zs (drop k ls))
+        (append-assoc ys (ofWord a ∷ ofWord b ∷ []) (numbersOf (take k ls)))
+        (c .then),
+      )
   entry NoEntry h = absurd (at-end (BadLine p) h)
 
 pub entries-made : (n k p : ℕ) (ys : List Float) (ls : List Bytes) → endOf (entries n k p ys ls) ≡ Kept → AsMade n k ys (entries n k p ys ls) ls
 unfolding entries numbersOf
-entries-made n zero p ys ls h = record { there = omega arith; numbers = refl; calls = simp append-nil (drops-calls p (afterNew (makingOf n ys) .rec) ys ls h) }
+entries-made n zero p ys ls h = record { there = omega arith; numbers = refl; place = p; then = simp append-nil }
 entries-made n (suc k) p ys [] h = absurd (at-end (BadLine p) h)
 entries-made n (suc k) p ys (l ∷ ls) h =
     let c = entry n k p ys l ls (λ zs. entries-made n k (p + 1) zs ls) (entryOf l) h in
-    record { there = omega (arith, c .0); numbers = c .1; calls = c .2 }
+    record { there = omega (arith, c .0); numbers = c .1; place = c .2; then = c .3 }
 
 -- ---- the first line
 

@@ -12,21 +12,22 @@ use borrow.Author.Tests.{le-ltb, eq-eqb}
 use Rattle.complex.specs.Values.{F64s}
 use Rattle.refusals.specs.Refusals.{limit, tooMany, wrongLength}
 use Rattle.kron_core.specs.declared.KronReducer.{KronReducer}
-use Rattle.kron_core.specs.Reducer.{Making, makingOf, makingRefusal, Made, recordOf, Held, held, laid}
+use Rattle.kron_core.specs.Reducer.{Making, makingOf, makingRefusal, Made, recordOf, afterNew, Held, held, laid}
 use Rattle.claims.specs.Accounts.{left, fresh, stateOf, kept}
 use Rattle.claims.specs.Finite.{Finite}
 use Rattle.claims.specs.Removals.{Unchanged, Independent}
 use Rattle.claims.proofs.Bridge.{left-is, kept-state}
 use Rattle.claims.proofs.Demand3.{demand3}
+use Rattle.lines.specs.declared.words.Number.the-variants.{Is}
 use Rattle.lines.specs.declared.read.End.{End}
 use Rattle.lines.specs.declared.read.End.the-variants.{Kept, BadLine}
 use Rattle.lines.specs.Bytes.{Bytes}
 use Rattle.lines.specs.Lines.{lines, busesOf}
-use Rattle.lines.specs.Reading.{most, first, run}
+use Rattle.lines.specs.Reading.{most, drops, first, run}
 use Rattle.lines.specs.Printing.{text, textOf, keptText}
-use Rattle.program_claims.specs.Inputs.{orNone, numbersOf, callsOf, firstLine, sizeOf, entryPart, making, calls, accountOf, IsKept, heldAfter}
+use Rattle.program_claims.specs.Inputs.{firstLine, sizeOf, entryCount, entryPart, dropPart, making, calls, accountOf, IsKept, heldAfter}
 use Rattle.program_claims.specs.Runs.{DropsAreCalls, ProgramClaims}
-use Rattle.program_claims.proofs.Calls.{at-end, endOf, heldOf, AsCalls, AsMade, AsInput, first-buses, f64s}
+use Rattle.program_claims.proofs.Calls.{at-end, endOf, heldOf, drops-calls, first-buses, f64s}
 
 -- a making of so many numbers is accepted
 made-of : (n : ℕ) (ys : List Float) → n ≤ most → length ys ≡ 2 * (n * n) → Made (makingOf n ys)
@@ -40,25 +41,58 @@ kept-text : (input : Bytes) → IsKept input → text (run input) ≡ keptText (
 unfolding text textOf heldAfter
 kept-text input h = ap (λ (e : End). textOf e (run input .reading .rec) (run input .numbers)) h
 
-drops-of : (input : Bytes) (ls : List Bytes) → lines input ≡ ls → IsKept input → DropsAreCalls input
-unfolding run sizeOf making calls heldAfter left
-drops-of input [] e h = absurd (at-end (BadLine 1) (unfold first in rw e at h))
-drops-of input (l ∷ ls) e h =
+-- entries and drops of the whole input
+pub record AsRead (input : Bytes) : Type 0 where
+  pub size : busesOf (firstLine input) ≡ Is (sizeOf input)
+  pub small : sizeOf input ≤ most
+  pub there : 1 + entryCount input ≤ length (lines input)
+  pub numbers : length (making input .given) ≡ 2 * entryCount input
+  pub place : ℕ
+  pub then : run input ≡ drops place (afterNew (making input) .rec) (making input .given) (dropPart input)
+
+as-read : (input : Bytes) (ls : List Bytes) → lines input ≡ ls → IsKept input → AsRead input
+unfolding run sizeOf making
+as-read input [] e h = absurd (at-end (BadLine 1) (unfold first in rw e at h))
+as-read input (l ∷ ls) e h =
     let a = first-buses l ls (rw e at h) in
-    let n = orNone (busesOf l) in
-    let m = a .made in
-    let c = m .calls in
-    let ends : heldAfter input ≡ left (making input) (calls input) = rw e (c .ends) in
     record {
       size = rw e (a .size);
-      made = rw e (made-of n (numbersOf (take (n * n) ls)) (a .small) (m .numbers));
-      all-lines = rw e (omega (arith, c .all-lines, m .there, length-drop (n * n) ls));
-      ends = ends;
-      prints = kept-text input h ∙ ap (λ (x : Held). keptText (x .rec) (x .slice)) ends;
+      small = rw e (a .small);
+      there = rw e (omega (arith, a .made .there));
+      numbers = rw e (a .made .numbers);
+      place = a .made .place;
+      then = rw e (a .made .then);
     }
 
-pub drops-are : (input : Bytes) → IsKept input → DropsAreCalls input
-drops-are input h = drops-of input (lines input) refl h
+module _ (input : Bytes) (h : IsKept input) where
+  abbrev given : AsRead input
+  given = as-read input (lines input) refl h
+
+  abbrev at-drops : endOf (drops (given .place) (afterNew (making input) .rec) (making input .given) (dropPart input)) ≡ Kept
+  at-drops = ap endOf (sym (given .then)) ∙ h
+
+  is-made : Made (making input)
+  unfolding making
+  is-made = made-of (sizeOf input) (making input .given) (given .small) (given .numbers)
+
+  ends : heldAfter input ≡ left (making input) (calls input)
+  unfolding heldAfter left calls
+  ends = ap heldOf (given .then) ∙ drops-calls (given .place) (afterNew (making input) .rec) (making input .given) (dropPart input) at-drops .ends
+
+  all-lines : 1 + entryCount input + length (calls input) ≡ length (lines input)
+  unfolding calls
+  all-lines = omega
+      (arith, drops-calls (given .place) (afterNew (making input) .rec) (making input .given) (dropPart input) at-drops .all-lines,
+      given .there, length-drop (entryCount input) (drop 1 (lines input)), length-drop 1 (lines input))
+
+  pub drops-are : DropsAreCalls input
+  drops-are = record {
+    size = given .size;
+    made = is-made;
+    all-lines = all-lines;
+    ends = ends;
+    prints = kept-text input h ∙ ap (λ (x : Held). keptText (x .rec) (x .slice)) ends;
+  }
 
 -- the record is that of the kept buses
 pub buses-are : (input : Bytes) → IsKept input → run input .reading .rec ≡ recordOf (sizeOf input) (kept (accountOf input))
