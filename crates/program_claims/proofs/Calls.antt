@@ -90,15 +90,14 @@ module _ (n k p : ℕ) (ys : List Float) (l : Bytes) (ls : List Bytes)
       endOf R ≡ Kept
       → (k ≤ length ls) × (length (parts w ++ numbersOf (take k ls)) ≡ 2 * suc k) × (at : ℕ) × (R ≡ drops at (afterNew (makingOf n zs) .rec) zs (drop k ls))
   entry (Words a b) h =
-      let c = rest (ys ++ (ofWord a ∷ ofWord b ∷ [])) h in
-      (
+      let c = rest (ys ++ (ofWord a ∷ ofWord b ∷ [])) h in (
         c .there,
         omega (arith, c .numbers),
         c .place,
         subst
-        (λ (zs : List Float). entries n k (p + 1) (ys ++ (ofWord a ∷ ofWord b ∷ [])) ls ≡ drops (c .place) (afterNew (makingOf n zs) .rec) zs (drop k ls))
-        (append-assoc ys (ofWord a ∷ ofWord b ∷ []) (numbersOf (take k ls)))
-        (c .then),
+            (λ (zs : List Float). entries n k (p + 1) (ys ++ (ofWord a ∷ ofWord b ∷ [])) ls ≡ drops (c .place) (afterNew (makingOf n zs) .rec) zs (drop k ls))
+            (append-assoc ys (ofWord a ∷ ofWord b ∷ []) (numbersOf (take k ls)))
+            (c .then),
       )
   entry NoEntry h = absurd (at-end (BadLine p) h)
 

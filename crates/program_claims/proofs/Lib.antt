@@ -1,3 +1,4 @@
 pub mod Calls
+pub mod Dropped
 pub mod Runs
 mod Witness

@@ -13,7 +13,7 @@ use Rattle.complex.specs.Values.{F64s}
 use Rattle.refusals.specs.Refusals.{limit, tooMany, wrongLength}
 use Rattle.kron_core.specs.declared.KronReducer.{KronReducer}
 use Rattle.kron_core.specs.Reducer.{Making, makingOf, makingRefusal, Made, recordOf, afterNew, Held, held, laid}
-use Rattle.claims.specs.Accounts.{left, fresh, stateOf, kept}
+use Rattle.claims.specs.Accounts.{leftFrom, left, fresh, accountFrom, stateOf, kept}
 use Rattle.claims.specs.Finite.{Finite}
 use Rattle.claims.specs.Removals.{Unchanged, Independent}
 use Rattle.claims.proofs.Bridge.{left-is, kept-state}
@@ -25,9 +25,10 @@ use Rattle.lines.specs.Bytes.{Bytes}
 use Rattle.lines.specs.Lines.{lines, busesOf}
 use Rattle.lines.specs.Reading.{most, drops, first, run}
 use Rattle.lines.specs.Printing.{text, textOf, keptText}
-use Rattle.program_claims.specs.Inputs.{firstLine, sizeOf, entryCount, entryPart, dropPart, making, calls, accountOf, IsKept, heldAfter}
+use Rattle.program_claims.specs.Inputs.{dropped, callsOf, firstLine, sizeOf, entryCount, entryPart, dropPart, making, calls, accountOf, IsKept, heldAfter}
 use Rattle.program_claims.specs.Runs.{DropsAreCalls, ProgramClaims}
 use Rattle.program_claims.proofs.Calls.{at-end, endOf, heldOf, drops-calls, first-buses, f64s}
+use Rattle.program_claims.proofs.Dropped.{drops-removed}
 
 -- a making of so many numbers is accepted
 made-of : (n : ℕ) (ys : List Float) → n ≤ most → length ys ≡ 2 * (n * n) → Made (makingOf n ys)
@@ -81,9 +82,13 @@ module _ (input : Bytes) (h : IsKept input) where
 
   all-lines : 1 + entryCount input + length (calls input) ≡ length (lines input)
   unfolding calls
-  all-lines = omega
-      (arith, drops-calls (given .place) (afterNew (making input) .rec) (making input .given) (dropPart input) at-drops .all-lines,
-      given .there, length-drop (entryCount input) (drop 1 (lines input)), length-drop 1 (lines input))
+  all-lines = omega (
+    arith,
+    drops-calls (given .place) (afterNew (making input) .rec) (making input .given) (dropPart input) at-drops .all-lines,
+    given .there,
+    length-drop (entryCount input) (drop 1 (lines input)),
+    length-drop 1 (lines input),
+  )
 
   pub drops-are : DropsAreCalls input
   drops-are = record {
@@ -93,6 +98,10 @@ module _ (input : Bytes) (h : IsKept input) where
     ends = ends;
     prints = kept-text input h ∙ ap (λ (x : Held). keptText (x .rec) (x .slice)) ends;
   }
+
+pub removed-are : (input : Bytes) → IsKept input → accountOf input .removed ≡ dropped (dropPart input)
+unfolding calls callsOf left leftFrom fresh accountFrom
+removed-are input h = drops-removed (making input) (is-made input h) (given input h .place) [] (dropPart input) (at-drops input h)
 
 -- the record is that of the kept buses
 pub buses-are : (input : Bytes) → IsKept input → run input .reading .rec ≡ recordOf (sizeOf input) (kept (accountOf input))
@@ -122,4 +131,4 @@ independent input input' h h' f f' =
 -- ---- all of them
 
 pub program-claims : ProgramClaims
-program-claims = record { drops = drops-are; buses = buses-are; unchanged = unchanged; independent = independent }
+program-claims = record { drops = drops-are; removed = removed-are; buses = buses-are; unchanged = unchanged; independent = independent }

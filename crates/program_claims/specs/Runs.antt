@@ -11,7 +11,7 @@ use Rattle.lines.specs.Bytes.{Bytes}
 use Rattle.lines.specs.Lines.{lines, busesOf}
 use Rattle.lines.specs.Reading.{run}
 use Rattle.lines.specs.Printing.{text, keptText}
-use Rattle.program_claims.specs.Inputs.{firstLine, sizeOf, entryCount, making, calls, accountOf, IsKept, heldAfter}
+use Rattle.program_claims.specs.Inputs.{firstLine, sizeOf, entryCount, dropped, dropPart, making, calls, accountOf, IsKept, heldAfter}
 
 -- of an input that is kept: the first line tells the buses; the making is accepted, so each line behind it that is due is an entry; each
 -- line behind those is a call; and what the run ends with, and prints, is what the calls leave
@@ -25,6 +25,8 @@ pub record DropsAreCalls (input : Bytes) : Type 0 where
 -- for every input that is kept
 pub record ProgramClaims : Type 0 where
   pub drops : (input : Bytes) → IsKept input → DropsAreCalls input
+  -- the buses removed are those of the drop lines, in order
+  pub removed : (input : Bytes) → IsKept input → accountOf input .removed ≡ dropped (dropPart input)
   -- the kept buses of the account are those printed, and give the rows and columns
   pub buses : (input : Bytes) → IsKept input → run input .reading .rec ≡ recordOf (sizeOf input) (kept (accountOf input))
   -- with finite numbers, an entry has its old value unless a chain joins its buses through dropped ones

@@ -1,0 +1,82 @@
+-- The buses removed in a run that is kept are those of its drop lines: no call is refused.
+-- Assumes nothing.
+use Prim.Native.Nat.{ℕ, zero, suc, _+_}
+use mathlib.Core.Path.{_≡_, refl, sym, ap, subst, _∙_}
+use mathlib.Core.Bool.{cond}
+use mathlib.Core.List.{List, [], _∷_, _++_, map, append-assoc, append-nil}
+use lib.Dec.{eqb}
+use Rattle.refusals.specs.declared.Outcome.{Outcome}
+use Rattle.refusals.specs.declared.Outcome.the-variants.{Done, Refused}
+use Rattle.refusals.specs.Refusals.{outcome}
+use Rattle.kron_core.specs.Kron.{State, refusal, taken}
+use Rattle.kron_core.specs.Reducer.{Making, Made, afterNew, afterBus, Held, held}
+use Rattle.claims.specs.Accounts.{Call, bus, stepHeld, leftFrom, left, Account, fresh, stateOf, removes, step, accountFrom, account}
+use Rattle.claims.proofs.Bridge.{answer-bus}
+use Rattle.lines.specs.declared.words.Number.{Number}
+use Rattle.lines.specs.declared.words.Number.the-variants.{Is, Not}
+use Rattle.lines.specs.declared.read.End.the-variants.{Kept, RefusedDrop, BadLine}
+use Rattle.lines.specs.Bytes.{Bytes}
+use Rattle.lines.specs.Lines.{dropOf}
+use Rattle.lines.specs.Reading.{Run, ended, onNumber, onOutcome, afterDrop, drops}
+use Rattle.program_claims.specs.Inputs.{busIn, dropped}
+use Rattle.program_claims.proofs.Calls.{at-end, endOf}
+
+-- ---- one call more
+
+left-more : (h : Held) (cs : List Call) (c : Call) → leftFrom h (cs ++ (c ∷ [])) ≡ stepHeld (leftFrom h cs) c
+unfolding leftFrom
+left-more h [] c = refl
+left-more h (d ∷ cs) c = left-more (stepHeld h d) cs c
+
+account-more : (a : Account) (cs : List Call) (c : Call) → accountFrom a (cs ++ (c ∷ [])) ≡ step (accountFrom a cs) c
+unfolding accountFrom
+account-more a [] c = refl
+account-more a (d ∷ cs) c = account-more (step a d) cs c
+
+-- a bus that is not refused is removed
+abbrev IsDone : Outcome → Type 0
+IsDone Done = Unit {0}
+IsDone (Refused f) = ⊥
+
+done-taken : (s : State) (k : ℕ) → outcome (refusal s k) ≡ Done → taken s (k ∷ []) ≡ k ∷ []
+unfolding taken
+done-taken s k e = go (refusal s k) (subst IsDone (sym e) tt)
+  where
+    go : (f : ℕ) → IsDone (outcome f) → cond (eqb f 0) (k ∷ []) [] ≡ k ∷ []
+    go zero d = refl
+    go (suc f) d = absurd (unfold outcome in d)
+
+-- ---- all drops
+
+module _ (M : Making) (made : Made M) where
+  abbrev Removes : List Call → List ℕ → Type 0
+  Removes cs ks = account M (cs ++ map bus ks) .removed ≡ account M cs .removed ++ ks
+
+  module _ (p : ℕ) (cs : List Call) (l : Bytes) (ls : List Bytes)
+      (rest : (k : ℕ) → let x = left M (cs ++ (bus k ∷ [])) in endOf (drops (p + 1) (x .rec) (x .slice) ls) ≡ Kept → Removes (cs ++ (bus k ∷ [])) (dropped ls)) where
+    abbrev x : Held
+    x = left M cs
+
+    one : (k : ℕ) → outcome (refusal (stateOf (account M cs)) k) ≡ Done → account M (cs ++ (bus k ∷ [])) .removed ≡ account M cs .removed ++ (k ∷ [])
+    unfolding step removes
+    one k e = ap (λ (a : Account). a .removed) (account-more (fresh M) cs (bus k)) ∙ ap (λ (ks : List ℕ). account M cs .removed ++ ks) (done-taken (stateOf (account M cs)) k e)
+
+    after : (k : ℕ) (o : Outcome) → afterBus (x .rec) (x .slice) k .out .answer ≡ o
+        → endOf (onOutcome o k (afterBus (x .rec) (x .slice) k .out .rec) (afterBus (x .rec) (x .slice) k .slice) (λ r ys. drops (p + 1) r ys ls)) ≡ Kept → Removes cs (k ∷ dropped ls)
+    unfolding left stepHeld
+    after k Done e h =
+        ap (λ (ds : List Call). account M ds .removed) (sym (append-assoc cs (bus k ∷ []) (map bus (dropped ls))))
+        ∙ rest k (subst (λ (y : Held). endOf (drops (p + 1) (y .rec) (y .slice) ls) ≡ Kept) (sym (left-more (held (afterNew M .rec) (M .given)) cs (bus k))) h)
+        ∙ ap (λ (ks : List ℕ). ks ++ dropped ls) (one k (sym (answer-bus M cs made k) ∙ e))
+        ∙ append-assoc (account M cs .removed) (k ∷ []) (dropped ls)
+    after k (Refused f) e h = absurd (at-end (RefusedDrop f k) h)
+
+    line : (w : Number) → endOf (onNumber w (λ k. afterDrop k (afterBus (x .rec) (x .slice) k) (λ r ys. drops (p + 1) r ys ls)) (ended (BadLine p) (x .rec) (x .slice))) ≡ Kept
+        → Removes cs (busIn w ++ dropped ls)
+    line (Is k) h = after k (afterBus (x .rec) (x .slice) k .out .answer) refl h
+    line Not h = absurd (at-end (BadLine p) h)
+
+  pub drops-removed : (p : ℕ) (cs : List Call) (ls : List Bytes) → endOf (drops p (left M cs .rec) (left M cs .slice) ls) ≡ Kept → Removes cs (dropped ls)
+  unfolding drops dropped
+  drops-removed p cs [] h = simp append-nil
+  drops-removed p cs (l ∷ ls) h = line p cs l ls (λ k. drops-removed (p + 1) (cs ++ (bus k ∷ [])) ls) (dropOf l) h
