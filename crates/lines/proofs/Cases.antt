@@ -10,8 +10,8 @@ use Rattle.refusals.specs.Refusals
 use Rattle.buses.specs.Buses
 use Rattle.kron_core.specs.Kron
 use Rattle.kron_core.specs.Reducer
-use Rattle.lines.specs.Bytes.{ascii}
-use Rattle.lines.specs.Words
+use Rattle.words.specs.Bytes.{ascii}
+use Rattle.words.specs.Words
 use Rattle.lines.specs.Lines
 use Rattle.lines.specs.Reading
 use Rattle.lines.specs.Printing

@@ -9,7 +9,7 @@ use native.Mathlib.Omega.{arith}
 use lib.Dec.{eqb}
 use lib.ListN.{length, take, drop, length-take}
 use lib.Seq.{take-take, take-nil}
-use Rattle.lines.specs.Bytes.{Bytes, lineFeed}
+use Rattle.words.specs.Bytes.{Bytes, lineFeed}
 use Rattle.lines.specs.Lines.{lines, span}
 use Rattle.lines.proofs.LineLaws.{span-le}
 use Rattle.lines.proofs.ReadLaws.{first-and-rest}

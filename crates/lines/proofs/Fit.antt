@@ -23,13 +23,13 @@ use Rattle.kron_core.specs.Reducer.{AfterBus, makingOf, makingRefusal, recordOf
 use Rattle.kron_core.proofs.States.{Regular, regular-start, regular-eliminate, taken-accepted}
 use Rattle.buses.proofs.Buses.{below-all, getD-in}
 use Rattle.kron_core.proofs.Reducer.{active-room, length-laid, laidOut-all, removable-laid, leaves-laid}
-use Rattle.lines.specs.declared.words.Number.{Number}
-use Rattle.lines.specs.declared.words.Number.the-variants.{Is, Not}
+use Rattle.words.specs.declared.Number.{Number}
+use Rattle.words.specs.declared.Number.the-variants.{Is, Not}
 use Rattle.lines.specs.declared.text.Entry.{Entry}
 use Rattle.lines.specs.declared.text.Entry.the-variants.{Words, NoEntry}
 use Rattle.lines.specs.declared.read.End.{End}
 use Rattle.lines.specs.declared.read.End.the-variants.{Kept, RefusedDrop, BadLine}
-use Rattle.lines.specs.Bytes.{Bytes, ascii}
+use Rattle.words.specs.Bytes.{Bytes, ascii}
 use Rattle.lines.specs.Lines.{lines, busesOf, dropOf, entryOf}
 use Rattle.lines.specs.Reading.{most, Run, ended, noReducer, ofWord, onNumber, onOutcome, onEntry, afterDrop, drops, entries, noBuses, first, run}
 
@@ -46,7 +46,7 @@ pub record Laid (n : ℕ) (r : KronReducer) (ys : List Float) : Type 0 where
   pub regular : Regular n state
   pub laid-is : held r ys ≡ laid n state
 
-making-accepted : (n : ℕ) (ys : List Float) → n ≤ most → length ys ≡ 2 * (n * n) → makingRefusal (makingOf n ys) ≡ 0
+pub making-accepted : (n : ℕ) (ys : List Float) → n ≤ most → length ys ≡ 2 * (n * n) → makingRefusal (makingOf n ys) ≡ 0
 unfolding makingRefusal
 making-accepted n ys h e = rw (le-ltb limit n (le-trans h most-limit), eq-eqb (length ys) (2 * (n * n)) e)
 

@@ -1,7 +1,5 @@
 mod Cases
-pub mod Writing
-pub mod WordLaws
-pub mod WordSizes
+pub mod NumberSizes
 pub mod LineLaws
 pub mod PrintLaws
 pub mod ReadLaws
@@ -10,4 +8,3 @@ pub mod Room
 pub mod ReduceLaws
 pub mod Cutting
 pub mod Prefix
-pub mod Bits

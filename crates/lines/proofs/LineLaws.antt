@@ -10,12 +10,12 @@ use lib.Dec.{eqb}
 use lib.ListN.{length, getD, take, drop, drop-of-length-le}
 use lib.Seq.{drop-cons, drop-length, drop-nil}
 use borrow.Author.Tests.{eq-eqb, ne-eqb}
-use Rattle.lines.specs.declared.words.Number.{Number}
-use Rattle.lines.specs.declared.words.Number.the-variants.{Is, Not}
+use Rattle.words.specs.declared.Number.{Number}
+use Rattle.words.specs.declared.Number.the-variants.{Is, Not}
 use Rattle.lines.specs.declared.text.Entry.{Entry}
 use Rattle.lines.specs.declared.text.Entry.the-variants.{Words, NoEntry}
-use Rattle.lines.specs.Bytes.{Bytes, lineFeed, space}
-use Rattle.lines.specs.Words.{decimalOf, hexOf}
+use Rattle.words.specs.Bytes.{Bytes, lineFeed, space}
+use Rattle.words.specs.Words.{decimalOf, hexOf}
 use Rattle.lines.specs.Lines.{inFront, lines, span, startsWith, numberAfter, both, entryOf}
 
 -- ---- the span of a line

@@ -25,19 +25,19 @@ use Rattle.kron_core.specs.Reducer.{makingOf, recordOf, refusalOf, afterNew, af
 use Rattle.buses.proofs.Buses.{below-all, others-one, place-lt}
 use Rattle.kron_core.proofs.States.{Regular, accepted-active, eliminate-active}
 use Rattle.kron_core.proofs.Reducer.{refusal-laid}
-use Rattle.lines.specs.declared.words.Number.{Number}
-use Rattle.lines.specs.declared.words.Number.the-variants.{Is, Not}
+use Rattle.words.specs.declared.Number.{Number}
+use Rattle.words.specs.declared.Number.the-variants.{Is, Not}
 use Rattle.lines.specs.declared.text.Entry.{Entry}
 use Rattle.lines.specs.declared.text.Entry.the-variants.{Words, NoEntry}
 use Rattle.lines.specs.declared.read.End.the-variants.{BadLine}
-use Rattle.lines.specs.Bytes.{Bytes, ascii}
+use Rattle.words.specs.Bytes.{Bytes, ascii}
 use Rattle.lines.specs.Lines.{lines, span, busesOf, dropOf, entryOf}
 use Rattle.lines.specs.Reading.{most, Run, ended, noReducer, ofWord, onNumber, onOutcome, onEntry, afterDrop, drops, entries, noBuses, first, run}
 use Rattle.lines.specs.Printing.{text}
 use Rattle.lines.specs.Reduce.{printed, inputLength}
 use Rattle.lines.proofs.LineLaws.{span-le, entry-length}
 use Rattle.lines.proofs.ReadLaws.{first-and-rest, entry-33}
-use Rattle.lines.proofs.WordSizes.{number-size, number-long}
+use Rattle.lines.proofs.NumberSizes.{number-size, number-long}
 use Rattle.lines.proofs.Cutting.{firstLine, behind, cut-same, Long, cut-long}
 use Rattle.lines.proofs.Fit.{Laid, laid-new, fresh, within, left-is, laid-bus}
 

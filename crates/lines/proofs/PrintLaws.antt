@@ -12,12 +12,12 @@ use lib.Ieee.{Float}
 use Rattle.complex.specs.declared.Complex.{Complex}
 use Rattle.complex.specs.Entries.{entry}
 use Rattle.kron_core.specs.declared.KronReducer.{KronReducer}
-use Rattle.lines.specs.Bytes.{Bytes, ascii}
-use Rattle.lines.specs.Words.{decimal, hex}
+use Rattle.words.specs.Bytes.{Bytes, ascii}
+use Rattle.words.specs.Words.{decimal, hex}
 use Rattle.lines.specs.Printing.{toWord, numberLine, busLines, entryLine, entryLines, keptText, refusedText}
-use Rattle.lines.specs.Writing.{Room, Wrote}
-use Rattle.lines.proofs.WordLaws.{length-hex}
-use Rattle.lines.proofs.Writing.{then}
+use Rattle.words.specs.Writing.{Room, Wrote}
+use Rattle.words.proofs.WordLaws.{length-hex}
+use Rattle.words.proofs.Writing.{then}
 
 pub length-number-line : (key : Bytes) (n : ℕ) → length (numberLine key n) ≡ length key + length (decimal n) + 1
 unfolding numberLine

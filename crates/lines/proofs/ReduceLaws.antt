@@ -14,8 +14,8 @@ use Rattle.buses.proofs.Fronts.{drop-replicate}
 use Rattle.lines.specs.declared.Answer.{Answer}
 use Rattle.lines.specs.declared.Answer.the-variants.{Written, Refused}
 use Rattle.lines.specs.declared.read.Reading.{Reading}
-use Rattle.lines.specs.Bytes.{Bytes}
-use Rattle.lines.specs.Writing.{written, Wrote}
+use Rattle.words.specs.Bytes.{Bytes}
+use Rattle.words.specs.Writing.{written, Wrote}
 use Rattle.lines.specs.Reading.{Run, run, RanIn}
 use Rattle.lines.specs.Printing.{Whole, textOf, text}
 use Rattle.lines.specs.Reduce.{printed, matrixLength, outputLength, AfterReduce, afterReduce}

@@ -16,12 +16,12 @@ use Rattle.complex.proofs.Entries.{entry-append-left}
 use Rattle.kron_core.specs.declared.KronReducer.{KronReducer}
 use Rattle.lines.specs.declared.read.End.{End}
 use Rattle.lines.specs.declared.read.End.the-variants.{Kept, RefusedDrop, BadLine}
-use Rattle.lines.specs.Bytes.{Bytes, ascii}
-use Rattle.lines.specs.Words.{places, decimal}
+use Rattle.words.specs.Bytes.{Bytes, ascii}
+use Rattle.words.specs.Words.{places, decimal}
 use Rattle.lines.specs.Reading.{most, Run}
 use Rattle.lines.specs.Printing.{numberLine, busLines, entryLine, entryLines, keptText, refusedText, badText, textOf, text}
 use Rattle.lines.specs.Reduce.{outputLength}
-use Rattle.lines.proofs.WordLaws.{places-stop, places-more, length-decimal}
+use Rattle.words.proofs.WordLaws.{places-stop, places-more, length-decimal}
 use Rattle.lines.proofs.PrintLaws.{length-number-line, length-refused, length-kept}
 use Rattle.lines.proofs.Fit.{Fit, FitRun}
 

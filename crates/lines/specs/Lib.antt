@@ -1,7 +1,4 @@
-pub mod Bytes
-pub mod Words
 pub mod Lines
 pub mod Reading
 pub mod Printing
 pub mod Reduce
-pub mod Writing

@@ -4,12 +4,12 @@ use mathlib.Core.Bool.{Bool, true, false, _&&_, cond}
 use mathlib.Core.List.{List, [], _∷_}
 use lib.Dec.{eqb}
 use lib.ListN.{length, getD, take, drop}
-use Rattle.lines.specs.declared.words.Number.{Number}
-use Rattle.lines.specs.declared.words.Number.the-variants.{Is, Not}
+use Rattle.words.specs.declared.Number.{Number}
+use Rattle.words.specs.declared.Number.the-variants.{Is, Not}
 use Rattle.lines.specs.declared.text.Entry.{Entry}
 use Rattle.lines.specs.declared.text.Entry.the-variants.{Words, NoEntry}
-use Rattle.lines.specs.Bytes.{Bytes, ascii, lineFeed, space}
-use Rattle.lines.specs.Words.{decimalOf, hexOf}
+use Rattle.words.specs.Bytes.{Bytes, ascii, lineFeed, space}
+use Rattle.words.specs.Words.{decimalOf, hexOf}
 
 -- ---- lines
 

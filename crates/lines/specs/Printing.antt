@@ -9,8 +9,8 @@ use Rattle.refusals.specs.Refusals.{limit}
 use Rattle.kron_core.specs.declared.KronReducer.{KronReducer}
 use Rattle.lines.specs.declared.read.End.{End}
 use Rattle.lines.specs.declared.read.End.the-variants.{Kept, RefusedDrop, BadLine}
-use Rattle.lines.specs.Bytes.{Bytes, ascii, lineFeed, space}
-use Rattle.lines.specs.Words.{decimal, hex}
+use Rattle.words.specs.Bytes.{Bytes, ascii, lineFeed, space}
+use Rattle.words.specs.Words.{decimal, hex}
 use Rattle.lines.specs.Reading.{Run}
 
 -- the bits of an f64, of a NaN 7ff8000000000000

@@ -9,7 +9,7 @@ use Rattle.complex.specs.Matrices.{zeros}
 use Rattle.refusals.specs.Refusals.{wrongLength}
 use Rattle.lines.specs.declared.Answer.{Answer}
 use Rattle.lines.specs.declared.Answer.the-variants.{Written, Refused}
-use Rattle.lines.specs.Bytes.{Bytes}
+use Rattle.words.specs.Bytes.{Bytes}
 use Rattle.lines.specs.Reading.{most, run}
 use Rattle.lines.specs.Printing.{text}
 

@@ -8,7 +8,6 @@ mod clear;
 pub mod print;
 pub mod read;
 mod text;
-mod words;
 
 // The most buses that `reduce` reads, and the lengths that follow from it: of the matrix slice, of the output, and of the
 // longest input that can matter.

@@ -1,7 +1,7 @@
 // Lines of a text, and the forms of a line.
-use crate::words::Number;
-use crate::words::decimal;
-use crate::words::hexadecimal;
+use words::Number;
+use words::decimal;
+use words::hexadecimal;
 ghost use mathlib.Core.Path.{_≡_};
 ghost use Prim.Native.Nat.{_+_, _≤_};
 ghost use lib.ListN.{length, drop};

@@ -16,13 +16,13 @@ use Rattle.refusals.specs.declared.Outcome.the-variants.{Done, Refused}
 use Rattle.kron_core.specs.declared.KronReducer.{KronReducer}
 use Rattle.kron_core.specs.Reducer.{makingOf, afterNew, afterBus, Held, held}
 use Rattle.claims.specs.Accounts.{Call, bus, stepHeld, leftFrom, left}
-use Rattle.lines.specs.declared.words.Number.{Number}
-use Rattle.lines.specs.declared.words.Number.the-variants.{Is, Not}
+use Rattle.words.specs.declared.Number.{Number}
+use Rattle.words.specs.declared.Number.the-variants.{Is, Not}
 use Rattle.lines.specs.declared.text.Entry.{Entry}
 use Rattle.lines.specs.declared.text.Entry.the-variants.{Words, NoEntry}
 use Rattle.lines.specs.declared.read.End.{End}
 use Rattle.lines.specs.declared.read.End.the-variants.{Kept, RefusedDrop, BadLine}
-use Rattle.lines.specs.Bytes.{Bytes}
+use Rattle.words.specs.Bytes.{Bytes}
 use Rattle.lines.specs.Lines.{lines, busesOf, dropOf, entryOf}
 use Rattle.lines.specs.Reading.{most, Run, ended, noReducer, ofWord, onNumber, onOutcome, onEntry, afterDrop, drops, entries, noBuses, first, run}
 use Rattle.program_claims.specs.Inputs.{parts, numbersOf, busIn, dropped, callsOf, orNone}

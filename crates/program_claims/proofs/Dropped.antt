@@ -12,10 +12,10 @@ use Rattle.kron_core.specs.Kron.{State, refusal, taken}
 use Rattle.kron_core.specs.Reducer.{Making, Made, afterNew, afterBus, Held, held}
 use Rattle.claims.specs.Accounts.{Call, bus, stepHeld, leftFrom, left, Account, fresh, stateOf, removes, step, accountFrom, account}
 use Rattle.claims.proofs.Bridge.{answer-bus}
-use Rattle.lines.specs.declared.words.Number.{Number}
-use Rattle.lines.specs.declared.words.Number.the-variants.{Is, Not}
+use Rattle.words.specs.declared.Number.{Number}
+use Rattle.words.specs.declared.Number.the-variants.{Is, Not}
 use Rattle.lines.specs.declared.read.End.the-variants.{Kept, RefusedDrop, BadLine}
-use Rattle.lines.specs.Bytes.{Bytes}
+use Rattle.words.specs.Bytes.{Bytes}
 use Rattle.lines.specs.Lines.{dropOf}
 use Rattle.lines.specs.Reading.{Run, ended, onNumber, onOutcome, afterDrop, drops}
 use Rattle.program_claims.specs.Inputs.{busIn, dropped}

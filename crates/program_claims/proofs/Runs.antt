@@ -8,7 +8,6 @@ use native.Mathlib.Omega.{arith}
 use lib.Dec.{T, eqb, leb, ltb, eqb-refl}
 use lib.ListN.{length, take, drop, length-drop}
 use lib.Ieee.{Float}
-use borrow.Author.Tests.{le-ltb, eq-eqb}
 use Rattle.complex.specs.Values.{F64s}
 use Rattle.refusals.specs.Refusals.{limit, tooMany, wrongLength}
 use Rattle.kron_core.specs.declared.KronReducer.{KronReducer}
@@ -18,22 +17,18 @@ use Rattle.claims.specs.Finite.{Finite}
 use Rattle.claims.specs.Removals.{Unchanged, Independent}
 use Rattle.claims.proofs.Bridge.{left-is, kept-state}
 use Rattle.claims.proofs.Demand3.{demand3}
-use Rattle.lines.specs.declared.words.Number.the-variants.{Is}
+use Rattle.words.specs.declared.Number.the-variants.{Is}
 use Rattle.lines.specs.declared.read.End.{End}
 use Rattle.lines.specs.declared.read.End.the-variants.{Kept, BadLine}
-use Rattle.lines.specs.Bytes.{Bytes}
+use Rattle.words.specs.Bytes.{Bytes}
 use Rattle.lines.specs.Lines.{lines, busesOf}
 use Rattle.lines.specs.Reading.{most, drops, first, run}
 use Rattle.lines.specs.Printing.{text, textOf, keptText}
+use Rattle.lines.proofs.Fit.{making-accepted}
 use Rattle.program_claims.specs.Inputs.{dropped, callsOf, firstLine, sizeOf, entryCount, entryPart, dropPart, making, calls, accountOf, IsKept, heldAfter}
 use Rattle.program_claims.specs.Runs.{DropsAreCalls, ProgramClaims}
 use Rattle.program_claims.proofs.Calls.{at-end, endOf, heldOf, drops-calls, first-buses, f64s}
 use Rattle.program_claims.proofs.Dropped.{drops-removed}
-
--- a making of so many numbers is accepted
-made-of : (n : ℕ) (ys : List Float) → n ≤ most → length ys ≡ 2 * (n * n) → Made (makingOf n ys)
-unfolding makingRefusal limit most
-made-of n ys h e = rw (le-ltb limit n h, eq-eqb (length ys) (2 * (n * n)) e) tt
 
 -- ---- one input
 
@@ -74,7 +69,7 @@ module _ (input : Bytes) (h : IsKept input) where
 
   is-made : Made (making input)
   unfolding making
-  is-made = made-of (sizeOf input) (making input .given) (given .small) (given .numbers)
+  is-made = rw (making-accepted (sizeOf input) (making input .given) (given .small) (given .numbers)) tt
 
   ends : heldAfter input ≡ left (making input) (calls input)
   unfolding heldAfter left calls

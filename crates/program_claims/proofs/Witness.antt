@@ -22,8 +22,8 @@ use Rattle.claims.specs.Accounts.{Call, bus, entry}
 use Rattle.claims.specs.Chains.{Linked, Chain}
 use Rattle.claims.specs.Finite.{words, ofAccount, Finite}
 use Rattle.claims.proofs.Book.{book-words, book}
-use Rattle.lines.specs.Bytes.{Bytes, ascii}
-use Rattle.lines.specs.Words
+use Rattle.words.specs.Bytes.{Bytes, ascii}
+use Rattle.words.specs.Words
 use Rattle.lines.specs.Lines
 use Rattle.lines.specs.Reading
 use Rattle.program_claims.specs.Inputs.{numbersOf, dropped, callsOf, sizeOf, making, calls, accountOf, IsKept, heldAfter}

@@ -6,12 +6,12 @@ use lib.ListN.{getD, take, drop}
 use lib.Ieee.{Float}
 use Rattle.kron_core.specs.Reducer.{Making, makingOf, Held, held}
 use Rattle.claims.specs.Accounts.{Call, bus, Account, account}
-use Rattle.lines.specs.declared.words.Number.{Number}
-use Rattle.lines.specs.declared.words.Number.the-variants.{Is, Not}
+use Rattle.words.specs.declared.Number.{Number}
+use Rattle.words.specs.declared.Number.the-variants.{Is, Not}
 use Rattle.lines.specs.declared.text.Entry.{Entry}
 use Rattle.lines.specs.declared.text.Entry.the-variants.{Words, NoEntry}
 use Rattle.lines.specs.declared.read.End.the-variants.{Kept}
-use Rattle.lines.specs.Bytes.{Bytes}
+use Rattle.words.specs.Bytes.{Bytes}
 use Rattle.lines.specs.Lines.{lines, busesOf, dropOf, entryOf}
 use Rattle.lines.specs.Reading.{ofWord, run}
 

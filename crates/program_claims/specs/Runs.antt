@@ -6,8 +6,8 @@ use Rattle.kron_core.specs.Reducer.{Made, recordOf}
 use Rattle.claims.specs.Accounts.{left, kept}
 use Rattle.claims.specs.Finite.{Finite}
 use Rattle.claims.specs.Removals.{Unchanged, Independent}
-use Rattle.lines.specs.declared.words.Number.the-variants.{Is}
-use Rattle.lines.specs.Bytes.{Bytes}
+use Rattle.words.specs.declared.Number.the-variants.{Is}
+use Rattle.words.specs.Bytes.{Bytes}
 use Rattle.lines.specs.Lines.{lines, busesOf}
 use Rattle.lines.specs.Reading.{run}
 use Rattle.lines.specs.Printing.{text, keptText}

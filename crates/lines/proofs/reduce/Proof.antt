@@ -8,8 +8,8 @@ use native.Mathlib.Nat.{zero-add}
 use lib.ListN.{length, replicate, length-replicate}
 use Rattle.complex.specs.Matrices.{zeros}
 use Rattle.lines.specs.declared.Answer.the-variants.{Written}
-use Rattle.lines.specs.Bytes.{Bytes}
-use Rattle.lines.specs.Writing.{Room, written, Wrote}
+use Rattle.words.specs.Bytes.{Bytes}
+use Rattle.words.specs.Writing.{Room, written, Wrote}
 use Rattle.lines.specs.Reading.{most}
 use Rattle.lines.specs.Reduce.{printed, matrixLength, outputLength, AfterReduce}
 use Rattle.lines.proofs.ReduceLaws.{after-output, after-matrix, after-both, whole-is, text-is, printed-room, on-cleared}

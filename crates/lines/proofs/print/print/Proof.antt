@@ -2,7 +2,7 @@
 -- Assumes nothing.
 use mathlib.Core.Path.{_≡_, sym, ap, subst}
 use Rattle.lines.specs.declared.read.End.{End}
-use Rattle.lines.specs.Writing.{Room, Wrote}
+use Rattle.words.specs.Writing.{Room, Wrote}
 use Rattle.lines.specs.Printing.{textOf, badText}
 use borrow.Author.Needs.{needs}
 use Rattle.lines.proofs.print.print.Statement.{statement}

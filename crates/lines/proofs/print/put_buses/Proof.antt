@@ -5,9 +5,9 @@ use mathlib.Core.Path.{_≡_, refl, _∙_}
 use native.Mathlib.Omega.{arith}
 use lib.ListN.{length}
 use borrow.Author.Needs.{needs, scaled-fits}
-use Rattle.lines.specs.Writing.{Wrote}
+use Rattle.words.specs.Writing.{Wrote}
 use Rattle.lines.specs.Printing.{busLines}
-use Rattle.lines.proofs.Writing.{nothing}
+use Rattle.words.proofs.Writing.{nothing}
 use Rattle.lines.proofs.PrintLaws.{bus-room, bus-more}
 use Rattle.lines.proofs.print.put_buses.Statement.{statement}
 use Rattle.lines.proofs.print.put_buses.Tie as tie

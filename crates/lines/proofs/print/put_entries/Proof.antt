@@ -4,9 +4,9 @@ use Prim.Native.Nat.{_-_, _≤_}
 use mathlib.Core.Path.{_≡_, refl, _∙_}
 use native.Mathlib.Omega.{arith}
 use lib.ListN.{length}
-use Rattle.lines.specs.Writing.{Wrote}
+use Rattle.words.specs.Writing.{Wrote}
 use Rattle.lines.specs.Printing.{entryLine, entryLines}
-use Rattle.lines.proofs.Writing.{nothing}
+use Rattle.words.proofs.Writing.{nothing}
 use Rattle.lines.proofs.PrintLaws.{entry-room, entry-more}
 use Rattle.lines.proofs.print.put_entries.Statement.{statement}
 use Rattle.lines.proofs.print.put_entries.Tie as tie

@@ -6,10 +6,10 @@ use mathlib.Core.List.{_∷_, [], _++_}
 use native.Mathlib.Omega.{arith}
 use lib.ListN.{length, length-append}
 use borrow.Author.Needs.{needs}
-use Rattle.lines.specs.Words.{hex}
+use Rattle.words.specs.Words.{hex}
 use Rattle.lines.specs.Printing.{toWord, entryLine}
-use Rattle.lines.proofs.Writing.{then₄}
-use Rattle.lines.proofs.WordLaws.{length-hex}
+use Rattle.words.proofs.Writing.{then₄}
+use Rattle.words.proofs.WordLaws.{length-hex}
 use Rattle.lines.proofs.PrintLaws.{length-entry-line}
 use Rattle.lines.proofs.print.put_entry.Statement.{statement}
 use Rattle.lines.proofs.print.put_entry.Tie as tie

@@ -6,7 +6,7 @@ use native.Mathlib.Omega.{arith}
 use lib.ListN.{length}
 use Rattle.refusals.specs.Refusals.{limit}
 use Rattle.lines.specs.Printing.{keptText}
-use Rattle.lines.proofs.Writing.{then₃}
+use Rattle.words.proofs.Writing.{then₃}
 use Rattle.lines.proofs.PrintLaws.{length-kept, length-entry-lines}
 use borrow.Author.Needs.{needs}
 use Rattle.lines.proofs.print.put_kept.Statement.{statement}

@@ -3,7 +3,7 @@
 use mathlib.Core.Path.{_∙_}
 use native.Mathlib.Omega.{arith}
 use Rattle.lines.specs.Printing.{numberLine}
-use Rattle.lines.proofs.Writing.{then₃}
+use Rattle.words.proofs.Writing.{then₃}
 use Rattle.lines.proofs.PrintLaws.{length-number-line}
 use Rattle.lines.proofs.print.put_line.Statement.{statement}
 use Rattle.lines.proofs.print.put_line.Tie as tie

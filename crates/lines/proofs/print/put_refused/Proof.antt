@@ -4,7 +4,7 @@ use mathlib.Core.List.{_∷_, []}
 use native.Mathlib.Omega.{arith}
 use borrow.Author.Needs.{needs}
 use Rattle.lines.specs.Printing.{refusedText}
-use Rattle.lines.proofs.Writing.{then₃}
+use Rattle.words.proofs.Writing.{then₃}
 use Rattle.lines.proofs.PrintLaws.{length-number-line, length-refused}
 use Rattle.lines.proofs.print.put_refused.Statement.{statement}
 use Rattle.lines.proofs.print.put_refused.Tie as tie

@@ -4,7 +4,7 @@ use Prim.Native.Nat.{ℕ, _-_}
 use mathlib.Core.Path.{_≡_, sym, ap, _∙_}
 use native.Mathlib.Omega.{arith}
 use lib.ListN.{length, take, drop, length-drop, drop-of-length-le}
-use Rattle.lines.specs.Bytes.{Bytes}
+use Rattle.words.specs.Bytes.{Bytes}
 use Rattle.lines.specs.Lines.{span, lineAt, entryOf}
 use Rattle.lines.proofs.LineLaws.{span-le}
 use Rattle.lines.proofs.ReadLaws.{entry-over, part-is}

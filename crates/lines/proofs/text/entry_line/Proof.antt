@@ -5,10 +5,10 @@ use mathlib.Core.Path.{_≡_, sym, ap, _∙_}
 use native.Mathlib.Omega.{arith}
 use lib.ListN.{length, take, drop, length-drop}
 use lib.Seq.{take-all}
-use Rattle.lines.specs.declared.words.Number.{Number}
-use Rattle.lines.specs.declared.words.Number.the-variants.{Is}
-use Rattle.lines.specs.Bytes.{Bytes}
-use Rattle.lines.specs.Words.{hexOf}
+use Rattle.words.specs.declared.Number.{Number}
+use Rattle.words.specs.declared.Number.the-variants.{Is}
+use Rattle.words.specs.Bytes.{Bytes}
+use Rattle.words.specs.Words.{hexOf}
 use Rattle.lines.specs.Lines.{both}
 use Rattle.lines.proofs.LineLaws.{entry-length, entry-space, entry-both}
 use borrow.Author.Needs.{needs}

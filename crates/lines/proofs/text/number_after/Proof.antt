@@ -6,7 +6,7 @@ use native.Mathlib.Omega.{arith}
 use lib.ListN.{length, take, drop, length-drop}
 use lib.Seq.{take-all}
 use borrow.Author.Tests.{not-true, not-false}
-use Rattle.lines.specs.Words.{decimalOf}
+use Rattle.words.specs.Words.{decimalOf}
 use Rattle.lines.proofs.LineLaws.{starts-length, number-no, number-yes}
 use borrow.Author.Needs.{needs}
 use Rattle.lines.proofs.text.number_after.Statement.{statement}

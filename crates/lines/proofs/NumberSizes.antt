@@ -1,0 +1,39 @@
+-- How long a line with a keyword and a number can be: a line of 34 bytes says no number.
+-- Assumes nothing.
+use Prim.Native.Nat.{ℕ, _+_, _^_, _≤_, _<_}
+use mathlib.Core.Path.{_≡_, refl, sym, _∙_}
+use mathlib.Core.Bool.{Bool, true, false}
+use native.Mathlib.Nat.{le-trans}
+use native.Mathlib.Omega.{arith}
+use lib.Dec.{lit≤}
+use lib.ListN.{length, drop, length-drop}
+use Rattle.words.specs.declared.Number.{Number}
+use Rattle.words.specs.declared.Number.the-variants.{Is, Not}
+use Rattle.words.specs.Bytes.{Bytes}
+use Rattle.words.proofs.WordSizes.{not-is, decimal-size, decimal-below}
+use Rattle.lines.specs.Lines.{startsWith, numberAfter}
+use Rattle.lines.proofs.LineLaws.{starts-length, number-no, number-yes}
+
+pub number-size : (key l : Bytes) (k j : ℕ) → numberAfter key l ≡ Is k → k < 10 ^ j → 1 ≤ j → length l ≤ length key + j
+number-size key l k j e h o = go (startsWith key l) refl
+  where
+    go : (t : Bool) → startsWith key l ≡ t → length l ≤ length key + j
+    go true p =
+        omega (arith, decimal-size (drop (length key) l) k j (sym (number-yes key l p) ∙ e) h o, length-drop (length key) l, starts-length key l p)
+    go false p = absurd (not-is (sym (number-no key l p) ∙ e))
+
+pub number-below : (key l : Bytes) (k : ℕ) → numberAfter key l ≡ Is k → k < 2 ^ 32
+number-below key l k e = go (startsWith key l) refl
+  where
+    go : (t : Bool) → startsWith key l ≡ t → k < 2 ^ 32
+    go true p = decimal-below (drop (length key) l) k (sym (number-yes key l p) ∙ e)
+    go false p = absurd (not-is (sym (number-no key l p) ∙ e))
+
+pub number-long : (key l : Bytes) → length key ≤ 6 → 34 ≤ length l → numberAfter key l ≡ Not
+number-long key l a b = go (numberAfter key l) refl
+  where
+    go : (w : Number) → numberAfter key l ≡ w → w ≡ Not
+    go (Is k) e =
+        let s : length l ≤ length key + 10 = number-size key l k 10 e (le-trans (number-below key l k e) (lit≤ tt)) (lit≤ tt) in
+        absurd (omega arith)
+    go Not e = refl

@@ -1,0 +1,4 @@
+pub mod Writing
+pub mod WordLaws
+pub mod WordSizes
+pub mod Bits

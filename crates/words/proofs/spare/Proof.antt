@@ -1,0 +1,27 @@
+-- `words::spare` meets its contract.
+-- Assumes nothing.
+use mathlib.Core.Path.{_≡_, refl, sym}
+use mathlib.Core.List.{List, [], _∷_}
+use Prim.Native.Nat.{ℕ, _<_}
+use lib.Dec.{eqb}
+use lib.ListN.{length, getD}
+use borrow.Author.Needs.{needs}
+use Rattle.words.specs.Words.{spare}
+use Rattle.words.proofs.WordLaws.{spare-none, spare-one, spare-more}
+use Rattle.words.proofs.spare.Statement.{statement}
+use Rattle.words.proofs.spare.Tie as tie
+
+returns : tie.Need-returns
+returns c = sym (spare-none _ (c .if1 .taken))
+
+returns-2 : tie.Need-returns-2
+returns-2 c = sym (spare-one _ (c .if2 .taken))
+
+shared-slice-read-result : tie.Need-shared-slice-read-result
+shared-slice-read-result c = search needs
+
+returns-3 : tie.Need-returns-3
+returns-3 c = sym (spare-more _ (c .before .before .if1 .left) (c .before .if2 .left))
+
+pub spare-spec : {M : Type 1} → statement M
+spare-spec = tie.close (tie.spec returns returns-2 shared-slice-read-result returns-3)

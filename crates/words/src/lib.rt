@@ -1,0 +1,111 @@
+// Words: decimal numbers and hexadecimal words, read here and written in `print`.
+ghost use mathlib.Core.Path.{_≡_};
+ghost use lib.Ieee.{binary64, ofBits, toBits};
+ghost use Rattle.words.specs.Words as spec;
+
+pub mod print;
+
+// What a word says: a number, or not one.
+pub enum Number {
+    Is(u64),
+    Not,
+}
+
+// A byte's value as a digit of either case, and 16 where it is none.
+pub fn digit(b: u8) -> u64
+    ensures { λ r. ⌜ r ≡ spec.digit b ⌝ }
+{
+    if b < 48 {
+        return 16;
+    }
+    if b <= 57 {
+        return b as u64 - 48;
+    }
+    if b < 65 {
+        return 16;
+    }
+    if b <= 70 {
+        return b as u64 - 55;
+    }
+    if b < 97 {
+        return 16;
+    }
+    if b <= 102 {
+        return b as u64 - 87;
+    }
+    16
+}
+
+// A word of no digit, or with a 0 before other digits.
+pub fn spare(word: &[u8]) -> bool
+    ensures { λ r. ⌜ r ≡ spec.spare (now (word .entry)) ⌝ }
+{
+    if word.len() == 0 {
+        return true;
+    }
+    if word.len() == 1 {
+        return false;
+    }
+    word[0] == 48
+}
+
+pub fn decimal(word: &[u8]) -> Number
+    ensures { λ r. ⌜ r ≡ spec.decimalOf (now (word .entry)) ⌝ }
+{
+    if spare(word) {
+        return Number::Not;
+    }
+    let mut v: u64 = 0;
+    let mut i = 0;
+    while i < word.len() {
+        let d = digit(word[i]);
+        if d >= 10 {
+            return Number::Not;
+        }
+        v = 10 * v + d;
+        if v >= 0x1_0000_0000 {
+            return Number::Not;
+        }
+        i += 1;
+    }
+    Number::Is(v)
+}
+
+pub fn hexadecimal(word: &[u8]) -> Number
+    ensures { λ r. ⌜ r ≡ spec.hexOf (now (word .entry)) ⌝ }
+{
+    if word.len() != 16 {
+        return Number::Not;
+    }
+    let mut v: u64 = 0;
+    let mut i = 0;
+    while i < word.len() {
+        let d = digit(word[i]);
+        if d >= 16 {
+            return Number::Not;
+        }
+        v = 16 * v + d;
+        i += 1;
+    }
+    Number::Is(v)
+}
+
+// The f64 with these bits. from_bits is not defined at a NaN's bits, so those are told apart first.
+pub fn number_of(w: u64) -> f64
+    ensures { λ r. ⌜ r ≡ ofBits binary64 w ⌝ }
+{
+    if w % 0x8000_0000_0000_0000 > 0x7ff0_0000_0000_0000 {
+        return 0.0 / 0.0;
+    }
+    f64::from_bits(w)
+}
+
+// The bits of an f64, of a NaN 7ff8000000000000.
+pub fn word_of(x: f64) -> u64
+    ensures { λ r. ⌜ r ≡ toBits binary64 x ⌝ }
+{
+    if x != x {
+        return 0x7ff8_0000_0000_0000;
+    }
+    f64::to_bits(x)
+}
