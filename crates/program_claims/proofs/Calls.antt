@@ -1,12 +1,12 @@
 -- The drops of a run that is kept are the calls, and its entries the matrix of the making.
 -- Assumes nothing.
 use Prim.Native.Nat.{ℕ, zero, suc, _+_, _*_, _≤_}
-use mathlib.Core.Path.{_≡_, refl, sym, ap, subst, _∙_}
+use mathlib.Core.Path.{_≡_, refl, sym, ap, subst}
 use mathlib.Core.Bool.{Bool, true, false, cond}
 use mathlib.Core.List.{List, [], _∷_, _++_, map, append-assoc, append-nil}
 use native.Mathlib.Omega.{arith}
 use lib.Dec.{T, leb, leb→le}
-use lib.ListN.{length, take, drop, length-append}
+use lib.ListN.{length, take, drop}
 use lib.Ieee.{Float, binary64}
 use lib.Ieee.Fits.{nan-fits}
 use lib.Ieee.Bits.{ofBits-fits}
@@ -15,7 +15,7 @@ use Rattle.refusals.specs.declared.Outcome.{Outcome}
 use Rattle.refusals.specs.declared.Outcome.the-variants.{Done, Refused}
 use Rattle.kron_core.specs.declared.KronReducer.{KronReducer}
 use Rattle.kron_core.specs.Reducer.{makingOf, afterNew, afterBus, Held, held}
-use Rattle.claims.specs.Accounts.{Call, bus, stepHeld, leftFrom, left}
+use Rattle.claims.specs.Accounts.{bus, stepHeld, leftFrom}
 use Rattle.words.specs.declared.Number.{Number}
 use Rattle.words.specs.declared.Number.the-variants.{Is, Not}
 use Rattle.lines.specs.declared.text.Entry.{Entry}
@@ -23,8 +23,8 @@ use Rattle.lines.specs.declared.text.Entry.the-variants.{Words, NoEntry}
 use Rattle.lines.specs.declared.read.End.{End}
 use Rattle.lines.specs.declared.read.End.the-variants.{Kept, RefusedDrop, BadLine}
 use Rattle.words.specs.Bytes.{Bytes}
-use Rattle.lines.specs.Lines.{lines, busesOf, dropOf, entryOf}
-use Rattle.lines.specs.Reading.{most, Run, ended, noReducer, ofWord, onNumber, onOutcome, onEntry, afterDrop, drops, entries, noBuses, first, run}
+use Rattle.lines.specs.Lines.{busesOf, dropOf, entryOf}
+use Rattle.lines.specs.Reading.{most, Run, ended, noReducer, ofWord, onNumber, onOutcome, onEntry, afterDrop, drops, entries, noBuses, first}
 use Rattle.program_claims.specs.Inputs.{parts, numbersOf, busIn, dropped, callsOf, orNone}
 
 -- ---- a run that ended otherwise is not kept

@@ -17,7 +17,7 @@ use Rattle.words.specs.declared.Number.the-variants.{Is, Not}
 use Rattle.lines.specs.declared.read.End.the-variants.{Kept, RefusedDrop, BadLine}
 use Rattle.words.specs.Bytes.{Bytes}
 use Rattle.lines.specs.Lines.{dropOf}
-use Rattle.lines.specs.Reading.{Run, ended, onNumber, onOutcome, afterDrop, drops}
+use Rattle.lines.specs.Reading.{ended, onNumber, onOutcome, afterDrop, drops}
 use Rattle.program_claims.specs.Inputs.{busIn, dropped}
 use Rattle.program_claims.proofs.Calls.{at-end, endOf}
 

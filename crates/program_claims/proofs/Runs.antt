@@ -1,18 +1,14 @@
 -- The claims on runs, from the law of the drops and demand 3.
 -- Assumes nothing.
-use Prim.Native.Nat.{ℕ, suc, _+_, _*_, _≤_}
+use Prim.Native.Nat.{ℕ, _+_, _*_, _≤_}
 use mathlib.Core.Path.{_≡_, refl, sym, ap, subst, subst₂, _∙_}
-use mathlib.Core.Bool.{Bool, true, false, not, cond}
-use mathlib.Core.List.{List, [], _∷_, _++_}
+use mathlib.Core.List.{List, [], _∷_}
 use native.Mathlib.Omega.{arith}
-use lib.Dec.{T, eqb, leb, ltb, eqb-refl}
-use lib.ListN.{length, take, drop, length-drop}
-use lib.Ieee.{Float}
+use lib.ListN.{length, drop, length-drop}
 use Rattle.complex.specs.Values.{F64s}
-use Rattle.refusals.specs.Refusals.{limit, tooMany, wrongLength}
 use Rattle.kron_core.specs.declared.KronReducer.{KronReducer}
-use Rattle.kron_core.specs.Reducer.{Making, makingOf, makingRefusal, Made, recordOf, afterNew, Held, held, laid}
-use Rattle.claims.specs.Accounts.{leftFrom, left, fresh, accountFrom, stateOf, kept}
+use Rattle.kron_core.specs.Reducer.{Made, recordOf, afterNew, Held, laid}
+use Rattle.claims.specs.Accounts.{leftFrom, left, fresh, accountFrom, kept}
 use Rattle.claims.specs.Finite.{Finite}
 use Rattle.claims.specs.Removals.{Unchanged, Independent}
 use Rattle.claims.proofs.Bridge.{left-is, kept-state}
@@ -24,6 +20,7 @@ use Rattle.words.specs.Bytes.{Bytes}
 use Rattle.lines.specs.Lines.{lines, busesOf}
 use Rattle.lines.specs.Reading.{most, drops, first, run}
 use Rattle.lines.specs.Printing.{text, textOf, keptText}
+use Rattle.lines.specs.Reduce.{printed}
 use Rattle.lines.proofs.Fit.{making-accepted}
 use Rattle.program_claims.specs.Inputs.{dropped, callsOf, firstLine, sizeOf, entryCount, entryPart, dropPart, making, calls, accountOf, IsKept, heldAfter}
 use Rattle.program_claims.specs.Runs.{DropsAreCalls, ProgramClaims}
@@ -33,8 +30,8 @@ use Rattle.program_claims.proofs.Dropped.{drops-removed}
 -- ---- one input
 
 -- what is printed of a run that is kept
-kept-text : (input : Bytes) → IsKept input → text (run input) ≡ keptText (heldAfter input .rec) (heldAfter input .slice)
-unfolding text textOf heldAfter
+kept-text : (input : Bytes) → IsKept input → printed input ≡ keptText (heldAfter input .rec) (heldAfter input .slice)
+unfolding printed text textOf heldAfter
 kept-text input h = ap (λ (e : End). textOf e (run input .reading .rec) (run input .numbers)) h
 
 -- entries and drops of the whole input
@@ -106,6 +103,10 @@ buses-are input h =
     ap (λ (x : Held). x .rec) (d .ends ∙ left-is (making input) (calls input) (d .made))
     ∙ unfold making in ap (recordOf (sizeOf input)) (kept-state (accountOf input))
 
+pub prints : (input : Bytes) → IsKept input → printed input ≡ keptText (recordOf (sizeOf input) (kept (accountOf input))) (run input .numbers)
+unfolding heldAfter
+prints input h = kept-text input h ∙ ap (λ (r : KronReducer). keptText r (run input .numbers)) (buses-are input h)
+
 given-f64s : (input : Bytes) → F64s (making input .given)
 unfolding making
 given-f64s input = f64s (entryPart input)
@@ -126,4 +127,4 @@ independent input input' h h' f f' =
 -- ---- all of them
 
 pub program-claims : ProgramClaims
-program-claims = record { drops = drops-are; removed = removed-are; buses = buses-are; unchanged = unchanged; independent = independent }
+program-claims = record { drops = drops-are; removed = removed-are; buses = buses-are; prints = prints; unchanged = unchanged; independent = independent }

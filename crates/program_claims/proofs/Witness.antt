@@ -3,7 +3,7 @@
 use Prim.Native.Nat.{ℕ}
 use mathlib.Core.Path.{_≡_, refl, subst}
 use mathlib.Core.Logic.{inl, inr}
-use mathlib.Core.List.{List, [], _∷_}
+use mathlib.Core.List.{[], _∷_}
 use lib.Dec.{lit<}
 use lib.Ieee
 use Rattle.complex.specs.Constants
@@ -18,7 +18,7 @@ use Rattle.buses.proofs.Buses.{in-cases}
 use Rattle.kron_core.specs.Kron
 use Rattle.kron_core.specs.Reducer
 use Rattle.claims.specs.Accounts
-use Rattle.claims.specs.Accounts.{Call, bus, entry}
+use Rattle.claims.specs.Accounts.{bus, entry}
 use Rattle.claims.specs.Chains.{Linked, Chain}
 use Rattle.claims.specs.Finite.{words, ofAccount, Finite}
 use Rattle.claims.proofs.Book.{book-words, book}

@@ -1,5 +1,5 @@
 -- What demand 3 says of the program `reduce`: its drops are a list of calls, and the claims on lists of calls hold of what it prints.
-use Prim.Native.Nat.{ℕ, _+_}
+use Prim.Native.Nat.{_+_}
 use mathlib.Core.Path.{_≡_}
 use lib.ListN.{length}
 use Rattle.kron_core.specs.Reducer.{Made, recordOf}
@@ -10,7 +10,8 @@ use Rattle.words.specs.declared.Number.the-variants.{Is}
 use Rattle.words.specs.Bytes.{Bytes}
 use Rattle.lines.specs.Lines.{lines, busesOf}
 use Rattle.lines.specs.Reading.{run}
-use Rattle.lines.specs.Printing.{text, keptText}
+use Rattle.lines.specs.Printing.{keptText}
+use Rattle.lines.specs.Reduce.{printed}
 use Rattle.program_claims.specs.Inputs.{firstLine, sizeOf, entryCount, dropped, dropPart, making, calls, accountOf, IsKept, heldAfter}
 
 -- of an input that is kept: the first line tells the buses; the making is accepted, so each line behind it that is due is an entry; each
@@ -20,15 +21,16 @@ pub record DropsAreCalls (input : Bytes) : Type 0 where
   pub made : Made (making input)
   pub all-lines : 1 + entryCount input + length (calls input) ≡ length (lines input)
   pub ends : heldAfter input ≡ left (making input) (calls input)
-  pub prints : text (run input) ≡ keptText (left (making input) (calls input) .rec) (left (making input) (calls input) .slice)
+  pub prints : printed input ≡ keptText (left (making input) (calls input) .rec) (left (making input) (calls input) .slice)
 
 -- for every input that is kept
 pub record ProgramClaims : Type 0 where
   pub drops : (input : Bytes) → IsKept input → DropsAreCalls input
   -- the buses removed are those of the drop lines, in order
   pub removed : (input : Bytes) → IsKept input → accountOf input .removed ≡ dropped (dropPart input)
-  -- the kept buses of the account are those printed, and give the rows and columns
+  -- the kept buses of the account give the rows and columns, and are printed with the numbers of the run
   pub buses : (input : Bytes) → IsKept input → run input .reading .rec ≡ recordOf (sizeOf input) (kept (accountOf input))
+  pub prints : (input : Bytes) → IsKept input → printed input ≡ keptText (recordOf (sizeOf input) (kept (accountOf input))) (run input .numbers)
   -- with finite numbers, an entry has its old value unless a chain joins its buses through dropped ones
   pub unchanged : (input : Bytes) → IsKept input → Finite (making input) (calls input) → Unchanged (accountOf input) (heldAfter input)
   -- two inputs that differ in the rows and columns of a group of dropped buses: no entry differs without a chain into the group and one out of it
