@@ -7,6 +7,4 @@ pub mod Computed
 pub mod Locality
 pub mod Bridge
 pub mod Demand3
-pub mod Book
 pub mod Witnesses
-mod BookImpedance

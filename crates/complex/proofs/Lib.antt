@@ -5,4 +5,4 @@ pub mod Matrices
 pub mod Finite
 pub mod SameValue
 pub mod Squares
-mod Book
+mod RootCases

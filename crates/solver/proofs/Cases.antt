@@ -1,4 +1,4 @@
--- Small systems computed from the definitions that the contracts cite: case 12 of the two-bus book whole, a singular one, and wrong lengths.
+-- Small systems computed from the definitions that the contracts cite: a singular one, an inverse, and wrong lengths.
 -- Assumes nothing.
 use mathlib.Core.Path.{_≡_, refl}
 use mathlib.Core.List.{List, [], _∷_}
@@ -8,7 +8,7 @@ use Rattle.complex.specs.Arithmetic.{csub, cmul, sqmag, cdiv, complexInv}
 use Rattle.complex.specs.Magnitude.{abs}
 use Rattle.complex.specs.Entries.{entry}
 use Rattle.complex.specs.Matrices.{upTo, entryAt, row, rows, grid, zeros}
-use Rattle.refusals.specs.declared.Outcome.the-variants.{Done, Refused}
+use Rattle.refusals.specs.declared.Outcome.the-variants.{Refused}
 use Rattle.refusals.specs.Refusals.{limit, outcome, wrongLength, noSystem, smallPivot}
 use Rattle.gauss_jordan.specs.GaussJordan.{stays, tooSmall, heldAfter, pivotRow, swapped, scaled, reduced, pivoted, cleared, runFrom, run, beside, solution, singularSystem}
 use Rattle.gauss_jordan.specs.Solving.{skipped, unitColumn}
@@ -29,12 +29,6 @@ p2 = ofBits binary64 0x4000000000000000
 
 abbrev half : Float
 half = ofBits binary64 0x3fe0000000000000
-
--- 12: 1, 1 / -1, 1 with 2, 0 gives 1, 1. The first column's pivots are tied.
-case-12 : afterSolve 2 (p1 ∷ o ∷ p1 ∷ o ∷ m1 ∷ o ∷ p1 ∷ o ∷ []) (p2 ∷ o ∷ o ∷ o ∷ []) (zeros 4) (zeros 12)
-    ≡ record { answer = Done; output = p1 ∷ o ∷ p1 ∷ o ∷ []; work = zeros 12 }
-unfolding plus0 one tiny csub cmul sqmag cdiv complexInv abs entry upTo entryAt row rows grid zeros limit outcome stays tooSmall heldAfter pivotRow swapped scaled reduced pivoted cleared runFrom run beside solution singularSystem skipped unitColumn solveRefusal inverseRefusal afterSolve afterInverse afterElimination lt add sub mul div ofBits
-case-12 = refl
 
 -- 1, 1 / 1, 1 is singular: the output is as it was, the work slice is cleared
 singular-pair : afterSolve 2 (p1 ∷ o ∷ p1 ∷ o ∷ p1 ∷ o ∷ p1 ∷ o ∷ []) (p2 ∷ o ∷ o ∷ o ∷ []) (m1 ∷ m1 ∷ m1 ∷ m1 ∷ []) (m1 ∷ o ∷ o ∷ o ∷ o ∷ o ∷ o ∷ o ∷ o ∷ o ∷ o ∷ p1 ∷ [])
