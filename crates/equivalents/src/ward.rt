@@ -2,3 +2,4 @@
 pub use ward_core::WardAnswer;
 pub use ward_core::WardSummary;
 pub use ward_core::compute;
+pub use ward_core::compute_extended;

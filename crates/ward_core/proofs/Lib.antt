@@ -7,3 +7,6 @@ pub mod WardSums
 pub mod Scans
 pub mod WardBuses
 pub mod WardTold
+pub mod WardTies
+pub mod WardExtendedTold
+pub mod WardExtended

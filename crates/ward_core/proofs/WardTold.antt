@@ -32,17 +32,17 @@ few n i e b p q h =
     let a1 = none-of (ltb 64 n) (ltb 64 i) (a2 .0) in
     record { size = ltb-false 64 n (a1 .0); internal = ltb-false 64 i (a1 .1); external = ltb-false 64 e (a2 .1); boundary = ltb-false 64 b (a3 .1) }
 
-record Even (n y i e b yw pw qw w : ℕ) : Type 0 where
-  given : y ≡ 2 * (n * n)
-  y-ward : yw ≡ 2 * ((i + b) * (i + b))
-  p-ward : pw ≡ b
-  q-ward : qw ≡ b
-  work : w ≡ 2 * (e * (e + (i + b) + 1))
+pub record Even (n y i e b yw pw qw w : ℕ) : Type 0 where
+  pub given : y ≡ 2 * (n * n)
+  pub y-ward : yw ≡ 2 * ((i + b) * (i + b))
+  pub p-ward : pw ≡ b
+  pub q-ward : qw ≡ b
+  pub work : w ≡ 2 * (e * (e + (i + b) + 1))
 
-same-length : (a b : ℕ) → not (eqb a b) ≡ false → a ≡ b
+pub same-length : (a b : ℕ) → not (eqb a b) ≡ false → a ≡ b
 same-length a b h = eqb-true a b (not-false (eqb a b) h)
 
-even : (n y i e b yw pw qw w : ℕ) → uneven n y i e b yw pw qw w ≡ false → Even n y i e b yw pw qw w
+pub even : (n y i e b yw pw qw w : ℕ) → uneven n y i e b yw pw qw w ≡ false → Even n y i e b yw pw qw w
 unfolding uneven
 even n y i e b yw pw qw w h =
     let A = not (eqb y (2 * (n * n))) in
@@ -69,13 +69,13 @@ toldOf S o =
     told (S .size) (length (S .given)) (length (S .internal)) (externals S) (length (S .boundary)) (length (S .p-ext)) (length (S .q-ext))
     (length (o .y-ward)) (length (o .p-ward)) (length (o .q-ward)) (length (o .work))
 
-three : (a b c : Bool) (x : ℕ) → refuse a 1 (refuse b 2 (refuse c 3 x)) ≡ cond (eqb (refuse a 1 (refuse b 2 (refuse c 3 0))) 0) x (refuse a 1 (refuse b 2 (refuse c 3 0)))
+pub three : (a b c : Bool) (x : ℕ) → refuse a 1 (refuse b 2 (refuse c 3 x)) ≡ cond (eqb (refuse a 1 (refuse b 2 (refuse c 3 0))) 0) x (refuse a 1 (refuse b 2 (refuse c 3 0)))
 three true b c x = refl
 three false true c x = refl
 three false false true x = refl
 three false false false x = refl
 
-misfit-lengths : (S : Study) (o : Room) → misfit S o
+pub misfit-lengths : (S : Study) (o : Room) → misfit S o
     ≡ uneven (S .size) (length (S .given)) (length (S .internal)) (externals S) (length (S .boundary)) (length (o .y-ward)) (length (o .p-ward)) (length (o .q-ward)) (length (o .work))
 unfolding misfit uneven retained
 misfit-lengths S o = simp length-append
@@ -99,7 +99,7 @@ refused S o false true c h = studied-refused S o 1 refl
 refused S o false false true h = studied-refused S o 2 refl
 refused S o false false false h = absurd (h refl)
 
-told-cond : (t x : ℕ) → (t ≡ 0 → ⊥) → cond (eqb t 0) x t ≡ t
+pub told-cond : (t x : ℕ) → (t ≡ 0 → ⊥) → cond (eqb t 0) x t ≡ t
 told-cond zero x h = absurd (h refl)
 told-cond (suc t) x h = rw eqb·suc-zero
 
@@ -118,7 +118,7 @@ after-told S o t e z = ap (studied S o) (sym (input-told S o ∙ ap (λ (k : ℕ
 
 -- ---- a study that its lengths let through
 
-none-told : (a b c : Bool) → refuse a 1 (refuse b 2 (refuse c 3 0)) ≡ 0 → (a ≡ false) × (b ≡ false) × (c ≡ false)
+pub none-told : (a b c : Bool) → refuse a 1 (refuse b 2 (refuse c 3 0)) ≡ 0 → (a ≡ false) × (b ≡ false) × (c ≡ false)
 none-told true b c h = absurd (omega arith)
 none-told false true c h = absurd (omega arith)
 none-told false false true h = absurd (omega arith)

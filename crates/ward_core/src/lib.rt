@@ -3,7 +3,9 @@ ghost use mathlib.Core.Path.{_≡_};
 ghost use Rattle.complex.specs.Values.{F64s};
 ghost use Rattle.ward_core.specs.Ward as ward;
 ghost use Rattle.ward_core.specs.WardCalls as spec;
+ghost use Rattle.ward_core.specs.WardExtended as extended;
 
+pub mod ward_corrections;
 pub mod ward_lengths;
 pub mod ward_lists;
 pub mod ward_rows;
@@ -71,4 +73,74 @@ pub fn compute(
         q_ward,
         work,
     )
+}
+
+// The study with the voltages at the external buses, per unit: beside Ward's equivalent, each boundary bus's voltage correction, per unit,
+// and its reactive compensation, in MVAr. Refusals are those of `compute`; voltages that don't match the external list are 3.
+pub fn compute_extended(
+    n: usize,
+    y: &[f64],
+    internal: &[usize],
+    external: &[usize],
+    boundary: &[usize],
+    base_mva: f64,
+    p_ext: &[f64],
+    q_ext: &[f64],
+    v_ext: &[f64],
+    y_ward: &mut [f64],
+    p_ward: &mut [f64],
+    q_ward: &mut [f64],
+    voltage_correction: &mut [f64],
+    q_compensation: &mut [f64],
+    work: &mut [f64],
+) -> WardAnswer
+    ensures { λ r. ⌜ (spec.afterX r (spec.roomOf (now («y_ward» .exit)) (now («p_ward» .exit)) (now («q_ward» .exit)) (now (work .exit))) (now («voltage_correction» .exit)) (now («q_compensation» .exit)) ≡ extended.afterExtended (spec.extendedOf (spec.studyOf n (now (y .entry)) (now (internal .entry)) (now (external .entry)) (now (boundary .entry)) «base_mva» (now («p_ext» .entry)) (now («q_ext» .entry))) (now («v_ext» .entry))) (spec.extendedRoomOf (spec.roomOf (now («y_ward» .entry)) (now («p_ward» .entry)) (now («q_ward» .entry)) (now (work .entry))) (now («voltage_correction» .entry)) (now («q_compensation» .entry)))) × F64s (now (y .entry)) ⌝ }
+{
+    let told = ward_lengths::told_extended(
+        n,
+        y.len(),
+        internal.len(),
+        external.len(),
+        boundary.len(),
+        p_ext.len(),
+        q_ext.len(),
+        y_ward.len(),
+        p_ward.len(),
+        q_ward.len(),
+        work.len(),
+        v_ext.len(),
+        voltage_correction.len(),
+        q_compensation.len(),
+    );
+    if told != 0 {
+        return WardAnswer::Refused(told);
+    }
+    let answer = ward_study::study(
+        n,
+        y,
+        internal,
+        external,
+        boundary,
+        base_mva,
+        p_ext,
+        q_ext,
+        y_ward,
+        p_ward,
+        q_ward,
+        work,
+    );
+    let WardAnswer::Done(summary) = answer else {
+        return answer;
+    };
+    ward_corrections::corrections(
+        y,
+        n,
+        external,
+        boundary,
+        v_ext,
+        base_mva,
+        voltage_correction,
+        q_compensation,
+    );
+    WardAnswer::Done(summary)
 }

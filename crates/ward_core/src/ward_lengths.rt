@@ -87,3 +87,49 @@ pub fn told(
     }
     0
 }
+
+// With voltages: v numbers, c corrections and k compensations.
+pub fn told_extended(
+    n: usize,
+    y: usize,
+    i: usize,
+    e: usize,
+    b: usize,
+    p: usize,
+    q: usize,
+    yw: usize,
+    pw: usize,
+    qw: usize,
+    w: usize,
+    v: usize,
+    c: usize,
+    k: usize,
+) -> u32
+    ensures { λ r. ⌜ r ≡ spec.toldX n y i e b p q yw pw qw w v c k ⌝ }
+{
+    if crowded(n, i, e, b, p, q) {
+        return 1;
+    }
+    if v > LIMIT {
+        return 1;
+    }
+    if uneven(n, y, i, e, b, yw, pw, qw, w) {
+        return 2;
+    }
+    if c != b {
+        return 2;
+    }
+    if k != b {
+        return 2;
+    }
+    if p != e {
+        return 3;
+    }
+    if q != e {
+        return 3;
+    }
+    if v != e {
+        return 3;
+    }
+    0
+}

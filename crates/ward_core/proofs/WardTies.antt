@@ -1,0 +1,52 @@
+-- A loop over the ties of one boundary bus to the external ones: the sums that it holds, and what they are at its end.
+-- Assumes nothing.
+use mathlib.Core.Path.{_≡_, refl, ap, subst, _∙_}
+use mathlib.Core.Bool.{cond}
+use mathlib.Core.List.{List}
+use Prim.Native.Nat.{ℕ, _+_}
+use native.Mathlib.Numerals.{add-one}
+use lib.ListN.{length, getD}
+use lib.Ieee.{Float, nan, neg, lt}
+use Rattle.complex.specs.declared.Complex.{Complex}
+use Rattle.complex.specs.Constants.{plus0, one, weak}
+use Rattle.complex.specs.Arithmetic.{_⊕_, _⊖_, _⊗_, _⊘_}
+use Rattle.complex.specs.Matrices.{entryAt}
+use Rattle.complex.specs.Magnitude.{magnitude}
+use Rattle.ward_core.specs.Ward.{admittance}
+use Rattle.ward_core.specs.WardExtended.{Extended, addUp, tie, weight, deviation, reactive, weightSum, weightedSum, voltageCorrection, qCompensation}
+use Rattle.ward_core.specs.WardCalls.{seen, meanOf}
+
+-- the sums over the ties of bus i to the first k external buses
+pub record TiesTo (S : Extended) (i k : ℕ) (a b c : Float) : Type 0 where
+  pub weights : a ≡ addUp k (weight S i)
+  pub weighted : b ≡ addUp k (λ (m : ℕ). weight S i m ⊗ deviation S m)
+  pub reactives : c ≡ addUp k (λ (m : ℕ). reactive (S .study .base) (tie S i m) (deviation S m))
+
+module _ (n : ℕ) (ys : List Float) (es : List ℕ) (vs : List Float) (base : Float) (i : ℕ) where
+  pub ties-none : TiesTo (seen n ys es vs base) i 0 plus0 plus0 plus0
+  unfolding addUp
+  ties-none = record { weights = refl; weighted = refl; reactives = refl }
+
+  pub ties-more : (k : ℕ) (a b c w : Float) (g : Complex) → TiesTo (seen n ys es vs base) i k a b c → g ≡ entryAt n ys i (getD es k 0) → w ≡ magnitude g
+      → TiesTo (seen n ys es vs base) i (k + 1) (a ⊕ w) (b ⊕ w ⊗ (getD vs k nan ⊖ one)) (c ⊕ neg (g .im) ⊗ (getD vs k nan ⊖ one) ⊗ base)
+  unfolding addUp weight deviation reactive admittance
+  ties-more k a b c w g t e m =
+      let f : w ≡ magnitude (entryAt n ys i (getD es k 0)) = m ∙ ap magnitude e in
+      let d = getD vs k nan ⊖ one in
+      record {
+        weights = rw add-one (λ j. t .weights j ⊕ f j);
+        weighted = rw add-one (λ j. t .weighted j ⊕ f j ⊗ d);
+        reactives = rw add-one (λ j. t .reactives j ⊕ neg (e j .im) ⊗ d ⊗ base);
+      }
+
+  pub ties-all : (k : ℕ) (a b c : Float) → TiesTo (seen n ys es vs base) i k a b c → k ≡ length es
+      → (a ≡ weightSum (seen n ys es vs base) i) × (b ≡ weightedSum (seen n ys es vs base) i) × (c ≡ qCompensation (seen n ys es vs base) i)
+  unfolding weightSum weightedSum qCompensation
+  ties-all k a b c t e =
+      let u = subst (λ (m : ℕ). TiesTo (seen n ys es vs base) i m a b c) e t in
+      (u .weights, u .weighted, u .reactives)
+
+-- the mean of the two sums is the correction
+pub mean-is : (S : Extended) (i : ℕ) (a b : Float) → a ≡ weightSum S i → b ≡ weightedSum S i → meanOf a b ≡ voltageCorrection S i
+unfolding meanOf voltageCorrection
+mean-is S i a b e f = λ j. cond (lt weak (e j)) (f j ⊘ e j) plus0

@@ -1,0 +1,124 @@
+-- `ward_core::ward_corrections::corrections` meets its contract. The invariant: the boundary buses before place t have theirs, the other places are as they were.
+-- Assumes nothing.
+use mathlib.Core.Path.{_≡_, sym, _∙_}
+use Prim.Native.Nat.{ℕ, _-_, _≤_}
+use native.Mathlib.Omega.{arith}
+use lib.ListN.{length, getD, length-set}
+use lib.Ieee.{nan}
+use borrow.Author.Needs.{needs}
+use Rattle.gauss_jordan.proofs.Passed.{Stored, stored-none, stored-more}
+use Rattle.ward_core.specs.WardExtended.{Extended, voltageCorrection, qCompensation}
+use Rattle.ward_core.specs.WardCalls.{seen}
+use Rattle.ward_core.proofs.WardPlaces.{listed-below, stored-map}
+use Rattle.ward_core.proofs.WardTies.{mean-is}
+use Rattle.ward_core.proofs.ward_corrections.corrections.Statement.{statement}
+use Rattle.ward_core.proofs.ward_corrections.corrections.Tie as tie
+
+abbrev Inv-loop : tie.InvT-loop
+Inv-loop y n outer boundary voltages base correction₀ compensation₀ t₀ correction compensation t =
+    (t ≤ length boundary) × (length correction ≡ length boundary) × (length compensation ≡ length boundary)
+    × Stored correction (λ (k : ℕ). voltageCorrection (seen n y outer voltages base) (getD boundary k 0)) (λ (k : ℕ). getD correction₀ k nan) t
+    × Stored compensation (λ (k : ℕ). qCompensation (seen n y outer voltages base) (getD boundary k 0)) (λ (k : ℕ). getD compensation₀ k nan) t
+
+abbrev μ-loop : tie.MeasureT-loop
+μ-loop y n outer boundary voltages base correction₀ compensation₀ t₀ correction compensation t = length boundary - t
+
+loop-holds : tie.Need-loop-holds Inv-loop μ-loop
+loop-holds c =
+    let s = c .before .before .before .before .before .before in
+    let a = s .args in
+    let X : Extended = seen (a .n) (a .y .now) (a .outer .now) (a .voltages .now) (a .base) in (
+      omega arith,
+      s .pre .3,
+      s .pre .4,
+      stored-none (a .correction .now) (λ (k : ℕ). voltageCorrection X (getD (a .boundary .now) k 0)),
+      stored-none (a .compensation .now) (λ (k : ℕ). qCompensation X (getD (a .boundary .now) k 0)),
+    )
+
+mul-over-ties : tie.Need-mul-over-ties Inv-loop μ-loop
+mul-over-ties c = search needs
+
+shared-slice-read-over-ties : tie.Need-shared-slice-read-over-ties Inv-loop μ-loop
+shared-slice-read-over-ties c = search needs
+
+over-ties-requires : tie.Need-over-ties-requires Inv-loop μ-loop
+over-ties-requires c κs =
+    let t = c .before in
+    let s = c .before .before .before .before .before .before .before .before .before in
+    let a = s .args in
+    (s .pre .0, listed-below (a .n) (a .y .now) (a .boundary .now) (s .pre .1) (t .before .loop .t) (t .loop-test .taken), s .pre .2)
+
+mean-requires : tie.Need-mean-requires Inv-loop μ-loop
+mean-requires c κs = search needs
+
+mul-correction : tie.Need-mul-correction Inv-loop μ-loop
+mul-correction c = search needs
+
+slice-write-correction : tie.Need-slice-write-correction Inv-loop μ-loop
+slice-write-correction c = search needs
+
+mul-compensation : tie.Need-mul-compensation Inv-loop μ-loop
+mul-compensation c = search needs
+
+slice-write-compensation : tie.Need-slice-write-compensation Inv-loop μ-loop
+slice-write-compensation c = search needs
+
+add-t : tie.Need-add-t Inv-loop μ-loop
+add-t c = search needs
+
+loop-less : tie.Need-loop-less Inv-loop μ-loop
+loop-less c = search needs
+
+loop-again : tie.Need-loop-again Inv-loop μ-loop
+loop-again c =
+    let m = c .mean in
+    let x = c .before .over-ties in
+    let l = c .before .before .before .before .loop in
+    let a = c .before .before .before .before .before .before .before .before .before .before .before .args in
+    let X : Extended = seen (a .n) (a .y .now) (a .outer .now) (a .voltages .now) (a .base) in
+    let i = getD (a .boundary .now) (l .t) 0 in (
+      omega arith,
+      length-set (l .correction) (l .t) (m .result) ∙ l .inv .1,
+      length-set (l .compensation) (l .t) (x .result .reactive) ∙ l .inv .2,
+      stored-more (l .correction) (λ (k : ℕ). voltageCorrection X (getD (a .boundary .now) k 0)) (λ (k : ℕ). getD (a .correction .now) k nan) (l .t) (m .result) (omega arith)
+          (m .ensures ∙ mean-is X i (x .result .weights) (x .result .weighted) (x .ensures .0) (x .ensures .1)) (l .inv .3),
+      stored-more (l .compensation) (λ (k : ℕ). qCompensation X (getD (a .boundary .now) k 0)) (λ (k : ℕ). getD (a .compensation .now) k nan) (l .t) (x .result .reactive) (omega arith)
+          (x .ensures .2) (l .inv .4),
+    )
+
+same-length : tie.Need-same-length Inv-loop μ-loop
+same-length c = c .before .loop .inv .1 ∙ sym (c .before .before .before .before .before .before .before .before .pre .3)
+
+same-length-2 : tie.Need-same-length-2 Inv-loop μ-loop
+same-length-2 c = c .before .loop .inv .2 ∙ sym (c .before .before .before .before .before .before .before .before .pre .4)
+
+returns : tie.Need-returns Inv-loop μ-loop
+returns c =
+    let l = c .before .loop in
+    let a = c .before .before .before .before .before .before .before .before .args in
+    let X : Extended = seen (a .n) (a .y .now) (a .outer .now) (a .voltages .now) (a .base) in (
+      stored-map (voltageCorrection X) (a .boundary .now) (l .correction) (λ (k : ℕ). getD (a .correction .now) k nan) (l .t) (l .inv .1) (omega arith) (l .inv .3),
+      stored-map (qCompensation X) (a .boundary .now) (l .compensation) (λ (k : ℕ). getD (a .compensation .now) k nan) (l .t) (l .inv .2) (omega arith) (l .inv .4),
+    )
+
+pub corrections-spec : {M : Type 1} → statement M
+corrections-spec =
+    tie.close
+    (tie.spec
+    Inv-loop
+    μ-loop
+    loop-holds
+    mul-over-ties
+    shared-slice-read-over-ties
+    over-ties-requires
+    mean-requires
+    mul-correction
+    slice-write-correction
+    mul-compensation
+    slice-write-compensation
+    add-t
+    loop-less
+    loop-again
+    same-length
+    same-length-2
+    returns)

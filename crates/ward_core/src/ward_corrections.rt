@@ -1,0 +1,82 @@
+// What the voltages at the external buses add to a Ward study: for each boundary bus a voltage correction and a reactive compensation.
+// The functions here have a `requires`, which their callers prove. n: buses; voltages per unit, base in MVA.
+use crate::ward_rows::at;
+use complex::magnitude::magnitude;
+ghost use mathlib.Core.Path.{_≡_};
+ghost use mathlib.Core.List.{map};
+ghost use Prim.Native.Nat.{ℕ, _<_};
+ghost use lib.ListN.{length};
+ghost use Rattle.ward_core.specs.WardCalls as spec;
+ghost use Rattle.ward_core.specs.WardExtended as ward;
+ghost use Rattle.ward_core.specs.WardWork.{Listing};
+
+// Over the ties of one boundary bus: the magnitudes, the deviations weighted with them, and the reactive power in MVAr.
+pub struct TieSums {
+    pub weights: f64,
+    pub weighted: f64,
+    pub reactive: f64,
+}
+
+fn over_ties(
+    y: &[f64],
+    n: usize,
+    bus: usize,
+    outer: &[usize],
+    voltages: &[f64],
+    base: f64,
+) -> TieSums
+    requires { ⌜ (Listing n (now y) (now outer)) × (bus < n) × (length (now voltages) ≡ length (now outer)) ⌝ }
+    ensures { λ r. ⌜ (r .weights ≡ ward.weightSum (spec.seen n (now (y .entry)) (now (outer .entry)) (now (voltages .entry)) base) bus) × (r .weighted ≡ ward.weightedSum (spec.seen n (now (y .entry)) (now (outer .entry)) (now (voltages .entry)) base) bus) × (r .reactive ≡ ward.qCompensation (spec.seen n (now (y .entry)) (now (outer .entry)) (now (voltages .entry)) base) bus) ⌝ }
+{
+    let mut weights = 0.0;
+    let mut weighted = 0.0;
+    let mut reactive = 0.0;
+    let mut k = 0;
+    while k < outer.len() {
+        let g = at(y, n, bus, outer[k]);
+        let w = magnitude(g);
+        let d = voltages[k] - 1.0;
+        weights = weights + w;
+        weighted = weighted + w * d;
+        reactive = reactive + -g.im * d * base;
+        k += 1;
+    }
+    TieSums {
+        weights,
+        weighted,
+        reactive,
+    }
+}
+
+// The mean of the deviations. A weight sum not above 1e-12 leaves 0.
+fn mean(weights: f64, weighted: f64) -> f64
+    ensures { λ r. ⌜ r ≡ spec.meanOf weights weighted ⌝ }
+{
+    if weights > 1e-12 {
+        return weighted / weights;
+    }
+    0.0
+}
+
+// The corrections and compensations of the boundary buses, in their order.
+pub fn corrections(
+    y: &[f64],
+    n: usize,
+    outer: &[usize],
+    boundary: &[usize],
+    voltages: &[f64],
+    base: f64,
+    correction: &mut [f64],
+    compensation: &mut [f64],
+)
+    requires { ⌜ (Listing n (now y) (now outer)) × (Listing n (now y) (now boundary)) × (length (now voltages) ≡ length (now outer)) × (length (now correction) ≡ length (now boundary)) × (length (now compensation) ≡ length (now boundary)) ⌝ }
+    ensures { λ _. ⌜ (now (correction .exit) ≡ map (ward.voltageCorrection (spec.seen n (now (y .entry)) (now (outer .entry)) (now (voltages .entry)) base)) (now (boundary .entry))) × (now (compensation .exit) ≡ map (ward.qCompensation (spec.seen n (now (y .entry)) (now (outer .entry)) (now (voltages .entry)) base)) (now (boundary .entry))) ⌝ }
+{
+    let mut t = 0;
+    while t < boundary.len() {
+        let s = over_ties(y, n, boundary[t], outer, voltages, base);
+        correction[t] = mean(s.weights, s.weighted);
+        compensation[t] = s.reactive;
+        t += 1;
+    }
+}
