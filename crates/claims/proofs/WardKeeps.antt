@@ -158,8 +158,15 @@ module _ (S : Study) (s : Sound S) (f64s : F64s (S .given)) (given : T (allFinit
             rw (getD-map (injectionQ S) (S .boundary) t l) (F.zero-eq (injectionQ S (getD (S .boundary) t 0)) (zero-injections t l e .1));
       }
 
+-- the parts of the premise that the claim rests on: one that says more has them too
+given-finite : (S : Study) → FiniteStudy S → T (allFinite (givenOf S))
+given-finite S f = search f
+
+computed-finite : (S : Study) → FiniteStudy S → T (allFinite (ofStudy S))
+computed-finite S f = search f
+
 pub zero-row : (S : Study) (o : Room) → Accepted S o → FiniteStudy S → (p : ℕ) → p < length (rowBuses S) → ZeroRow S p → KeepsRow S (afterWard S o .room) p
 unfolding givenOf
 zero-row S o h f p at none =
     subst (λ (room : Room). KeepsRow S room p) (sym (left-accepted S o h))
-    (keeps-row S (sound S o h) (f .f64s) (all-left (S .given) (S .base ∷ (S .p-ext ++ S .q-ext)) (f .given)) (f .computed) p at none (zeros (length (o .work))))
+    (keeps-row S (sound S o h) (f .f64s) (all-left (S .given) (S .base ∷ (S .p-ext ++ S .q-ext)) (given-finite S f)) (computed-finite S f) p at none (zeros (length (o .work))))

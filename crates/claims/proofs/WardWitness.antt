@@ -81,7 +81,7 @@ unfolding retained listed admittance sumUp system response rowTimes equivalent c
 computed = tt
 
 finite-study : FiniteStudy S
-finite-study = record { f64s = f64s; given = given; computed = computed }
+finite-study = record { f64s = f64s; given = search given; computed = search computed }
 
 zero-towards : ZeroRow S 1
 unfolding ZeroRow old busOfRow rowBuses entryAt entry ofBits ofFields odd eq
