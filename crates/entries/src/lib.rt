@@ -1,3 +1,4 @@
 // The C-callable entries: numbers and byte slices in, the refusal's number out.
 pub mod dc;
+pub mod linear;
 pub mod scalars;
