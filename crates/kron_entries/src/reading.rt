@@ -1,0 +1,107 @@
+// The entries that read a reduced matrix: its present rows, and the impedance between two buses.
+use crate::records::RECORD;
+use crate::records::record_in;
+use complex::Complex;
+use entry_slices::outcomes::number;
+use entry_slices::slices::clear_work;
+use entry_slices::slices::load_floats;
+use entry_slices::slices::misfit;
+use entry_slices::slices::store_floats;
+use entry_slices::slices::told;
+use equivalents::kron::Impedance;
+use equivalents::kron::KronReducer;
+use equivalents::kron::reduced_matrix;
+use equivalents::kron::thevenin_impedance;
+ghost use mathlib.Core.Path.{_≡_};
+ghost use mathlib.Core.List.{[], _∷_};
+ghost use lib.ListN.{length};
+ghost use Rattle.kron_core.specs.Reading.{afterMatrix, afterImpedance};
+ghost use Rattle.entry_slices.specs.Rooms.{matrixRoom, pairRoom};
+ghost use Rattle.kron_entries.specs.Reading as spec;
+
+fn show(r: KronReducer, ys: &[f64], rows: &mut [f64], spare: usize, out: &mut [u8]) -> u32
+    ensures { λ f. ⌜ spec.ShownBy (afterMatrix r (now (ys .entry)) (now (rows .entry))) spare (now (out .entry)) f (now (out .exit)) ⌝ }
+{
+    let refusal = told(spare, number(reduced_matrix(r, ys, rows)));
+    store_floats(out, rows, refusal);
+    refusal
+}
+
+pub fn show_in(rec: &[u8], y: &[u8], out: &mut [u8], matrix: &mut [f64], rows: &mut [f64]) -> u32
+    requires { ⌜ (length (now matrix) ≡ matrixRoom) × (length (now rows) ≡ matrixRoom) ⌝ }
+    ensures { λ f. ⌜ spec.Shown (now (rec .entry)) (now (y .entry)) (now (out .entry)) f (now (out .exit)) ⌝ }
+{
+    let r = record_in(rec);
+    let k = load_floats(y, matrix);
+    let m = load_floats(out, rows);
+    let spare = misfit(rec.len(), RECORD) + y.len() % 8 + out.len() % 8;
+    show(r, &matrix[0..k], &mut rows[0..m], spare, out)
+}
+
+fn refusal_of(answer: Impedance) -> u32
+    ensures { λ r. ⌜ r ≡ spec.refusalOf answer ⌝ }
+{
+    match answer {
+        Impedance::Value(_) => 0,
+        Impedance::Refused(k) => k,
+    }
+}
+
+fn value_of(answer: Impedance) -> Complex
+    ensures { λ r. ⌜ (r .re ∷ r .im ∷ []) ≡ spec.partsOf answer ⌝ }
+{
+    match answer {
+        Impedance::Value(z) => z,
+        Impedance::Refused(_) => Complex { re: 0.0, im: 0.0 },
+    }
+}
+
+fn see(
+    r: KronReducer,
+    ys: &[f64],
+    bus_i: usize,
+    bus_j: usize,
+    rows: &mut [f64],
+    spare: usize,
+    work: &mut [u8],
+    z: &mut [u8],
+) -> u32
+    ensures { λ f. ⌜ spec.SeenBy (afterImpedance r (now (ys .entry)) «bus_i» «bus_j» (now (rows .entry))) spare (now (work .entry)) (now (z .entry)) f (now (work .exit)) (now (z .exit)) ⌝ }
+{
+    let answer = thevenin_impedance(r, ys, bus_i, bus_j, rows);
+    let refusal = told(spare, refusal_of(answer));
+    clear_work(work, refusal);
+    let value = value_of(answer);
+    let parts = [value.re, value.im];
+    store_floats(z, &parts, refusal);
+    refusal
+}
+
+pub fn see_in(
+    rec: &[u8],
+    y: &[u8],
+    bus_i: usize,
+    bus_j: usize,
+    work: &mut [u8],
+    z: &mut [u8],
+    matrix: &mut [f64],
+    rows: &mut [f64],
+) -> u32
+    requires { ⌜ (length (now matrix) ≡ matrixRoom) × (length (now rows) ≡ pairRoom) ⌝ }
+    ensures { λ f. ⌜ spec.Seen (now (rec .entry)) (now (y .entry)) «bus_i» «bus_j» (now (work .entry)) (now (z .entry)) f (now (work .exit)) (now (z .exit)) ⌝ }
+{
+    let r = record_in(rec);
+    let k = load_floats(y, matrix);
+    let m = load_floats(work, rows);
+    let spare = misfit(rec.len(), RECORD) + y.len() % 8 + work.len() % 8 + misfit(z.len(), 16);
+    see(
+        r,
+        &matrix[0..k],
+        bus_i,
+        bus_j,
+        &mut rows[0..m],
+        spare,
+        work,
+        z,
+    )
+}
