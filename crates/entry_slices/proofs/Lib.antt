@@ -1,3 +1,4 @@
 pub mod BytesLaws
 pub mod SlicesLaws
 pub mod OutcomesLaws
+pub mod StoredLaws
