@@ -8,7 +8,7 @@ use Rattle.complex.specs.Entries.{entry}
 use Rattle.complex.specs.Matrices.{upTo, entryAt, row, rows, zeros}
 use Rattle.refusals.specs.Refusals.{limit, outcome, number}
 use Rattle.buses.specs.Buses.{others, place, rising, allBelow, allZero}
-use Rattle.kron_core.specs.Kron.{newEntry, kron, tooSmall, refusal, eliminate, taken, stop}
+use Rattle.kron_rows.specs.Kron.{newEntry, kron, tooSmall, refusal, eliminate, taken, stop}
 use Rattle.kron_core.specs.Reducer.{makingRefusal, afterNew, sound, inputRefusal, view, laidOut, laid, leaves, removable, refusalOf, afterBus, afterBuses}
 use Rattle.book_cases.specs.Calls.{after}
 use Rattle.book_cases.specs.Book.{reals, Met, case5, case6, case7}

@@ -12,9 +12,9 @@ use lib.Ieee.Bits.{is-true}
 use Rattle.refusals.specs.Refusals.{limit, tooMany, wrongLength, notActive, smallEntry, outcome}
 use Rattle.kron_core.specs.declared.KronReducer.{KronReducer}
 use Rattle.buses.specs.Buses.{mem}
-use Rattle.kron_core.specs.Kron.{State, start, tooSmall, refusal, accepts, remove, eliminate, taken, stop}
+use Rattle.kron_rows.specs.Kron.{State, start, tooSmall, refusal, accepts, remove, eliminate, taken, stop}
 use Rattle.kron_core.specs.Reducer.{Making, Made, makingRefusal, activeOf, afterNew, inputRefusal, Held, held, laid, leaves, removable, refusalOf, afterBus, afterBuses}
-use Rattle.kron_core.proofs.States.{Accepted, taken-accepted, append-accepted, eliminate-append, eliminate-active, Regular, regular-start, regular-eliminate}
+use Rattle.kron_rows.proofs.States.{Accepted, taken-accepted, append-accepted, eliminate-append, eliminate-active, Regular, regular-start, regular-eliminate}
 use Rattle.kron_core.proofs.Reducer.{active-recordOf, entry-laidOut, laidOut-all, input-laid, removable-laid, refusal-laid, leaves-laid, input-long, removable-long}
 use Rattle.claims.specs.Accounts.{Call, bus, buses, stepHeld, leftFrom, left, entry, Account, fresh, stateOf, removes, step, accountFrom, account, kept, busAt}
 

@@ -21,7 +21,7 @@ use Rattle.complex.proofs.SameValue.{Finite}
 use Rattle.complex.proofs.Squares.{sqmag-below}
 use Rattle.refusals.specs.Refusals.{notActive, smallEntry}
 use Rattle.buses.specs.Buses.{mem, _∈_}
-use Rattle.kron_core.specs.Kron.{kron, State, remove, tooSmall, refusal, ofEntry, ofRow, ofRows, ofRemovals}
+use Rattle.kron_rows.specs.Kron.{kron, State, remove, tooSmall, refusal, ofEntry, ofRow, ofRows, ofRemovals}
 use Rattle.buses.proofs.Buses.{in-cases}
 
 -- ---- lists of finite numbers

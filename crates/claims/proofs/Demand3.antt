@@ -17,10 +17,10 @@ use Rattle.complex.specs.Values.{_≈_, allFinite, F64s}
 use Rattle.complex.proofs.Matrices.{entry-within}
 use Rattle.complex.proofs.SameValue.{Number}
 use Rattle.buses.specs.Buses.{_∈_, others}
-use Rattle.kron_core.specs.Kron.{start}
+use Rattle.kron_rows.specs.Kron.{start}
 use Rattle.kron_core.specs.Reducer.{Making, makingOf, Made}
 use Rattle.buses.proofs.Buses.{getD-in}
-use Rattle.kron_core.proofs.States.{eliminate-active}
+use Rattle.kron_rows.proofs.States.{eliminate-active}
 use Rattle.claims.specs.Accounts.{Call, left, entry, Account, fresh, stateOf, account, kept, busAt}
 use Rattle.claims.specs.Chains.{Chain, Into, Out, SameOutside}
 use Rattle.claims.specs.Finite.{ofAccount, Finite, words}

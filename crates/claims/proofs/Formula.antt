@@ -5,7 +5,7 @@ use Prim.Native.Nat.{ℕ}
 use Rattle.complex.specs.Arithmetic.{cmul, cdiv}
 use Rattle.complex.specs.Matrices.{Matrix}
 use Rattle.complex.proofs.SameValue.{Finite, Number, _≋_, Null, congruent, all-zero, cmul-cong, cmul-null, sqmag-cong, Divisor, cdiv-cong, cdiv-null, cdiv-fits, csub-null, csub-cong, csub-number}
-use Rattle.kron_core.specs.Kron.{newEntry, kron}
+use Rattle.kron_rows.specs.Kron.{newEntry, kron}
 
 -- the new entry at i and j when k is removed can be worked out
 pub record Ready (k : ℕ) (Y : Matrix) (i j : ℕ) : Type 0 where

@@ -10,9 +10,9 @@ use Rattle.complex.specs.Matrices.{Matrix, upTo}
 use Rattle.complex.specs.Values.{_≈_, NonZero, allFinite}
 use Rattle.complex.proofs.SameValue.{Number, _≋_, ≋-refl, ≋-sym, ≋-trans, ≋→≈, ≈→≋, Null, nulls, decide, nonzero-of}
 use Rattle.buses.specs.Buses.{_∈_, others}
-use Rattle.kron_core.specs.Kron.{kron, State, start, remove, tooSmall, accepts, eliminate, ofRemovals}
+use Rattle.kron_rows.specs.Kron.{kron, State, start, remove, tooSmall, accepts, eliminate, ofRemovals}
 use Rattle.buses.proofs.Buses.{in-head, in-tail, in-cases, in-or-out, stays, below-upTo}
-use Rattle.kron_core.proofs.States.{accepted-active, accepted-big, Accepted, eliminate-active}
+use Rattle.kron_rows.proofs.States.{accepted-active, accepted-big, Accepted, eliminate-active}
 use Rattle.claims.specs.Chains.{Linked, Chain, Into, Out, SameOutside}
 use Rattle.claims.proofs.Formula.{Ready, kron-stays, kron-cong, kron-number}
 use Rattle.claims.proofs.Walks.{Links, Walk, last, join, map-walk, chain, IntoBy, OutBy, into-steps, out-steps, Either, Alike, into-one, out-one}

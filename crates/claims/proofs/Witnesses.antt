@@ -16,7 +16,7 @@ use Rattle.complex.specs.Values.{_≈_, allFinite}
 use Rattle.refusals.specs.Refusals.{limit, outcome}
 use Rattle.buses.specs.Buses.{_∈_, others, place, rising, allBelow, allZero}
 use Rattle.buses.proofs.Buses.{in-cases}
-use Rattle.kron_core.specs.Kron.{newEntry, kron, tooSmall, refusal, eliminate, taken, stop, ofRow, ofRows, ofRemovals}
+use Rattle.kron_rows.specs.Kron.{newEntry, kron, tooSmall, refusal, eliminate, taken, stop, ofRow, ofRows, ofRemovals}
 use Rattle.kron_core.specs.Reducer.{Making, makingOf, makingRefusal, afterNew, sound, inputRefusal, view, laidOut, laid, leaves, removable, refusalOf, afterBus, afterBuses}
 use Rattle.claims.specs.Accounts.{Call, bus, buses, stepHeld, leftFrom, left, entry, fresh, stateOf, removes, step, accountFrom, account}
 use Rattle.claims.specs.Chains.{Linked, Steps, Within, Chain, Into, Out, SameOutside}

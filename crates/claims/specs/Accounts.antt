@@ -7,7 +7,7 @@ use lib.ListN.{length, getD}
 use Rattle.complex.specs.Matrices.{Matrix, upTo, entryAt}
 use Rattle.refusals.specs.Refusals.{limit}
 use Rattle.buses.specs.Buses.{others}
-use Rattle.kron_core.specs.Kron.{State, start, eliminate, taken}
+use Rattle.kron_rows.specs.Kron.{State, start, eliminate, taken}
 use Rattle.kron_core.specs.Reducer.{Making, afterNew, Held, held, afterBus, afterBuses}
 
 -- a call of `eliminate_bus` with a bus, or of `eliminate_buses` with a list of buses: any numbers, in any order

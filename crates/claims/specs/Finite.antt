@@ -4,7 +4,7 @@ use mathlib.Core.List.{List, map}
 use lib.Dec.{T}
 use lib.Ieee.{Float, binary64, ofBits}
 use Rattle.complex.specs.Values.{allFinite}
-use Rattle.kron_core.specs.Kron.{start, ofRemovals}
+use Rattle.kron_rows.specs.Kron.{start, ofRemovals}
 use Rattle.kron_core.specs.Reducer.{Making, Made}
 use Rattle.claims.specs.Accounts.{Call, Account, account}
 

@@ -23,13 +23,13 @@ use Rattle.gauss_jordan.proofs.GaussJordan.{run-same, singular-system, beside-s
 use Rattle.kron_core.specs.declared.KronReducer.{KronReducer}
 use Rattle.kron_core.specs.declared.Impedance.{Impedance}
 use Rattle.kron_core.specs.declared.Impedance.the-variants.{Value, Refused}
-use Rattle.kron_core.specs.declared.removal.Found.the-variants.{At, Nothing}
+use Rattle.kron_rows.specs.declared.Found.the-variants.{At, Nothing}
 use Rattle.buses.specs.Buses.{mem, place}
 use Rattle.kron_core.specs.Reducer.{activeOf, sound, inputRefusal}
-use Rattle.kron_core.specs.Removal.{foundIn, Holds}
+use Rattle.kron_rows.specs.Removal.{foundIn, Holds}
 use Rattle.kron_core.specs.Reading.{readingRefusal, two, across, impedance, impedanceRefusal, afterImpedance}
-use Rattle.kron_core.proofs.Positions.{lt-or-ge}
-use Rattle.kron_core.proofs.Taking.{found-at, found-not, took-lt}
+use Rattle.kron_rows.proofs.Positions.{lt-or-ge}
+use Rattle.kron_rows.proofs.Taking.{found-at, found-not, took-lt}
 use Rattle.kron_core.proofs.Calls.{accepts-has, accepted-holds, entryAt-take}
 use Rattle.kron_core.proofs.Reading.{reading-accepted}
 

@@ -21,15 +21,15 @@ use Rattle.refusals.specs.Refusals.{limit, tooMany, wrongLength, badRecord, ref
 use Rattle.refusals.specs.declared.Outcome.{Outcome}
 use Rattle.kron_core.specs.declared.KronReducer.{KronReducer}
 use Rattle.kron_core.specs.declared.TakenAll.{TakenAll}
-use Rattle.kron_core.specs.declared.removal.Ran.{Ran}
+use Rattle.kron_rows.specs.declared.Ran.{Ran}
 use Rattle.buses.specs.Buses.{rising, allBelow}
-use Rattle.kron_core.specs.Kron.{State, eliminate, taken, stop}
+use Rattle.kron_rows.specs.Kron.{State, eliminate, taken, stop}
 use Rattle.kron_core.specs.Reducer.{recordOf, activeOf, sound, inputRefusal, view, held, laidOut, laid, leaves, removable, refusalOf, Held, AfterBuses, afterBuses}
-use Rattle.kron_core.specs.Removal.{padded, shown, Shows, Holds, TookAll}
+use Rattle.kron_rows.specs.Removal.{padded, shown, Shows, Holds, TookAll}
 use Rattle.buses.proofs.Buses.{rising-length}
-use Rattle.kron_core.proofs.States.{Accepted, taken-accepted}
+use Rattle.kron_rows.proofs.States.{Accepted, taken-accepted}
 use Rattle.kron_core.proofs.Reducer.{Sound, sound-has, sound-is}
-use Rattle.kron_core.proofs.Taking.{holds-long, length-eliminate}
+use Rattle.kron_rows.proofs.Taking.{holds-long, length-eliminate}
 
 -- ---- the input refusals
 

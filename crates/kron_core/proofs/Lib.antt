@@ -1,8 +1,4 @@
-pub mod States
 pub mod Reducer
-pub mod Positions
-pub mod Showing
-pub mod Taking
 pub mod Making
 pub mod Calls
 pub mod Reading

@@ -17,10 +17,10 @@ use Rattle.refusals.specs.declared.Outcome.the-variants.{Done, Refused}
 use Rattle.refusals.specs.Refusals.{limit, tooMany, wrongLength, refuse, outcome}
 use Rattle.kron_core.specs.declared.KronReducer.{KronReducer}
 use Rattle.kron_core.specs.Reducer.{activeOf, inputRefusal, view, laidOut}
-use Rattle.kron_core.specs.Removal.{Holds, shown}
+use Rattle.kron_rows.specs.Removal.{Holds, shown}
 use Rattle.kron_core.specs.Reading.{readingRefusal, afterMatrix}
-use Rattle.kron_core.proofs.Showing.{shown-shows}
-use Rattle.kron_core.proofs.Taking.{holds-long}
+use Rattle.kron_rows.proofs.Showing.{shown-shows}
+use Rattle.kron_rows.proofs.Taking.{holds-long}
 use Rattle.kron_core.proofs.Calls.{accepts-has, accepted-holds, laid-front, back-end}
 
 -- ---- the input refusals

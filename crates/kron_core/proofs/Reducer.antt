@@ -19,10 +19,10 @@ use Rattle.complex.proofs.Matrices.{length-upTo, length-zeros, length-rows, ent
 use Rattle.refusals.specs.Refusals.{limit, tooMany}
 use Rattle.kron_core.specs.declared.KronReducer.{KronReducer}
 use Rattle.buses.specs.Buses.{rising, allBelow, allZero, place}
-use Rattle.kron_core.specs.Kron.{State, eliminate, taken, stop}
+use Rattle.kron_rows.specs.Kron.{State, eliminate, taken, stop}
 use Rattle.kron_core.specs.Reducer.{recordOf, activeOf, sound, inputRefusal, view, laidOut, laid, leaves, removable, refusalOf}
 use Rattle.buses.proofs.Buses.{getD-place, place-lt, rising-length}
-use Rattle.kron_core.proofs.States.{Accepted, Regular, Agree, agree-taken, agree-stop, agree-eliminate, rows-same}
+use Rattle.kron_rows.proofs.States.{Accepted, Regular, Agree, agree-taken, agree-stop, agree-eliminate, rows-same}
 
 -- ---- the record with the buses xs active
 

@@ -1,4 +1,2 @@
-pub mod Kron
 pub mod Reducer
-pub mod Removal
 pub mod Reading

@@ -12,7 +12,7 @@ use Rattle.kron_core.specs.declared.NewReducer.{NewReducer}
 use Rattle.kron_core.specs.declared.Taken.{Taken}
 use Rattle.kron_core.specs.declared.TakenAll.{TakenAll}
 use Rattle.buses.specs.Buses.{rising, allBelow, allZero, place}
-use Rattle.kron_core.specs.Kron.{State, eliminate, taken, stop}
+use Rattle.kron_rows.specs.Kron.{State, eliminate, taken, stop}
 
 -- ---- making
 

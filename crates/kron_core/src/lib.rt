@@ -1,13 +1,13 @@
 // Kron reduction of a bus matrix that stands in a lent slice.
-use crate::removal::Found;
-use crate::removal::all_zero;
-use crate::removal::find_bus;
-use crate::removal::in_order;
-use crate::removal::take_list;
 use crate::thevenin::between;
 use complex::Complex;
 use gauss_jordan::rows::clear;
 use gauss_jordan::rows::copy;
+use kron_rows::Found;
+use kron_rows::all_zero;
+use kron_rows::find_bus;
+use kron_rows::in_order;
+use kron_rows::take_list;
 use refusals::LIMIT;
 use refusals::Outcome;
 ghost use mathlib.Core.Path.{_≡_};
@@ -22,12 +22,11 @@ ghost use Rattle.complex.specs.Entries.{entry};
 ghost use Rattle.complex.specs.Matrices.{upTo, entryAt, zeros};
 ghost use Rattle.refusals.specs.Refusals.{limit, outcome};
 ghost use Rattle.buses.specs.Buses.{rising, allBelow, allZero, place, others};
-ghost use Rattle.kron_core.specs.Kron.{newEntry, kron, refusal, taken, stop, eliminate};
-ghost use Rattle.kron_core.specs.Removal.{shown, padded, kept, foundIn};
+ghost use Rattle.kron_rows.specs.Kron.{newEntry, kron, refusal, taken, stop, eliminate};
+ghost use Rattle.kron_rows.specs.Removal.{shown, padded, kept, foundIn};
 ghost use Rattle.kron_core.specs.Reading.{readingRefusal, afterMatrix, afterImpedance};
 ghost use Rattle.kron_core.specs.Reducer.{makingOf, recordOf, afterNew, sound, inputRefusal, afterBus, afterBuses};
 
-mod removal;
 pub mod thevenin;
 
 const ROW: usize = 2 * LIMIT;

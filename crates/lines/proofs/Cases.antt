@@ -8,7 +8,7 @@ use Rattle.complex.specs.Entries
 use Rattle.complex.specs.Matrices
 use Rattle.refusals.specs.Refusals
 use Rattle.buses.specs.Buses
-use Rattle.kron_core.specs.Kron
+use Rattle.kron_rows.specs.Kron
 use Rattle.kron_core.specs.Reducer
 use Rattle.words.specs.Bytes.{ascii}
 use Rattle.words.specs.Words

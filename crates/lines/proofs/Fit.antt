@@ -18,9 +18,9 @@ use Rattle.refusals.specs.declared.Outcome.{Outcome}
 use Rattle.refusals.specs.declared.Outcome.the-variants.{Done, Refused}
 use Rattle.refusals.specs.Refusals.{limit}
 use Rattle.kron_core.specs.declared.KronReducer.{KronReducer}
-use Rattle.kron_core.specs.Kron.{State, start, eliminate, taken}
+use Rattle.kron_rows.specs.Kron.{State, start, eliminate, taken}
 use Rattle.kron_core.specs.Reducer.{AfterBus, makingOf, makingRefusal, recordOf, afterNew, Held, held, laid, leaves, removable, afterBus}
-use Rattle.kron_core.proofs.States.{Regular, regular-start, regular-eliminate, taken-accepted}
+use Rattle.kron_rows.proofs.States.{Regular, regular-start, regular-eliminate, taken-accepted}
 use Rattle.buses.proofs.Buses.{below-all, getD-in}
 use Rattle.kron_core.proofs.Reducer.{active-room, length-laid, laidOut-all, removable-laid, leaves-laid}
 use Rattle.words.specs.declared.Number.{Number}

@@ -20,10 +20,10 @@ use Rattle.refusals.specs.declared.Outcome.the-variants.{Done, Refused}
 use Rattle.refusals.specs.Refusals.{limit, outcome}
 use Rattle.kron_core.specs.declared.KronReducer.{KronReducer}
 use Rattle.buses.specs.Buses.{_∈_, others, place}
-use Rattle.kron_core.specs.Kron.{State, accepts, refusal, remove, eliminate, taken, stop}
+use Rattle.kron_rows.specs.Kron.{State, accepts, refusal, remove, eliminate, taken, stop}
 use Rattle.kron_core.specs.Reducer.{makingOf, recordOf, refusalOf, afterNew, afterBus, Held, held, laid}
 use Rattle.buses.proofs.Buses.{below-all, others-one, place-lt}
-use Rattle.kron_core.proofs.States.{Regular, accepted-active, eliminate-active}
+use Rattle.kron_rows.proofs.States.{Regular, accepted-active, eliminate-active}
 use Rattle.kron_core.proofs.Reducer.{refusal-laid}
 use Rattle.words.specs.declared.Number.{Number}
 use Rattle.words.specs.declared.Number.the-variants.{Is, Not}

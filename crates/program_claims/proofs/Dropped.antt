@@ -8,7 +8,7 @@ use lib.Dec.{eqb}
 use Rattle.refusals.specs.declared.Outcome.{Outcome}
 use Rattle.refusals.specs.declared.Outcome.the-variants.{Done, Refused}
 use Rattle.refusals.specs.Refusals.{outcome}
-use Rattle.kron_core.specs.Kron.{State, refusal, taken}
+use Rattle.kron_rows.specs.Kron.{State, refusal, taken}
 use Rattle.kron_core.specs.Reducer.{Making, Made, afterNew, afterBus, Held, held}
 use Rattle.claims.specs.Accounts.{Call, bus, stepHeld, leftFrom, left, Account, fresh, stateOf, removes, step, accountFrom, account}
 use Rattle.claims.proofs.Bridge.{answer-bus}

@@ -15,7 +15,7 @@ use Rattle.refusals.specs.Refusals
 use Rattle.buses.specs.Buses
 use Rattle.buses.specs.Buses.{_∈_}
 use Rattle.buses.proofs.Buses.{in-cases}
-use Rattle.kron_core.specs.Kron
+use Rattle.kron_rows.specs.Kron
 use Rattle.kron_core.specs.Reducer
 use Rattle.claims.specs.Accounts
 use Rattle.claims.specs.Accounts.{bus, entry}

@@ -10,9 +10,9 @@ use lib.Seq.{ext-getD, getD-set-other}
 use Rattle.complex.specs.Matrices.{upTo}
 use Rattle.complex.proofs.Matrices.{length-upTo, getD-upTo}
 use Rattle.refusals.specs.Refusals.{limit}
-use Rattle.kron_core.specs.Removal.{padded}
-use Rattle.kron_core.proofs.Positions.{lt-or-ge, written-more}
-use Rattle.kron_core.proofs.Showing.{getD-zeros, length-padded, getD-padded, getD-behind}
+use Rattle.kron_rows.specs.Removal.{padded}
+use Rattle.kron_rows.proofs.Positions.{lt-or-ge, written-more}
+use Rattle.kron_rows.proofs.Showing.{getD-zeros, length-padded, getD-padded, getD-behind}
 use borrow.Author.Needs.{needs}
 use Rattle.kron_core.proofs.first_buses.Statement.{statement}
 use Rattle.kron_core.proofs.first_buses.Tie as tie

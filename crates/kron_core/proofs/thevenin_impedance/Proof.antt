@@ -7,11 +7,11 @@ use native.Mathlib.Omega.{arith}
 use borrow.Author.Needs.{needs}
 use lib.ListN.{length, take}
 use Rattle.refusals.specs.Refusals.{limit}
-use Rattle.kron_core.specs.declared.removal.Found.the-variants.{At, Nothing}
+use Rattle.kron_rows.specs.declared.Found.the-variants.{At, Nothing}
 use Rattle.kron_core.specs.Reducer.{activeOf}
-use Rattle.kron_core.specs.Removal.{foundIn, Holds}
+use Rattle.kron_rows.specs.Removal.{foundIn, Holds}
 use Rattle.kron_core.specs.Reading.{readingRefusal}
-use Rattle.kron_core.proofs.Taking.{took-lt}
+use Rattle.kron_rows.proofs.Taking.{took-lt}
 use Rattle.kron_core.proofs.Across.{impedance-refused, impedance-first, impedance-second, impedance-found, impedance-holds, impedance-room}
 use Rattle.kron_core.proofs.thevenin_impedance.Statement.{statement}
 use Rattle.kron_core.proofs.thevenin_impedance.Tie as tie

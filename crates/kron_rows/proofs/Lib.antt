@@ -1,0 +1,4 @@
+pub mod Positions
+pub mod Showing
+pub mod States
+pub mod Taking

@@ -1,0 +1,75 @@
+-- `kron_rows::other_rows` meets its contract: the rows before k, then those after it, which the first have left as they were.
+-- Assumes nothing.
+use mathlib.Core.Path.{_≡_, sym, ap, _∙_}
+use mathlib.Core.Logic.{⊎-elim}
+use Prim.Native.Nat.{ℕ, suc, _+_, _-_, _≤_, _<_}
+use native.Mathlib.Nat.{add-zero}
+use native.Mathlib.Numerals.{add-one}
+use native.Mathlib.Omega.{arith}
+use borrow.Author.Needs.{needs}
+use Rattle.complex.specs.declared.Complex.{Complex}
+use Rattle.complex.specs.Entries.{entry}
+use Rattle.complex.specs.Matrices.{entryAt}
+use Rattle.refusals.specs.Refusals.{limit}
+use Rattle.kron_rows.specs.Kron.{newEntry}
+use Rattle.kron_rows.specs.Removal.{kept}
+use Rattle.kron_rows.proofs.Positions.{lt-or-ge, kept-before, kept-after}
+use Rattle.kron_rows.proofs.other_rows.Statement.{statement}
+use Rattle.kron_rows.proofs.other_rows.Tie as tie
+
+put-rows-requires : tie.Need-put-rows-requires
+put-rows-requires c κs =
+    let s = c .before .before .before .before .before in
+    let k = s .args .k in
+    (s .pre .0, s .pre .1, omega arith, omega (arith, s .pre .1), omega (arith, s .pre .1), λ (p : ℕ) (l : 0 ≤ p) (u : p < k). kept-before k p u ∙ sym (add-zero p), s .pre .2, s .pre .3, s .pre .4)
+
+sub-put-rows : tie.Need-sub-put-rows
+sub-put-rows c = search needs
+
+put-rows-requires-2 : tie.Need-put-rows-requires-2
+put-rows-requires-2 c κs =
+    let ran = c .before .before .before .before .before .before in
+    let s = ran .before .before .before .before .before .before in
+    let k = s .args .k in (
+      s .pre .0,
+      s .pre .1,
+      omega (arith, s .pre .1),
+      omega arith,
+      omega (arith, s .pre .1),
+      λ (p : ℕ) (l : k ≤ p) (u : p < s .args .n - 1). kept-after k p l ∙ sym (add-one p),
+      omega (arith, s .pre .2, ran .put-rows .kept .1 .1 .1 .1 .1 .0),
+      s .pre .3,
+      ran .put-rows .kept .1 .1 .1 .1 .1 .1 .1 .0 ∙ s .pre .4,
+    )
+
+same-length : tie.Need-same-length
+same-length c = search needs
+
+same-length-2 : tie.Need-same-length-2
+same-length-2 c = search needs
+
+returns : tie.Need-returns
+returns c =
+    let second = c .before .before .before .before in
+    let first = second .before .before .before .before .before .before .before in
+    let s = first .before .before .before .before .before .before in
+    let n = s .args .n in
+    let k = s .args .k in
+    let y = s .args .y .now in
+    let row = s .args .row .now in
+    let between = first .put-rows .last .1 .1 .1 .1 .1 .0 in
+    λ (p q : ℕ) (u : p < n - 1) (v : q < n - 1).
+    ⊎-elim
+    (λ (l : p < k). second .put-rows2 .ensures .1 p q l v ∙ first .put-rows .ensures .0 p q (omega arith) l v)
+    (λ (l : k ≤ p).
+    let low : k + 0 ≤ kept k p = rw (kept-after k p l) (omega arith) in
+    let same : (j : ℕ) → entryAt n between (kept k p) j ≡ entryAt n y (kept k p) j = λ (j : ℕ). first .put-rows .ensures .2 (kept k p) j low in
+    second .put-rows2 .ensures .0 p q l u v
+    ∙ ap (λ (x : Complex). newEntry x (entryAt n between (kept k p) k) (entry row (kept k q)) (entry row k)) (same (kept k q))
+    ∙ ap (λ (x : Complex). newEntry (entryAt n y (kept k p) (kept k q)) x (entry row (kept k q)) (entry row k)) (same k))
+    (lt-or-ge p k)
+
+pub other-rows-spec : {M : Type 1} → statement M
+other-rows-spec =
+    tie.close
+    (tie.spec put-rows-requires sub-put-rows put-rows-requires-2 same-length same-length-2 returns)

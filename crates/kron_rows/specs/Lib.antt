@@ -1,0 +1,2 @@
+pub mod Kron
+pub mod Removal

@@ -1,0 +1,261 @@
+// The removal of buses from a matrix in a lent slice. What each function requires, the calls of `kron_core` have tested.
+use complex::Complex;
+use complex::cdiv;
+use complex::cmul;
+use complex::constants::tiny;
+use complex::csub;
+use complex::entry::get;
+use complex::entry::put;
+use complex::sqmag;
+use gauss_jordan::rows::copy;
+ghost use mathlib.Core.Path.{_≡_};
+ghost use mathlib.Core.Bool.{_&&_};
+ghost use Prim.Native.Nat.{ℕ, _+_, _*_, _-_, _≤_, _<_};
+ghost use lib.ListN.{length, getD};
+ghost use Rattle.complex.specs.Entries.{entry};
+ghost use Rattle.complex.specs.Matrices.{entryAt};
+ghost use Rattle.refusals.specs.Refusals.{limit};
+ghost use Rattle.buses.specs.Buses.{rising, allBelow, allZero};
+ghost use Rattle.kron_rows.specs.Kron.{newEntry, kron, tooSmall};
+ghost use Rattle.kron_rows.specs.Removal.{kept, foundIn, Holds, TookOne, TookAll};
+
+// The row of a bus.
+pub enum Found {
+    At(usize),
+    Nothing,
+}
+
+// How a list of removals ended: the refusal that stopped it, or 0, and how many were carried out.
+pub struct Ran {
+    pub stopped: u32,
+    pub done: usize,
+}
+
+pub fn find_bus(active: &[usize], bus: usize) -> Found
+    ensures { λ r. ⌜ r ≡ foundIn bus (now (active .entry)) ⌝ }
+{
+    let mut i = 0;
+    while i < active.len() {
+        if active[i] == bus {
+            return Found::At(i);
+        }
+        i += 1;
+    }
+    Found::Nothing
+}
+
+// Whether the buses rise and are all below the size at making.
+pub fn in_order(made: usize, buses: &[usize]) -> bool
+    ensures { λ r. ⌜ r ≡ (rising (now (buses .entry)) && allBelow made (now (buses .entry))) ⌝ }
+{
+    let mut low = 0;
+    let mut i = 0;
+    while i < buses.len() {
+        let bus = buses[i];
+        if bus < low {
+            return false;
+        }
+        if bus >= made {
+            return false;
+        }
+        low = bus + 1;
+        i += 1;
+    }
+    true
+}
+
+pub fn all_zero(places: &[usize]) -> bool
+    ensures { λ r. ⌜ r ≡ allZero (now (places .entry)) ⌝ }
+{
+    let mut i = 0;
+    while i < places.len() {
+        if places[i] != 0 {
+            return false;
+        }
+        i += 1;
+    }
+    true
+}
+
+// Of n active buses the one in row k drops out.
+fn close_places(active: &mut [usize], n: usize, k: usize)
+    requires { ⌜ (k < n) × (n ≤ length (now active)) ⌝ }
+    ensures { λ _. ⌜ ((p : ℕ) → p < n - 1 → getD (now (active .exit)) p 0 ≡ getD (now (active .entry)) (kept k p) 0)
+        × (getD (now (active .exit)) (n - 1) 0 ≡ 0)
+        × ((p : ℕ) → n ≤ p → getD (now (active .exit)) p 0 ≡ getD (now (active .entry)) p 0) ⌝ }
+{
+    let mut p = k;
+    while p + 1 < n {
+        active[p] = active[p + 1];
+        p += 1;
+    }
+    active[n - 1] = 0;
+}
+
+// Kron's formula.
+fn new_entry(ij: Complex, ik: Complex, kj: Complex, kk: Complex) -> Complex
+    ensures { λ r. ⌜ r ≡ newEntry ij ik kj kk ⌝ }
+{
+    csub(ij, cdiv(cmul(ik, kj), kk))
+}
+
+// The columns first .. end of a row without column k, of the old columns d further on.
+fn reduce_columns(
+    k: usize,
+    d: usize,
+    first: usize,
+    end: usize,
+    old: &[f64],
+    row: &[f64],
+    new: &mut [f64],
+)
+    requires { ⌜ ((q : ℕ) → first ≤ q → q < end → kept k q ≡ q + d) × (first ≤ end) × (2 * (end + d) ≤ length (now old)) × (2 * k + 1 < length (now old))
+        × (length (now row) ≡ length (now old)) × (2 * end ≤ length (now new)) ⌝ }
+    ensures { λ _. ⌜ ((q : ℕ) → first ≤ q → q < end → entry (now (new .exit)) q
+        ≡ newEntry (entry (now (old .entry)) (kept k q)) (entry (now (old .entry)) k) (entry (now (row .entry)) (kept k q)) (entry (now (row .entry)) k))
+        × ((q : ℕ) → q < first → entry (now (new .exit)) q ≡ entry (now (new .entry)) q) ⌝ }
+{
+    let ik = get(old, k);
+    let kk = get(row, k);
+    let mut q = first;
+    while q < end {
+        put(new, q, new_entry(get(old, q + d), ik, get(row, q + d), kk));
+        q += 1;
+    }
+}
+
+// A row of n entries without column k, reduced by row k.
+fn reduce_row(n: usize, k: usize, old: &[f64], row: &[f64], new: &mut [f64])
+    requires { ⌜ (k < n) × (length (now old) ≡ 2 * n) × (length (now row) ≡ 2 * n) × (length (now new) ≡ 2 * (n - 1)) ⌝ }
+    ensures { λ _. ⌜ ((q : ℕ) → q < n - 1 → entry (now (new .exit)) q
+        ≡ newEntry (entry (now (old .entry)) (kept k q)) (entry (now (old .entry)) k) (entry (now (row .entry)) (kept k q)) (entry (now (row .entry)) k)) ⌝ }
+{
+    reduce_columns(k, 0, 0, k, old, row, new);
+    reduce_columns(k, 1, k, n - 1, old, row, new);
+}
+
+// Row i of the n, reduced by row k, becomes row p of the n - 1.
+fn put_row(n: usize, k: usize, i: usize, p: usize, y: &mut [f64], row: &[f64], new: &mut [f64])
+    requires { ⌜ (n ≤ limit) × (k < n) × (i < n) × (p ≤ i) × (p < n - 1) × (2 * (n * n) ≤ length (now y))
+        × (length (now row) ≡ 2 * n) × (length (now new) ≡ 2 * (n - 1)) ⌝ }
+    ensures { λ _. ⌜ ((q : ℕ) → q < n - 1 → entryAt (n - 1) (now (y .exit)) p q
+        ≡ newEntry (entryAt n (now (y .entry)) i (kept k q)) (entryAt n (now (y .entry)) i k) (entry (now (row .entry)) (kept k q)) (entry (now (row .entry)) k))
+        × ((r q : ℕ) → r < p → q < n - 1 → entryAt (n - 1) (now (y .exit)) r q ≡ entryAt (n - 1) (now (y .entry)) r q)
+        × ((r q : ℕ) → i < r → entryAt n (now (y .exit)) r q ≡ entryAt n (now (y .entry)) r q) ⌝ }
+{
+    let m = n - 1;
+    let a = 2 * (i * n);
+    let e = a + 2 * n;
+    let b = 2 * (p * m);
+    let f = b + 2 * m;
+    reduce_row(n, k, &y[a..e], row, new);
+    copy(new, &mut y[b..f]);
+}
+
+// The rows first .. end of the n - 1, of the old rows d further down.
+fn put_rows(
+    n: usize,
+    k: usize,
+    d: usize,
+    first: usize,
+    end: usize,
+    y: &mut [f64],
+    row: &[f64],
+    new: &mut [f64],
+)
+    requires { ⌜ (n ≤ limit) × (k < n) × (first ≤ end) × (end ≤ n - 1) × (end + d ≤ n) × ((p : ℕ) → first ≤ p → p < end → kept k p ≡ p + d) × (2 * (n * n) ≤ length (now y))
+        × (length (now row) ≡ 2 * n) × (length (now new) ≡ 2 * (n - 1)) ⌝ }
+    ensures { λ _. ⌜ ((r q : ℕ) → first ≤ r → r < end → q < n - 1 → entryAt (n - 1) (now (y .exit)) r q
+        ≡ newEntry (entryAt n (now (y .entry)) (kept k r) (kept k q)) (entryAt n (now (y .entry)) (kept k r) k) (entry (now (row .entry)) (kept k q)) (entry (now (row .entry)) k))
+        × ((r q : ℕ) → r < first → q < n - 1 → entryAt (n - 1) (now (y .exit)) r q ≡ entryAt (n - 1) (now (y .entry)) r q)
+        × ((r q : ℕ) → end + d ≤ r → entryAt n (now (y .exit)) r q ≡ entryAt n (now (y .entry)) r q) ⌝ }
+{
+    let mut p = first;
+    while p < end {
+        put_row(n, k, p + d, p, y, row, new);
+        p += 1;
+    }
+}
+
+// Every row but k, reduced by row k.
+fn other_rows(n: usize, k: usize, y: &mut [f64], row: &[f64], new: &mut [f64])
+    requires { ⌜ (n ≤ limit) × (k < n) × (2 * (n * n) ≤ length (now y)) × (length (now row) ≡ 2 * n) × (length (now new) ≡ 2 * (n - 1)) ⌝ }
+    ensures { λ _. ⌜ ((p q : ℕ) → p < n - 1 → q < n - 1 → entryAt (n - 1) (now (y .exit)) p q
+        ≡ newEntry (entryAt n (now (y .entry)) (kept k p) (kept k q)) (entryAt n (now (y .entry)) (kept k p) k) (entry (now (row .entry)) (kept k q)) (entry (now (row .entry)) k)) ⌝ }
+{
+    put_rows(n, k, 0, 0, k, y, row, new);
+    put_rows(n, k, 1, k, n - 1, y, row, new);
+}
+
+// Row and column k drop out of the n rows at the slice's front. `row` and `new` are room for a row each.
+fn remove_row(n: usize, k: usize, y: &mut [f64], row: &mut [f64], new: &mut [f64])
+    requires { ⌜ (n ≤ limit) × (k < n) × (2 * (n * n) ≤ length (now y)) × (length (now row) ≡ 2 * limit) × (length (now new) ≡ 2 * limit) ⌝ }
+    ensures { λ _. ⌜ ((p q : ℕ) → p < n - 1 → q < n - 1 → entryAt (n - 1) (now (y .exit)) p q ≡ kron k (entryAt n (now (y .entry))) (kept k p) (kept k q)) ⌝ }
+{
+    let w = 2 * n;
+    let v = w - 2;
+    let a = 2 * (k * n);
+    let e = a + w;
+    copy(&y[a..e], &mut row[0..w]);
+    other_rows(n, k, y, &row[0..w], &mut new[0..v]);
+}
+
+// Whether row k's own entry is too small to divide by.
+fn too_small(n: usize, k: usize, y: &[f64]) -> bool
+    requires { ⌜ (n ≤ limit) × (k < n) × (2 * (n * n) ≤ length (now y)) ⌝ }
+    ensures { λ r. ⌜ r ≡ tooSmall (entryAt n (now (y .entry)) k k) ⌝ }
+{
+    sqmag(get(y, k * n + k)) < tiny()
+}
+
+// One bus is removed from the n that `active` and the slice's front hold: 0, or 11 or 12 with both as they were.
+fn take_one(
+    n: usize,
+    active: &mut [usize],
+    y: &mut [f64],
+    row: &mut [f64],
+    new: &mut [f64],
+    bus: usize,
+) -> u32
+    requires { ⌜ Holds n (now active) (now y) × (length (now row) ≡ 2 * limit) × (length (now new) ≡ 2 * limit) ⌝ }
+    ensures { λ f. ⌜ TookOne n (now (active .entry)) (now (y .entry)) bus f (now (active .exit)) (now (y .exit)) ⌝ }
+{
+    let Found::At(k) = find_bus(&active[0..n], bus) else {
+        return 11;
+    };
+    if too_small(n, k, y) {
+        return 12;
+    }
+    remove_row(n, k, y, row, new);
+    close_places(active, n, k);
+    0
+}
+
+// The buses of a list are removed in order, up to the first that is refused.
+pub fn take_list(
+    n: usize,
+    active: &mut [usize],
+    y: &mut [f64],
+    row: &mut [f64],
+    new: &mut [f64],
+    buses: &[usize],
+) -> Ran
+    requires { ⌜ Holds n (now active) (now y) × (length (now row) ≡ 2 * limit) × (length (now new) ≡ 2 * limit) ⌝ }
+    ensures { λ r. ⌜ TookAll n (now (active .entry)) (now (y .entry)) (now (buses .entry)) r (now (active .exit)) (now (y .exit)) ⌝ }
+{
+    let mut done = 0;
+    while done < buses.len() {
+        let f = take_one(n - done, active, y, row, new, buses[done]);
+        if f != 0 {
+            return Ran {
+                stopped: f,
+                done: done,
+            };
+        }
+        done += 1;
+    }
+    Ran {
+        stopped: 0,
+        done: done,
+    }
+}
