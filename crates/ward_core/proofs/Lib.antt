@@ -1,6 +1,5 @@
 pub mod WardCases
 pub mod WardLaws
-pub mod WardPlaces
 pub mod WardSolved
 pub mod WardStudied
 pub mod WardSums

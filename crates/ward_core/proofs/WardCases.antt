@@ -10,7 +10,8 @@ use Rattle.complex.specs.Matrices.{upTo, entryAt, row, rows, zeros}
 use Rattle.ward_core.specs.declared.WardSummary.{WardSummary}
 use Rattle.ward_core.specs.declared.WardAnswer.{WardAnswer}
 use Rattle.ward_core.specs.declared.WardAnswer.the-variants.{Done, Refused}
-use Rattle.ward_core.specs.Ward.{Study, Room, retained, listed, externals, admittance, sumUp, system, response, rowTimes, equivalent, current, injectedP, injectedQ, driven, transferred, injectionP, injectionQ, repeats, tooLong, misfit, unmatched, busRefusal, inputRefusal, thenPivots, refusal, reduction, summary, answered, filled, workAfter, roomAfter, AfterWard, afterWard}
+use Rattle.ward_products.specs.WardArithmetic.{sumUp, current, injectedP, injectedQ}
+use Rattle.ward_core.specs.Ward.{Study, Room, retained, listed, externals, admittance, system, response, rowTimes, equivalent, driven, transferred, injectionP, injectionQ, repeats, tooLong, misfit, unmatched, busRefusal, inputRefusal, thenPivots, refusal, reduction, summary, answered, filled, workAfter, roomAfter, AfterWard, afterWard}
 use Rattle.buses.specs.Buses.{allBelow}
 use Rattle.refusals.specs.Refusals.{limit}
 use Rattle.gauss_jordan.specs.GaussJordan.{stays, tooSmall, heldAfter, pivotRow, swapped, scaled, reduced, pivoted, cleared, runFrom, run, beside, solution, singularSystem}

@@ -16,7 +16,7 @@ use Rattle.ward_core.specs.declared.WardAnswer.{WardAnswer}
 use Rattle.ward_core.specs.declared.WardAnswer.the-variants.{Done, Refused}
 use Rattle.ward_core.specs.Ward.{Study, Room, admittance, retained, listed, repeats, busRefusal, thenPivots, summary, answered, number, AfterWard}
 use Rattle.ward_core.specs.WardExtended.{Extended, ExtendedRoom, deviation, weight, weightSum, weightedSum, voltageCorrection, qCompensation, roomAfterX, afterExtended}
-use Rattle.ward_core.specs.WardWork.{Listing}
+use Rattle.ward_products.specs.WardWork.{Listing}
 use Rattle.ward_core.specs.WardCalls.{studyOf, roomOf, after, seen, extendedOf, afterX, studied}
 use Rattle.ward_core.proofs.WardExtendedTold.{toldXOf, studiedX, extended-told}
 

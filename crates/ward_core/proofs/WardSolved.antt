@@ -21,8 +21,9 @@ use Rattle.gauss_jordan.specs.GaussJordan.{run, beside, solution, singularSyste
 use Rattle.gauss_jordan.specs.Solving.{operations, singular, solve}
 use Rattle.gauss_jordan.proofs.GaussJordan.{run-same, singular-system, beside-system, beside-right, column-alone}
 use Rattle.buses.specs.Buses.{allBelow}
-use Rattle.ward_core.specs.Ward.{Study, externals, externalAt, admittance, sumUp, system, response, rowTimes, current, driven, transferred}
-use Rattle.ward_core.specs.WardWork.{Listing, augmentedRow, augmented, productTo, product, lessProduct}
+use Rattle.ward_products.specs.WardArithmetic.{sumUp, current}
+use Rattle.ward_core.specs.Ward.{Study, externals, externalAt, admittance, system, response, rowTimes, driven, transferred}
+use Rattle.ward_products.specs.WardWork.{Listing, augmentedRow, augmented, productTo, product, lessProduct}
 use Rattle.ward_core.specs.WardCalls.{cut}
 
 -- ---- parts of a listing

@@ -20,8 +20,9 @@ use Rattle.gauss_jordan.specs.Solving.{operations, singular}
 use Rattle.ward_core.specs.declared.WardSummary.{WardSummary}
 use Rattle.ward_core.specs.declared.WardAnswer.{WardAnswer}
 use Rattle.ward_core.specs.declared.WardAnswer.the-variants.{Done, Refused}
-use Rattle.ward_core.specs.Ward.{Study, Room, externals, retained, admittance, equivalent, rowTimes, response, injectedP, injectedQ, transferred, injectionP, injectionQ, system, reduction, summary, answered, thenPivots, filled, workAfter, roomAfter, AfterWard}
-use Rattle.ward_core.specs.WardWork.{augmented, productTo, product, lessProduct}
+use Rattle.ward_products.specs.WardArithmetic.{injectedP, injectedQ}
+use Rattle.ward_core.specs.Ward.{Study, Room, externals, retained, admittance, equivalent, rowTimes, response, transferred, injectionP, injectionQ, system, reduction, summary, answered, thenPivots, filled, workAfter, roomAfter, AfterWard}
+use Rattle.ward_products.specs.WardWork.{augmented, productTo, product, lessProduct}
 use Rattle.ward_core.specs.WardCalls.{roomOf, after, cut, studied, filledBy}
 use Rattle.ward_core.proofs.WardSolved.{product-response, product-driven}
 

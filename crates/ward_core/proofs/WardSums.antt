@@ -21,7 +21,7 @@ use Rattle.binary64.specs.Root.{root}
 use Rattle.complex.specs.Magnitude.{magnitude}
 use Rattle.binary64.proofs.Floats.{Zero, add-left, add-right, sub-right, zero-of}
 use Rattle.complex.proofs.Finite.{all-left, all-right, all-at, zero-times}
-use Rattle.ward_core.specs.Ward.{sumUp}
+use Rattle.ward_products.specs.WardArithmetic.{sumUp}
 use Rattle.ward_core.specs.WardExtended.{addUp}
 use Rattle.ward_core.specs.WardComputed.{ofEach, ofProducts}
 

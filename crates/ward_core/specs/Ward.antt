@@ -10,6 +10,7 @@ use Rattle.complex.specs.declared.Complex.{Complex}
 use Rattle.complex.specs.Constants.{plus0, one}
 use Rattle.complex.specs.Arithmetic.{_⊖_, _⊗_, _⊘_, cadd, csub, cmul}
 use Rattle.complex.specs.Matrices.{Matrix, entryAt, rows, zeros}
+use Rattle.ward_products.specs.WardArithmetic.{sumUp, current, injectedP, injectedQ}
 use Rattle.refusals.specs.Refusals.{limit, tooMany, wrongLength, unlikeLists, noSuchBus, busTwice, smallPivot, refuse}
 use Rattle.gauss_jordan.specs.Solving.{solve, singular}
 use Rattle.ward_core.specs.declared.WardSummary.{WardSummary}
@@ -58,12 +59,6 @@ admittance S = entryAt (S .size) (S .given)
 
 -- ---- Ward's formula
 
--- f 0 + f 1 + .. + f (n - 1), from (0, 0) upward
-unfoldable pub sumUp : ℕ → (ℕ → Complex) → Complex
-unfolding plus0
-sumUp zero f = record { re = plus0; im = plus0 }
-sumUp (suc n) f = cadd (sumUp n f) (f n)
-
 -- Y_ee, by place in the external list
 unfoldable pub system : Study → Matrix
 unfolding admittance
@@ -85,17 +80,6 @@ unfolding rowTimes response admittance
 equivalent S i j = cond (eqb (externals S) 0) (admittance S i j) (csub (admittance S i j) (rowTimes S i (response S j)))
 
 -- ---- injections
-
--- the current of P and Q at an external bus, per unit
-unfoldable pub current : Float → Float → Float → Complex
-current base p q = record { re = p ⊘ base; im = q ⊘ base }
-
--- what a boundary bus gets, in MW and in MVAr, for the current that the external part draws through it
-unfoldable pub injectedP : Float → Complex → Float
-injectedP base i = neg (i .re) ⊗ base
-
-unfoldable pub injectedQ : Float → Complex → Float
-injectedQ base i = neg (i .im) ⊗ base
 
 -- x: the solution of Y_ee x = the currents
 unfoldable pub driven : Study → ℕ → Complex

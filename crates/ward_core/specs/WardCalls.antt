@@ -13,9 +13,10 @@ use Rattle.complex.specs.Matrices.{grid, zeros}
 use Rattle.ward_core.specs.declared.WardSummary.{WardSummary}
 use Rattle.ward_core.specs.declared.WardAnswer.{WardAnswer}
 use Rattle.ward_core.specs.declared.WardAnswer.the-variants.{Done}
-use Rattle.ward_core.specs.Ward.{Study, Room, externals, retained, thenPivots, summary, answered, roomAfter, AfterWard, injectedP, injectedQ, reduction}
+use Rattle.ward_products.specs.WardArithmetic.{injectedP, injectedQ}
+use Rattle.ward_core.specs.Ward.{Study, Room, externals, retained, thenPivots, summary, answered, roomAfter, AfterWard, reduction}
 use Rattle.ward_core.specs.WardExtended.{Extended, ExtendedRoom, AfterExtended}
-use Rattle.ward_core.specs.WardWork.{Listing, productTo, product, lessProduct}
+use Rattle.ward_products.specs.WardWork.{Listing, productTo, product, lessProduct}
 
 abbrev pub studyOf : ℕ → List Float → List ℕ → List ℕ → List ℕ → Float → List Float → List Float → Study
 studyOf n ys is es bs base ps qs = record { size = n; given = ys; internal = is; external = es; boundary = bs; base = base; p-ext = ps; q-ext = qs }

@@ -8,7 +8,6 @@ ghost use Rattle.ward_core.specs.WardExtended as extended;
 pub mod ward_corrections;
 pub mod ward_lengths;
 pub mod ward_lists;
-pub mod ward_rows;
 pub mod ward_study;
 
 // Of a study: the size of the given matrix, how many buses the equivalent keeps, and 1 less their quotient.

@@ -1,14 +1,14 @@
 // What the voltages at the external buses add to a Ward study: for each boundary bus a voltage correction and a reactive compensation.
 // The functions here have a `requires`, which their callers prove. n: buses; voltages per unit, base in MVA.
-use crate::ward_rows::at;
 use complex::magnitude::magnitude;
+use ward_products::ward_rows::at;
 ghost use mathlib.Core.Path.{_≡_};
 ghost use mathlib.Core.List.{map};
 ghost use Prim.Native.Nat.{ℕ, _<_};
 ghost use lib.ListN.{length};
 ghost use Rattle.ward_core.specs.WardCalls as spec;
 ghost use Rattle.ward_core.specs.WardExtended as ward;
-ghost use Rattle.ward_core.specs.WardWork.{Listing};
+ghost use Rattle.ward_products.specs.WardWork.{Listing};
 
 // Over the ties of one boundary bus: the magnitudes, the deviations weighted with them, and the reactive power in MVAr.
 pub struct TieSums {

@@ -2,10 +2,10 @@
 use crate::WardAnswer;
 use crate::WardSummary;
 use crate::ward_lists;
-use crate::ward_rows;
 use gauss_jordan::elimination::gauss_jordan;
 use gauss_jordan::rows;
 use refusals::LIMIT;
+use ward_products::ward_rows;
 ghost use mathlib.Core.Path.{_≡_};
 ghost use Prim.Native.Nat.{ℕ, _+_, _*_, _<_, _≤_};
 ghost use lib.ListN.{length};

@@ -9,7 +9,7 @@ use borrow.Author.Needs.{needs}
 use Rattle.gauss_jordan.proofs.Passed.{Stored, stored-none, stored-more}
 use Rattle.ward_core.specs.WardExtended.{Extended, voltageCorrection, qCompensation}
 use Rattle.ward_core.specs.WardCalls.{seen}
-use Rattle.ward_core.proofs.WardPlaces.{listed-below, stored-map}
+use Rattle.ward_products.proofs.WardPlaces.{listed-below, stored-map}
 use Rattle.ward_core.proofs.WardTies.{mean-is}
 use Rattle.ward_core.proofs.ward_corrections.corrections.Statement.{statement}
 use Rattle.ward_core.proofs.ward_corrections.corrections.Tie as tie

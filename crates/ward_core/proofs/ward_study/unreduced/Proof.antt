@@ -18,8 +18,9 @@ use Rattle.complex.specs.Matrices.{entryAt, zeros}
 use Rattle.refusals.specs.Refusals.{limit}
 use Rattle.ward_core.specs.declared.WardSummary.{WardSummary}
 use Rattle.ward_core.specs.declared.WardAnswer.the-variants.{Done, Refused}
-use Rattle.ward_core.specs.Ward.{reduction, injectedP, injectedQ}
-use Rattle.ward_core.specs.WardWork.{Listing, Rows, product, lessProduct}
+use Rattle.ward_products.specs.WardArithmetic.{injectedP, injectedQ}
+use Rattle.ward_core.specs.Ward.{reduction}
+use Rattle.ward_products.specs.WardWork.{Listing, Rows, product, lessProduct}
 use Rattle.ward_core.specs.WardCalls.{roomOf, after, cut, studied, Listed, Solved, filledBy}
 use Rattle.ward_core.proofs.Scans.{rest-is}
 use Rattle.ward_core.proofs.WardSolved.{listing-take, listing-drop, pivots-of}

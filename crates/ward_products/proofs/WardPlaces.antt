@@ -1,0 +1,114 @@
+-- Places in the given matrix and in the work slice: within bounds.
+-- Assumes nothing.
+use mathlib.Core.Path.{_≡_, refl, sym, ap, subst, _∙_}
+use mathlib.Core.List.{List, [], _∷_, _++_, map}
+use Prim.Native.Nat.{ℕ, zero, suc, _+_, _*_, _<_, _≤_}
+use native.Mathlib.Omega.{arith}
+use lib.Dec.{T, eqb, ltb}
+use lib.ListN.{length, getD, take, drop, length-map}
+use lib.Seq.{ext-getD}
+use lib.Ieee.{Float, nan}
+use native.Mathlib.Numerals.{add-one}
+use native.Mathlib.Nat.{eq-or-lt-of-le, add-assoc}
+use borrow.Author.Tests.{lt-ltb, le-ltb}
+use mathlib.Core.Logic.{_⊎_, inl, inr}
+use mathlib.Core.Bool.{cond}
+use Rattle.complex.proofs.Parts.{back}
+use Rattle.gauss_jordan.specs.Work.{withRow}
+use Rattle.gauss_jordan.proofs.RowParts.{row-end, row-written, length-part}
+use Rattle.complex.specs.declared.Complex.{Complex}
+use Rattle.complex.specs.Arithmetic.{cadd, cmul}
+use Rattle.complex.specs.Entries.{entry, put}
+use Rattle.complex.specs.Matrices.{Matrix, entryAt, row, zeros}
+use Rattle.complex.proofs.Entries.{parts-same, length-put, entry-put-same, entry-put-other, entry-append-left, entry-take, entry-drop}
+use Rattle.complex.proofs.Matrices.{entry-within, length-row, entry-row, getD-zeros}
+use Rattle.gauss_jordan.proofs.Passed.{Put, put-more, Stored}
+use Rattle.ward_products.specs.WardArithmetic.{sumUp}
+use Rattle.buses.specs.Buses.{allBelow}
+use Rattle.ward_products.specs.WardWork.{Listing, augmentedRow, productTo}
+use Rattle.buses.proofs.Buses.{getD-in, below-all}
+
+-- a listed bus is one of the matrix
+pub listed-below : (n : ℕ) (ys : List Float) (bs : List ℕ) → Listing n ys bs → (k : ℕ) → k < length bs → getD bs k 0 < n
+listed-below n ys bs h k l = below-all n bs (h .below) (getD bs k 0) (getD-in bs k l)
+
+-- the entry between two buses of the matrix lies within its slice
+pub entry-index : (n : ℕ) (ys : List Float) → length ys ≡ 2 * (n * n) → (i j : ℕ) → i < n → j < n → 2 * (i * n + j) + 1 < length ys
+entry-index n ys full i j x y = let h : i * n + j < n * n = entry-within n n i j x y in omega arith
+
+-- the entry in row i and column j of n rows of w lies within their slice
+pub row-index : (n w : ℕ) (ws : List Float) → length ws ≡ 2 * (n * w) → (i j : ℕ) → i < n → j < w → 2 * (i * w + j) + 1 < length ws
+row-index n w ws full i j x y = let h : i * w + j < n * w = entry-within n w i j x y in omega arith
+
+-- a turn of a loop that stores one entry
+pub put-turn : (ys ys' : List Float) (new old : ℕ → Complex) (w i : ℕ) (v : Complex) → i < w → length ys ≡ 2 * w → Put ys new old i → ys' ≡ put ys i v → v ≡ new i
+    → (i + 1 ≤ w) × (length ys' ≡ 2 * w) × Put ys' new old (i + 1)
+put-turn ys ys' new old w i v h l p e q = (
+  omega arith,
+  ap length e ∙ length-put ys i v ∙ l,
+  subst (λ (zs : List Float). Put zs new old (i + 1)) (sym e) (put-more ys new old i v (omega arith) q p),
+)
+
+-- one more term of a product
+pub product-more : (n : ℕ) (ys : List Float) (es : List ℕ) (w : ℕ) (ws : List Float) (bus c k : ℕ)
+    → productTo n ys es w ws bus c (k + 1) ≡ cadd (productTo n ys es w ws bus c k) (cmul (entryAt n ys bus (getD es k 0)) (entryAt w ws k c))
+unfolding productTo sumUp
+product-more n ys es w ws bus c k = rw add-one refl
+
+-- a row filled: the listed columns, and c behind them
+pub filled-row : (Y : Matrix) (bus : ℕ) (bs : List ℕ) (vs rest zs : List Float) (c : Complex) → vs ≡ row Y bus bs → 2 * length bs + 1 < length (vs ++ rest) → zs ≡ put (vs ++ rest) (length bs) c
+    → ((j : ℕ) → j < length bs → entry zs j ≡ Y bus (getD bs j 0)) × (entry zs (length bs) ≡ c)
+filled-row Y bus bs vs rest zs c v h e =
+    let long : length vs ≡ 2 * length bs = ap length v ∙ length-row Y bus bs in (
+      λ (j : ℕ) (l : j < length bs).
+          ap (λ (us : List Float). entry us j) e
+          ∙ entry-put-other (vs ++ rest) (length bs) c j (λ (q : j ≡ length bs). omega arith)
+          ∙ entry-append-left vs rest j (omega arith)
+          ∙ ap (λ (us : List Float). entry us j) v
+          ∙ entry-row Y bus bs j l,
+      ap (λ (us : List Float). entry us (length bs)) e ∙ entry-put-same (vs ++ rest) (length bs) c h,
+    )
+
+pub augmented-row : (n : ℕ) (ys : List Float) (bs : List ℕ) (k : ℕ) (c : Complex) (zs : List Float)
+    → ((j : ℕ) → j < length bs → entry zs j ≡ entryAt n ys (getD bs k 0) (getD bs j 0)) → entry zs (length bs) ≡ c
+    → (j : ℕ) → j < length bs + 1 → entry zs j ≡ augmentedRow n ys bs k c j
+unfolding augmentedRow
+augmented-row n ys bs k c zs f g j h = pick (eq-or-lt-of-le {n = j} {m = length bs} (omega arith))
+  where
+    pick : (j ≡ length bs) ⊎ (j < length bs) → entry zs j ≡ cond (ltb j (length bs)) (entryAt n ys (getD bs k 0) (getD bs j 0)) c
+    pick (inl e) = rw (le-ltb j (length bs) (omega arith)) (ap (entry zs) e ∙ g)
+    pick (inr l) = rw (lt-ltb j (length bs) l) (f j l)
+
+-- row r came back with the entries f
+pub row-became : (n w r k : ℕ) (xs ys : List Float) → k ≡ 2 * w → length xs ≡ 2 * (n * w) → r < n → length ys ≡ 2 * w
+    → (f : ℕ → Complex) → ((j : ℕ) → j < w → entry ys j ≡ f j) → (i j : ℕ) → j < w → entryAt w (back (2 * (r * w)) k xs ys) i j ≡ withRow r f (entryAt w xs) i j
+unfolding withRow
+row-became n w r k xs ys e full h long f g i j l = row-written n w r k xs ys e full h long i j l ∙ ap (λ (x : Complex). cond (eqb i r) x (entryAt w xs i j)) (g j l)
+
+-- the r entries of row k behind the first e
+pub part-entry : (w k e r m : ℕ) (ws : List Float) → m ≡ 2 * r → (q : ℕ) → q < r → entry (take m (drop (2 * (k * w + e)) ws)) q ≡ entryAt w ws k (e + q)
+unfolding entryAt
+part-entry w k e r m ws p q h =
+    ap (λ (l : ℕ). entry (take l (drop (2 * (k * w + e)) ws)) q) p
+    ∙ entry-take r (drop (2 * (k * w + e)) ws) q h
+    ∙ entry-drop (k * w + e) ws q
+    ∙ ap (entry ws) (add-assoc (k * w) e q)
+
+-- ---- one number for each of a list of buses
+
+pub getD-map : (f : ℕ → Float) (xs : List ℕ) (t : ℕ) → t < length xs → getD (map f xs) t nan ≡ f (getD xs t 0)
+getD-map f [] t h = absurd (omega arith)
+getD-map f (x ∷ xs) zero h = refl
+getD-map f (x ∷ xs) (suc t) h = getD-map f xs t (omega arith)
+
+pub stored-map : (f : ℕ → Float) (bs : List ℕ) (xs : List Float) (old : ℕ → Float) (t : ℕ) → length xs ≡ length bs → length bs ≤ t
+    → Stored xs (λ (k : ℕ). f (getD bs k 0)) old t → xs ≡ map f bs
+stored-map f bs xs old t l h p =
+    ext-getD nan xs (map f bs) (l ∙ sym (length-map bs f)) λ (k : ℕ) (m : k < length xs). p .behind k (omega arith) ∙ sym (getD-map f bs k (omega arith))
+
+-- a row of +0s is a product with no term
+pub cleared-row : (n : ℕ) (ys : List Float) (es : List ℕ) (w : ℕ) (ws : List Float) (bus c m r : ℕ) (zs : List Float) → zs ≡ zeros m → m ≡ 2 * r
+    → (q : ℕ) → q < r → entry zs q ≡ productTo n ys es w ws bus c 0
+unfolding productTo sumUp entry
+cleared-row n ys es w ws bus c m r zs e l q h =
+    ap (λ (us : List Float). entry us q) e ∙ parts-same (getD-zeros m (2 * q) (omega arith)) (getD-zeros m (2 * q + 1) (omega arith))

@@ -1,0 +1,108 @@
+-- `ward_products::ward_rows::row_times` meets its contract. The invariant: the sum has the terms before k.
+-- Assumes nothing.
+use mathlib.Core.Path.{_≡_, refl, sym, ap, subst, _∙_}
+use mathlib.Core.Bool.{true, false}
+use mathlib.Core.List.{List}
+use Prim.Native.Nat.{ℕ, suc, _+_, _*_, _-_, _≤_, _<_}
+use native.Mathlib.Omega.{arith}
+use lib.ListN.{length, getD, take, drop, length-set}
+use lib.Ieee.{Float, nan}
+use borrow.Author.Needs.{needs}
+use Rattle.complex.specs.declared.Complex.{Complex}
+use Rattle.complex.specs.Arithmetic.{cadd, csub, cmul}
+use Rattle.complex.specs.Entries.{entry, put}
+use Rattle.complex.specs.Matrices.{entryAt, row}
+use Rattle.complex.specs.Constants.{plus0}
+use Rattle.complex.proofs.Matrices.{row-ext}
+use Rattle.gauss_jordan.proofs.Passed.{Put, put-none, put-more, Mapped, mapped-more, RowsPassed, rows-none, rows-more}
+use Rattle.ward_products.specs.WardArithmetic.{sumUp}
+use Rattle.ward_products.specs.WardWork.{Listing, Rows, productTo, product}
+use Rattle.ward_products.proofs.WardPlaces.{listed-below, entry-index, row-index, put-turn, product-more}
+use Rattle.ward_products.proofs.ward_rows.row_times.Statement.{statement}
+use Rattle.ward_products.proofs.ward_rows.row_times.Tie as tie
+
+abbrev Inv-loop : tie.InvT-loop
+Inv-loop y n bus outer work w c sum₀ k₀ sum k = (k ≤ length outer) × (sum ≡ productTo n y outer w work bus c k)
+
+abbrev μ-loop : tie.MeasureT-loop
+μ-loop y n bus outer work w c sum₀ k₀ sum k = length outer - k
+
+loop-holds : tie.Need-loop-holds Inv-loop μ-loop
+unfolding productTo sumUp plus0
+loop-holds c = (omega arith, refl)
+
+mul-at : tie.Need-mul-at Inv-loop μ-loop
+mul-at c = search needs
+
+shared-slice-read-at : tie.Need-shared-slice-read-at Inv-loop μ-loop
+shared-slice-read-at c = search needs
+
+at-requires : tie.Need-at-requires Inv-loop μ-loop
+at-requires c κs =
+    let t = c .before in
+    let l = t .before in
+    let s = l .before .before .before .before in
+    let a = s .args in
+    entry-index (a .n) (a .y .now) (s .pre .0 .full) (a .bus) (getD (a .outer .now) (l .loop .k) 0) (s .pre .1)
+    (listed-below (a .n) (a .y .now) (a .outer .now) (s .pre .0) (l .loop .k) (t .loop-test .taken))
+
+at-requires-2 : tie.Need-at-requires-2 Inv-loop μ-loop
+at-requires-2 c κs =
+    let t = c .before .before in
+    let l = t .before in
+    let s = l .before .before .before .before in
+    let a = s .args in
+    row-index (length (a .outer .now)) (a .w) (a .work .now) (s .pre .2 .full) (l .loop .k) (a .c) (t .loop-test .taken) (s .pre .3)
+
+cmul-requires : tie.Need-cmul-requires Inv-loop μ-loop
+cmul-requires c κs = search needs
+
+cadd-requires : tie.Need-cadd-requires Inv-loop μ-loop
+cadd-requires c κs = search needs
+
+add-k : tie.Need-add-k Inv-loop μ-loop
+add-k c = search needs
+
+loop-less : tie.Need-loop-less Inv-loop μ-loop
+loop-less c = search needs
+
+loop-again : tie.Need-loop-again Inv-loop μ-loop
+loop-again c =
+    let s = c .cadd in
+    let m = c .before .cmul in
+    let x = c .before .before .at2 in
+    let g = c .before .before .before .at in
+    let t = c .before .before .before .before .before in
+    let l = t .before .loop in
+    let a = t .before .before .before .before .before .args in (
+      omega arith,
+      s .ensures
+          ∙ ap (λ (u : Complex). cadd u (m .result)) (l .inv .1)
+          ∙ ap (cadd (productTo (a .n) (a .y .now) (a .outer .now) (a .w) (a .work .now) (a .bus) (a .c) (l .k))) (m .ensures ∙ ap (λ (u : Complex). cmul u (x .result)) (g .ensures) ∙ ap (cmul (entryAt (a .n) (a .y .now) (a .bus) (getD (a .outer .now) (l .k) 0))) (x .ensures))
+          ∙ sym (product-more (a .n) (a .y .now) (a .outer .now) (a .w) (a .work .now) (a .bus) (a .c) (l .k)),
+    )
+
+returns : tie.Need-returns Inv-loop μ-loop
+returns c =
+    let l = c .before .loop in
+    let a = c .before .before .before .before .before .args in
+    let end : l .k ≡ length (a .outer .now) = omega arith in
+    l .inv .1 ∙ ap (productTo (a .n) (a .y .now) (a .outer .now) (a .w) (a .work .now) (a .bus) (a .c)) end
+
+pub row-times-spec : {M : Type 1} → statement M
+row-times-spec =
+    tie.close
+    (tie.spec
+    Inv-loop
+    μ-loop
+    loop-holds
+    mul-at
+    shared-slice-read-at
+    at-requires
+    at-requires-2
+    cmul-requires
+    cadd-requires
+    add-k
+    loop-less
+    loop-again
+    returns)

@@ -1,0 +1,83 @@
+-- `ward_products::ward_rows::submatrix` meets its contract. The invariant: the rows before row p are gathered, the others as they were.
+-- Assumes nothing.
+use mathlib.Core.Path.{_≡_, refl, sym, ap, subst, _∙_}
+use mathlib.Core.Bool.{true, false}
+use mathlib.Core.List.{List}
+use Prim.Native.Nat.{ℕ, suc, _+_, _*_, _-_, _≤_, _<_}
+use native.Mathlib.Omega.{arith}
+use lib.ListN.{length, getD, take, drop, length-set}
+use lib.Ieee.{Float, nan}
+use borrow.Author.Needs.{needs}
+use Rattle.complex.specs.declared.Complex.{Complex}
+use lib.ListN.{length-append, length-drop}
+use Rattle.complex.specs.Arithmetic.{cadd, csub, cmul}
+use Rattle.complex.specs.Entries.{entry, put}
+use Rattle.complex.specs.Matrices.{entryAt, row}
+use Rattle.complex.proofs.Matrices.{entry-row, length-row, rows-ext}
+use Rattle.gauss_jordan.proofs.RowParts.{row-end, length-part}
+use Rattle.gauss_jordan.proofs.Passed.{RowsPassed, rows-none, rows-more, Stored, stored-none, stored-more}
+use Rattle.ward_products.specs.WardArithmetic.{current, injectedP, injectedQ}
+use Rattle.ward_products.specs.WardWork.{Listing, Rows, augmentedRow, augmented, pickedRow, productTo, product}
+use Rattle.ward_products.proofs.WardPlaces.{listed-below, entry-index, row-index, product-more, filled-row, augmented-row, row-became, part-entry, stored-map}
+use Rattle.ward_products.proofs.ward_rows.submatrix.Statement.{statement}
+use Rattle.ward_products.proofs.ward_rows.submatrix.Tie as tie
+
+abbrev Inv-loop : tie.InvT-loop
+Inv-loop y n kept to₀ p₀ to p = (p ≤ length kept) × (length to ≡ 2 * (length kept * length kept)) × RowsPassed (length kept) to (pickedRow n y kept) (entryAt (length kept) to₀) p
+
+abbrev μ-loop : tie.MeasureT-loop
+μ-loop y n kept to₀ p₀ to p = length kept - p
+
+loop-holds : tie.Need-loop-holds Inv-loop μ-loop
+loop-holds c =
+    let s = c .before .before .before in
+    let a = s .args in
+    (omega arith, s .pre .1, rows-none (length (a .kept .now)) (a .to .now) (pickedRow (a .n) (a .y .now) (a .kept .now)))
+
+pick-at-requires : tie.Need-pick-at-requires Inv-loop μ-loop
+pick-at-requires c κs =
+    let t = c .before in
+    (c .before .before .before .before .before .before .pre .0, t .loop-test .taken, t .before .loop .inv .1)
+
+add-p : tie.Need-add-p Inv-loop μ-loop
+add-p c = search needs
+
+loop-less : tie.Need-loop-less Inv-loop μ-loop
+loop-less c = search needs
+
+loop-again : tie.Need-loop-again Inv-loop μ-loop
+loop-again c =
+    let x = c .before .before .pick-at in
+    let l = c .before .before .before .before .before .loop in
+    let a = c .before .before .before .before .before .before .before .before .before .args in
+    let r = length (a .kept .now) in
+    let Y = pickedRow (a .n) (a .y .now) (a .kept .now) in (
+      omega arith,
+      x .kept .1 .1 .1 .1 .0 ∙ l .inv .1,
+      rows-more r (l .to) (x .last .1 .1 .1 .1 .0) Y (entryAt r (a .to .now)) (l .p) (Y (l .p)) (x .ensures) (λ (q : ℕ) (h : q < r). refl) (l .inv .2),
+    )
+
+same-length : tie.Need-same-length Inv-loop μ-loop
+same-length c = c .before .loop .inv .1 ∙ sym (c .before .before .before .before .before .pre .1)
+
+returns : tie.Need-returns Inv-loop μ-loop
+unfolding pickedRow
+returns c =
+    let l = c .before .loop in
+    let a = c .before .before .before .before .before .args in
+    rows-ext (entryAt (a .n) (a .y .now)) (a .kept .now) (a .kept .now) (l .to) (l .inv .1)
+    (λ (p q : ℕ) (h : p < length (a .kept .now)) (m : q < length (a .kept .now)). l .inv .2 .behind p (omega arith) q m)
+
+pub submatrix-spec : {M : Type 1} → statement M
+submatrix-spec =
+    tie.close
+    (tie.spec
+    Inv-loop
+    μ-loop
+    loop-holds
+    pick-at-requires
+    add-p
+    loop-less
+    loop-again
+    same-length
+    returns)

@@ -1,0 +1,2 @@
+pub mod WardArithmetic
+pub mod WardWork
