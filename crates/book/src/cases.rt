@@ -1,4 +1,4 @@
-// The cases, each run through the library. Outputs and work slices hold ones before a call.
+// The twelve cases, each run through the library. Outputs and work slices hold ones before a call.
 // Each answers 1 where what is seen is what the table says, else 0.
 use crate::table;
 use crate::words::put;
@@ -245,6 +245,61 @@ pub fn case_10() -> u64
     let n = study(&mut seen, &y, &none, &nothing, &nothing, &mut work);
     let expected = table::CASE_10;
     report(10, b"M, boundary 0, no external bus", &seen, n, &expected)
+}
+
+// Boundary bus 0, external bus 1 with no injection at voltage 1.25, base 100; what is seen of the call.
+fn extended(seen: &mut [u64], y: &[f64]) -> usize {
+    let internal: [usize; 0] = [];
+    let external = [1];
+    let boundary = [0];
+    let nothing = [0.0];
+    let v = [1.25];
+    let mut y_ward = [1.0; 2];
+    let mut p_ward = [1.0; 1];
+    let mut q_ward = [1.0; 1];
+    let mut correction = [1.0; 1];
+    let mut compensation = [1.0; 1];
+    let mut work = [1.0; 6];
+    let a = ward::compute_extended(
+        2,
+        y,
+        &internal,
+        &external,
+        &boundary,
+        100.0,
+        &nothing,
+        &nothing,
+        &v,
+        &mut y_ward,
+        &mut p_ward,
+        &mut q_ward,
+        &mut correction,
+        &mut compensation,
+        &mut work,
+    );
+    let n = put_study(seen, 0, a);
+    let n = put_numbers(seen, n, &y_ward);
+    let n = put_numbers(seen, n, &p_ward);
+    let n = put_numbers(seen, n, &q_ward);
+    let n = put_numbers(seen, n, &correction);
+    let n = put_numbers(seen, n, &compensation);
+    put_numbers(seen, n, &work)
+}
+
+pub fn case_11() -> u64
+    ensures { λ r. ⌜ r ≤ 1 ⌝ }
+{
+    let mut seen = [0; ROOM];
+    let y = table::LOSSY;
+    let n = extended(&mut seen, &y);
+    let expected = table::CASE_11;
+    report(
+        11,
+        b"extended, boundary 0, external 1, voltage 1.25",
+        &seen,
+        n,
+        &expected,
+    )
 }
 
 // ---- a system solved
