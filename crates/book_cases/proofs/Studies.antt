@@ -13,8 +13,8 @@ use Rattle.gauss_jordan.specs.GaussJordan.{stays, tooSmall, heldAfter, pivotRow
 use Rattle.gauss_jordan.specs.Solving.{skipped}
 use Rattle.buses.specs.Buses.{allBelow}
 use Rattle.ward_products.specs.WardArithmetic.{sumUp, current, injectedP, injectedQ}
-use Rattle.ward_core.specs.Ward.{retained, listed, admittance, system, response, rowTimes, equivalent, driven, transferred, injectionP, injectionQ, repeats, tooLong, misfit, unmatched, busRefusal, inputRefusal, thenPivots, refusal, reduction, summary, answered, filled, workAfter, roomAfter, afterWard}
-use Rattle.ward_core.specs.WardExtended.{addUp, deviation, weight, weightSum, weightedSum, voltageCorrection, reactive, qCompensation, inputRefusalX, refusalX, roomAfterX, afterExtended}
+use Rattle.ward_studies.specs.Ward.{retained, listed, admittance, system, response, rowTimes, equivalent, driven, transferred, injectionP, injectionQ, repeats, tooLong, misfit, unmatched, busRefusal, inputRefusal, thenPivots, refusal, reduction, summary, answered, filled, workAfter, roomAfter, afterWard}
+use Rattle.ward_studies.specs.WardExtended.{addUp, deviation, weight, weightSum, weightedSum, voltageCorrection, reactive, qCompensation, inputRefusalX, refusalX, roomAfterX, afterExtended}
 use Rattle.book_cases.specs.Calls.{ofSummary, after}
 use Rattle.book_cases.specs.Book.{reals, Met, case9, case10, case11}
 

@@ -12,11 +12,11 @@ use Rattle.kron_core.specs.declared.Impedance.{Impedance}
 use Rattle.kron_core.specs.declared.Impedance.the-variants as impedances
 use Rattle.kron_core.specs.Reducer.{Making, afterNew, AfterBus, afterBus, AfterBuses, afterBuses}
 use Rattle.kron_core.specs.Reading.{AfterImpedance, afterImpedance}
-use Rattle.ward_core.specs.declared.WardSummary.{WardSummary}
-use Rattle.ward_core.specs.declared.WardAnswer.{WardAnswer}
-use Rattle.ward_core.specs.declared.WardAnswer.the-variants as studies
-use Rattle.ward_core.specs.Ward.{Study, Room, AfterWard, afterWard}
-use Rattle.ward_core.specs.WardExtended.{Extended, ExtendedRoom, AfterExtended, afterExtended}
+use Rattle.ward_studies.specs.declared.WardSummary.{WardSummary}
+use Rattle.ward_studies.specs.declared.WardAnswer.{WardAnswer}
+use Rattle.ward_studies.specs.declared.WardAnswer.the-variants as studies
+use Rattle.ward_studies.specs.Ward.{Study, Room, AfterWard, afterWard}
+use Rattle.ward_studies.specs.WardExtended.{Extended, ExtendedRoom, AfterExtended, afterExtended}
 
 -- A call with all that is handed to it. The reducer's calls come after the making of their record; what comes last is what the slices hold at entry.
 pub data Call : Type 0 where

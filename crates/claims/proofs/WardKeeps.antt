@@ -24,12 +24,12 @@ use Rattle.complex.proofs.Matrices.{entry-within, entry-rows}
 use Rattle.complex.proofs.Finite.{all-left, all-right, all-at, zero-times}
 use Rattle.buses.specs.Buses.{_∈_}
 use Rattle.ward_products.specs.WardArithmetic.{sumUp, injectedP, injectedQ}
-use Rattle.ward_core.specs.Ward.{Study, Room, Accepted, retained, listed, externals, externalAt, admittance, response, rowTimes, equivalent, driven, transferred, injectionP, injectionQ, filled, afterWard}
-use Rattle.ward_core.specs.WardComputed.{ofEach, ofProducts, ofRowTimes, ofResponse, ofEntry, ofCurrents, ofDriven, ofInjection, ofReduction, ofEquivalent, ofInjections, ofStudy, ofExtended}
+use Rattle.ward_studies.specs.Ward.{Study, Room, Accepted, retained, listed, externals, externalAt, admittance, response, rowTimes, equivalent, driven, transferred, injectionP, injectionQ, filled, afterWard}
+use Rattle.ward_studies.specs.WardComputed.{ofEach, ofProducts, ofRowTimes, ofResponse, ofEntry, ofCurrents, ofDriven, ofInjection, ofReduction, ofEquivalent, ofInjections, ofStudy, ofExtended}
 use Rattle.buses.proofs.Buses.{getD-in, append-cases, in-append, below-all}
-use Rattle.ward_core.proofs.WardLaws.{Sound, sound, left-accepted}
+use Rattle.ward_studies.proofs.WardLaws.{Sound, sound, left-accepted}
 use Rattle.ward_products.proofs.WardPlaces.{getD-map}
-use Rattle.ward_core.proofs.WardSums.{Null, plus0-zero, products-null, each-at}
+use Rattle.ward_studies.proofs.WardSums.{Null, plus0-zero, products-null, each-at}
 use Rattle.claims.specs.WardRows.{givenOf, FiniteStudy, old, rowBuses, busOfRow, ZeroRow, KeepsValues, ZeroAt, KeepsRow}
 
 -- ---- rows and places

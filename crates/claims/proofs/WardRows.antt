@@ -18,12 +18,12 @@ use Rattle.complex.specs.Values.{isZero, Zero, allFinite, F64s}
 use Rattle.binary64.proofs.Floats as F
 use Rattle.complex.proofs.Finite.{all-left, all-right, all-at, zero-times}
 use Rattle.buses.specs.Buses.{_∈_}
-use Rattle.ward_core.specs.Ward.{Study, Room, retained, externals, externalAt, admittance}
-use Rattle.ward_core.specs.WardExtended.{Extended, ExtendedRoom, AcceptedX, addUp, deviation, tie, weight, weightSum, weightedSum, voltageCorrection, reactive, qCompensation, afterExtended}
-use Rattle.ward_core.specs.WardComputed.{ofEach, ofStudy, ofTies, ofSums, ofCorrection, ofExtended}
-use Rattle.ward_core.proofs.WardLaws.{Sound, soundX, left-acceptedX, correction-accepted, compensation-accepted}
+use Rattle.ward_studies.specs.Ward.{Study, Room, retained, externals, externalAt, admittance}
+use Rattle.ward_studies.specs.WardExtended.{Extended, ExtendedRoom, AcceptedX, addUp, deviation, tie, weight, weightSum, weightedSum, voltageCorrection, reactive, qCompensation, afterExtended}
+use Rattle.ward_studies.specs.WardComputed.{ofEach, ofStudy, ofTies, ofSums, ofCorrection, ofExtended}
+use Rattle.ward_studies.proofs.WardLaws.{Sound, soundX, left-acceptedX, correction-accepted, compensation-accepted}
 use Rattle.ward_products.proofs.WardPlaces.{getD-map}
-use Rattle.ward_core.proofs.WardSums.{Null, plus0-zero, sum-zero, magnitude-zero, weak-above, each-at}
+use Rattle.ward_studies.proofs.WardSums.{Null, plus0-zero, sum-zero, magnitude-zero, weak-above, each-at}
 use Rattle.claims.specs.WardRows.{givenOf, FiniteExtended, old, rowBuses, busOfRow, ZeroRow, ZeroAt, KeepsRow, KeepsRowX, WardRows}
 use Rattle.claims.proofs.WardKeeps.{row-null, bus-at, keeps-row, zero-row}
 

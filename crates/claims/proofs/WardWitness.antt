@@ -22,8 +22,8 @@ use Rattle.gauss_jordan.specs.Solving.{skipped}
 use Rattle.gauss_jordan.specs.Computed.{ofSearch, ofScaling, ofReducing, ofReductions, ofRunFrom, ofRun, ofSolve}
 use Rattle.buses.specs.Buses.{_∈_, allBelow}
 use Rattle.ward_products.specs.WardArithmetic.{sumUp, current, injectedP, injectedQ}
-use Rattle.ward_core.specs.Ward.{Study, Room, retained, listed, externals, admittance, system, response, rowTimes, equivalent, driven, transferred, injectionP, injectionQ, repeats, tooLong, misfit, unmatched, busRefusal, inputRefusal, thenPivots, refusal, Accepted, reduction, summary, answered, filled, workAfter, roomAfter, afterWard}
-use Rattle.ward_core.specs.WardComputed.{ofEach, ofProducts, ofRowTimes, ofResponse, ofEntry, ofCurrents, ofDriven, ofInjection, ofReduction, ofEquivalent, ofInjections, ofStudy}
+use Rattle.ward_studies.specs.Ward.{Study, Room, retained, listed, externals, admittance, system, response, rowTimes, equivalent, driven, transferred, injectionP, injectionQ, repeats, tooLong, misfit, unmatched, busRefusal, inputRefusal, thenPivots, refusal, Accepted, reduction, summary, answered, filled, workAfter, roomAfter, afterWard}
+use Rattle.ward_studies.specs.WardComputed.{ofEach, ofProducts, ofRowTimes, ofResponse, ofEntry, ofCurrents, ofDriven, ofInjection, ofReduction, ofEquivalent, ofInjections, ofStudy}
 use Rattle.buses.proofs.Buses.{in-cases}
 use Rattle.claims.specs.WardRows.{givenOf, FiniteStudy, old, rowBuses, busOfRow, ZeroRow, KeepsRow}
 use Rattle.claims.proofs.WardKeeps.{zero-row}

@@ -8,9 +8,9 @@ use lib.Ieee.{Float, nan}
 use Rattle.complex.specs.Matrices.{Matrix, entryAt}
 use Rattle.complex.specs.Values.{_≈_, isZero, Zero, allFinite, F64s}
 use Rattle.buses.specs.Buses.{_∈_}
-use Rattle.ward_core.specs.Ward.{Study, Room, Accepted, afterWard}
-use Rattle.ward_core.specs.WardExtended.{Extended, ExtendedRoom, AcceptedX, afterExtended}
-use Rattle.ward_core.specs.WardComputed.{ofStudy, ofExtended}
+use Rattle.ward_studies.specs.Ward.{Study, Room, Accepted, afterWard}
+use Rattle.ward_studies.specs.WardExtended.{Extended, ExtendedRoom, AcceptedX, afterExtended}
+use Rattle.ward_studies.specs.WardComputed.{ofStudy, ofExtended}
 
 -- ---- the premise
 

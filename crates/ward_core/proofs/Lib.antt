@@ -1,11 +1,4 @@
 pub mod WardCases
-pub mod WardLaws
-pub mod WardSolved
-pub mod WardStudied
-pub mod WardSums
-pub mod Scans
-pub mod WardBuses
-pub mod WardTold
 pub mod WardTies
 pub mod WardExtendedTold
 pub mod WardExtended

@@ -1,4 +1,4 @@
--- Cases 9, 10 and 11 of the two-bus book, and one study for each refusal, computed from the definitions.
+-- A study for the order of rows, one that retains nothing, and one for each refusal, computed from the definitions.
 -- Assumes nothing.
 use mathlib.Core.Path.{_≡_, refl}
 use mathlib.Core.Bool.{true}
@@ -7,11 +7,11 @@ use Prim.Native.Nat.{ℕ, _+_, _*_}
 use lib.ListN.{length, replicate}
 use lib.Ieee.{Float, binary64, ofBits, span, climb, size, odd, units, round, neg, sum, add, sub, mul, div, lt, eq, ofInt, ofFields}
 use Rattle.complex.specs.Matrices.{upTo, entryAt, row, rows, zeros}
-use Rattle.ward_core.specs.declared.WardSummary.{WardSummary}
-use Rattle.ward_core.specs.declared.WardAnswer.{WardAnswer}
-use Rattle.ward_core.specs.declared.WardAnswer.the-variants.{Done, Refused}
+use Rattle.ward_studies.specs.declared.WardSummary.{WardSummary}
+use Rattle.ward_studies.specs.declared.WardAnswer.{WardAnswer}
+use Rattle.ward_studies.specs.declared.WardAnswer.the-variants.{Done, Refused}
 use Rattle.ward_products.specs.WardArithmetic.{sumUp, current, injectedP, injectedQ}
-use Rattle.ward_core.specs.Ward.{Study, Room, retained, listed, externals, admittance, system, response, rowTimes, equivalent, driven, transferred, injectionP, injectionQ, repeats, tooLong, misfit, unmatched, busRefusal, inputRefusal, thenPivots, refusal, reduction, summary, answered, filled, workAfter, roomAfter, AfterWard, afterWard}
+use Rattle.ward_studies.specs.Ward.{Study, Room, retained, listed, externals, admittance, system, response, rowTimes, equivalent, driven, transferred, injectionP, injectionQ, repeats, tooLong, misfit, unmatched, busRefusal, inputRefusal, thenPivots, refusal, reduction, summary, answered, filled, workAfter, roomAfter, AfterWard, afterWard}
 use Rattle.buses.specs.Buses.{allBelow}
 use Rattle.refusals.specs.Refusals.{limit}
 use Rattle.gauss_jordan.specs.GaussJordan.{stays, tooSmall, heldAfter, pivotRow, swapped, scaled, reduced, pivoted, cleared, runFrom, run, beside, solution, singularSystem}
@@ -21,12 +21,12 @@ use Rattle.complex.specs.Constants.{plus0, one, tiny, weak}
 use Rattle.complex.specs.Entries.{entry}
 use Rattle.complex.specs.Magnitude.{abs, magnitude}
 use Rattle.binary64.specs.Root.{root, rootOf, wholeRoot, half, radicand}
-use Rattle.ward_core.specs.WardExtended.{Extended, ExtendedRoom, addUp, deviation, weight, weightSum, weightedSum, voltageCorrection, reactive, qCompensation, inputRefusalX, refusalX, roomAfterX, AfterExtended, afterExtended}
+use Rattle.ward_studies.specs.WardExtended.{Extended, ExtendedRoom, addUp, deviation, weight, weightSum, weightedSum, voltageCorrection, reactive, qCompensation, inputRefusalX, refusalX, roomAfterX, AfterExtended, afterExtended}
 
 abbrev float : ℕ → Float
 float b = ofBits binary64 b
 
--- 0, 1, -1, 2, 100, 50, 25, 0.5
+-- 0, 1, -1, 2, 100
 abbrev z : Float
 z = float 0
 
@@ -41,18 +41,6 @@ II = float 0x4000000000000000
 
 abbrev C : Float
 C = float 0x4059000000000000
-
-abbrev L : Float
-L = float 0x4049000000000000
-
-abbrev XXV : Float
-XXV = float 0x4039000000000000
-
-abbrev 1/2 : Float
-1/2 = float 0x3fe0000000000000
-
-abbrev -z : Float
--z = float 0x8000000000000000
 
 abbrev M : List Float
 M = I ∷ z ∷ -I ∷ z ∷ -I ∷ z ∷ II ∷ z ∷ []
@@ -77,16 +65,6 @@ after S = afterWard S (room S)
 
 abbrev done : ℕ → ℕ → Float → WardAnswer
 done n r x = Done (record { «n_buses_reduced» = n; «n_buses_equivalent» = r; «reduction_ratio» = x })
-
-case9 : after (study 2 M [] (1 ∷ []) (0 ∷ []) (L ∷ []) (z ∷ []))
-    ≡ record { answer = done 2 1 1/2; room = record { y-ward = 1/2 ∷ z ∷ []; p-ward = XXV ∷ []; q-ward = -z ∷ []; work = zeros 6 } }
-unfolding retained listed admittance sumUp system response rowTimes equivalent current injectedP injectedQ driven transferred injectionP injectionQ repeats tooLong misfit unmatched busRefusal inputRefusal thenPivots refusal reduction summary answered filled workAfter roomAfter afterWard allBelow limit stays tooSmall heldAfter pivotRow swapped scaled reduced pivoted cleared runFrom run beside solution singularSystem skipped cadd csub cmul sqmag cdiv complexInv plus0 one tiny entry abs upTo entryAt row rows zeros ofBits span climb size odd units round neg sum add sub mul div lt eq ofInt ofFields
-case9 = refl
-
--- a bus in no list drops out
-case10 : after (study 2 M [] [] (0 ∷ []) [] []) ≡ record { answer = done 2 1 z; room = record { y-ward = I ∷ z ∷ []; p-ward = z ∷ []; q-ward = z ∷ []; work = [] } }
-unfolding retained listed admittance sumUp system response rowTimes equivalent current injectedP injectedQ driven transferred injectionP injectionQ repeats tooLong misfit unmatched busRefusal inputRefusal thenPivots refusal reduction summary answered filled workAfter roomAfter afterWard allBelow limit stays tooSmall heldAfter pivotRow swapped scaled reduced pivoted cleared runFrom run beside solution singularSystem skipped cadd csub cmul sqmag cdiv complexInv plus0 one tiny entry abs upTo entryAt row rows zeros ofBits span climb size odd units round neg sum add sub mul div lt eq ofInt ofFields
-case10 = refl
 
 -- internal before boundary, whatever their numbers
 order : after (study 2 M (1 ∷ []) [] (0 ∷ []) [] []) ≡ record { answer = done 2 2 z; room = record { y-ward = II ∷ z ∷ -I ∷ z ∷ -I ∷ z ∷ I ∷ z ∷ []; p-ward = z ∷ []; q-ward = z ∷ []; work = [] } }
@@ -142,19 +120,6 @@ extended vs = record { study = study 2 A11 [] (1 ∷ []) (0 ∷ []) (z ∷ []) (
 
 abbrev wide : Extended → ExtendedRoom
 wide S = record { room = room (S .study); correction = I ∷ []; compensation = I ∷ [] }
-
--- y 1.5, -2; v 1.25: correction 0.25, Q -100
-case11 : afterExtended (extended (float 0x3ff4000000000000 ∷ [])) (wide (extended (float 0x3ff4000000000000 ∷ [])))
-    ≡ record {
-      answer = done 2 1 1/2;
-      room = record {
-        room = record { y-ward = float 0x3ff8000000000000 ∷ float 0xc000000000000000 ∷ []; p-ward = -z ∷ []; q-ward = -z ∷ []; work = zeros 6 };
-        correction = float 0x3fd0000000000000 ∷ [];
-        compensation = float 0xc059000000000000 ∷ [];
-      };
-    }
-unfolding retained listed admittance sumUp system response rowTimes equivalent current injectedP injectedQ driven transferred injectionP injectionQ repeats tooLong misfit unmatched busRefusal inputRefusal thenPivots refusal reduction summary answered filled workAfter roomAfter afterWard allBelow limit stays tooSmall heldAfter pivotRow swapped scaled reduced pivoted cleared runFrom run beside solution singularSystem skipped cadd csub cmul sqmag cdiv complexInv plus0 one tiny entry abs upTo entryAt row rows zeros ofBits span climb size odd units round neg sum add sub mul div lt eq ofInt ofFields magnitude root rootOf wholeRoot half radicand weak addUp deviation weight weightSum weightedSum voltageCorrection reactive qCompensation inputRefusalX refusalX roomAfterX afterExtended
-case11 = refl
 
 unlike-v : afterExtended (extended []) (wide (extended [])) ≡ record { answer = Refused 3; room = wide (extended []) }
 unfolding retained listed admittance sumUp system response rowTimes equivalent current injectedP injectedQ driven transferred injectionP injectionQ repeats tooLong misfit unmatched busRefusal inputRefusal thenPivots refusal reduction summary answered filled workAfter roomAfter afterWard allBelow limit stays tooSmall heldAfter pivotRow swapped scaled reduced pivoted cleared runFrom run beside solution singularSystem skipped cadd csub cmul sqmag cdiv complexInv plus0 one tiny entry abs upTo entryAt row rows zeros ofBits span climb size odd units round neg sum add sub mul div lt eq ofInt ofFields magnitude root rootOf wholeRoot half radicand weak addUp deviation weight weightSum weightedSum voltageCorrection reactive qCompensation inputRefusalX refusalX roomAfterX afterExtended

@@ -11,13 +11,13 @@ use lib.Ieee.{Float}
 use lib.Ieee.Fits.{and-i, and-l, and-r}
 use Rattle.refusals.specs.Refusals.{refuse}
 use Rattle.buses.specs.Buses.{allBelow}
-use Rattle.ward_core.specs.declared.WardSummary.{WardSummary}
-use Rattle.ward_core.specs.declared.WardAnswer.{WardAnswer}
-use Rattle.ward_core.specs.declared.WardAnswer.the-variants.{Done, Refused}
-use Rattle.ward_core.specs.Ward.{Study, Room, admittance, retained, listed, repeats, busRefusal, thenPivots, summary, answered, number, AfterWard}
-use Rattle.ward_core.specs.WardExtended.{Extended, ExtendedRoom, deviation, weight, weightSum, weightedSum, voltageCorrection, qCompensation, roomAfterX, afterExtended}
+use Rattle.ward_studies.specs.declared.WardSummary.{WardSummary}
+use Rattle.ward_studies.specs.declared.WardAnswer.{WardAnswer}
+use Rattle.ward_studies.specs.declared.WardAnswer.the-variants.{Done, Refused}
+use Rattle.ward_studies.specs.Ward.{Study, Room, admittance, retained, listed, repeats, busRefusal, thenPivots, summary, answered, number, AfterWard}
+use Rattle.ward_studies.specs.WardExtended.{Extended, ExtendedRoom, deviation, weight, weightSum, weightedSum, voltageCorrection, qCompensation, roomAfterX, afterExtended}
 use Rattle.ward_products.specs.WardWork.{Listing}
-use Rattle.ward_core.specs.WardCalls.{studyOf, roomOf, after, seen, extendedOf, afterX, studied}
+use Rattle.ward_studies.specs.WardCalls.{studyOf, roomOf, after, seen, extendedOf, afterX, studied}
 use Rattle.ward_core.proofs.WardExtendedTold.{toldXOf, studiedX, extended-told}
 
 -- ---- what an answer says of the refusal

@@ -6,12 +6,12 @@ use Prim.Native.Nat.{ℕ, suc}
 use lib.Dec.{eqb, ltb, eqb·suc-zero}
 use lib.ListN.{length}
 use Rattle.refusals.specs.Refusals.{limit, refuse}
-use Rattle.ward_core.specs.declared.WardAnswer.the-variants.{Refused}
-use Rattle.ward_core.specs.Ward.{externals, tooLong, unmatched, busRefusal, thenPivots, summary, answered, roomAfter, workAfter}
-use Rattle.ward_core.specs.WardExtended.{Extended, ExtendedRoom, inputRefusalX, refusalX, roomAfterX, AfterExtended, afterExtended}
-use Rattle.ward_core.specs.WardCalls.{after, afterX, crowded, uneven, toldX, Fitting}
-use Rattle.ward_core.proofs.WardBuses.{none-of}
-use Rattle.ward_core.proofs.WardTold.{few, even, same-length, misfit-lengths, three, none-told, told-cond}
+use Rattle.ward_studies.specs.declared.WardAnswer.the-variants.{Refused}
+use Rattle.ward_studies.specs.Ward.{externals, tooLong, unmatched, busRefusal, thenPivots, summary, answered, roomAfter, workAfter}
+use Rattle.ward_studies.specs.WardExtended.{Extended, ExtendedRoom, inputRefusalX, refusalX, roomAfterX, AfterExtended, afterExtended}
+use Rattle.ward_studies.specs.WardCalls.{after, afterX, crowded, uneven, toldX, Fitting}
+use Rattle.ward_studies.proofs.WardBuses.{none-of}
+use Rattle.ward_studies.proofs.WardTold.{few, even, same-length, misfit-lengths, three, none-told, told-cond}
 
 unfoldable pub toldXOf : Extended → ExtendedRoom → ℕ
 unfolding toldX

@@ -12,9 +12,9 @@ use Rattle.complex.specs.Constants.{plus0, one, weak}
 use Rattle.complex.specs.Arithmetic.{_⊕_, _⊖_, _⊗_, _⊘_}
 use Rattle.complex.specs.Matrices.{entryAt}
 use Rattle.complex.specs.Magnitude.{magnitude}
-use Rattle.ward_core.specs.Ward.{admittance}
-use Rattle.ward_core.specs.WardExtended.{Extended, addUp, tie, weight, deviation, reactive, weightSum, weightedSum, voltageCorrection, qCompensation}
-use Rattle.ward_core.specs.WardCalls.{seen, meanOf}
+use Rattle.ward_studies.specs.Ward.{admittance}
+use Rattle.ward_studies.specs.WardExtended.{Extended, addUp, tie, weight, deviation, reactive, weightSum, weightedSum, voltageCorrection, qCompensation}
+use Rattle.ward_studies.specs.WardCalls.{seen, meanOf}
 
 -- the sums over the ties of bus i to the first k external buses
 pub record TiesTo (S : Extended) (i k : ℕ) (a b c : Float) : Type 0 where

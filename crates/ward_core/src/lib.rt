@@ -1,26 +1,14 @@
 // Ward and extended Ward equivalents of a bus matrix that stands in a lent slice.
+use ward_studies::WardAnswer;
+use ward_studies::ward_study;
 ghost use mathlib.Core.Path.{_≡_};
 ghost use Rattle.complex.specs.Values.{F64s};
-ghost use Rattle.ward_core.specs.Ward as ward;
-ghost use Rattle.ward_core.specs.WardCalls as spec;
-ghost use Rattle.ward_core.specs.WardExtended as extended;
+ghost use Rattle.ward_studies.specs.Ward as ward;
+ghost use Rattle.ward_studies.specs.WardCalls as spec;
+ghost use Rattle.ward_studies.specs.WardExtended as extended;
 
 pub mod ward_corrections;
 pub mod ward_lengths;
-pub mod ward_lists;
-pub mod ward_study;
-
-// Of a study: the size of the given matrix, how many buses the equivalent keeps, and 1 less their quotient.
-pub struct WardSummary {
-    pub n_buses_reduced: usize,
-    pub n_buses_equivalent: usize,
-    pub reduction_ratio: f64,
-}
-
-pub enum WardAnswer {
-    Done(WardSummary),
-    Refused(u32),
-}
 
 // Ward's equivalent of the n buses of y for the internal and boundary buses, in this order: its matrix in y_ward, and what each boundary
 // bus gets, in MW and MVAr, in p_ward and q_ward. p_ext and q_ext are the injections at the external buses, in MW and MVAr, base_mva in MVA.

@@ -6,8 +6,8 @@ ghost use mathlib.Core.Path.{_≡_};
 ghost use mathlib.Core.List.{map};
 ghost use Prim.Native.Nat.{ℕ, _<_};
 ghost use lib.ListN.{length};
-ghost use Rattle.ward_core.specs.WardCalls as spec;
-ghost use Rattle.ward_core.specs.WardExtended as ward;
+ghost use Rattle.ward_studies.specs.WardCalls as spec;
+ghost use Rattle.ward_studies.specs.WardExtended as ward;
 ghost use Rattle.ward_products.specs.WardWork.{Listing};
 
 // Over the ties of one boundary bus: the magnitudes, the deviations weighted with them, and the reactive power in MVAr.

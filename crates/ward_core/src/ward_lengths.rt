@@ -3,7 +3,7 @@
 use refusals::LIMIT;
 ghost use mathlib.Core.Path.{_≡_};
 ghost use Prim.Native.Nat.{_<_};
-ghost use Rattle.ward_core.specs.WardCalls as spec;
+ghost use Rattle.ward_studies.specs.WardCalls as spec;
 
 // More buses than the limit, or a longer list.
 fn crowded(n: usize, i: usize, e: usize, b: usize, p: usize, q: usize) -> bool

@@ -8,10 +8,10 @@ use native.Mathlib.Omega.{arith}
 use lib.Dec.{eqb}
 use lib.Ieee.{Float}
 use Rattle.complex.specs.Matrices.{rows}
-use Rattle.ward_core.specs.declared.WardSummary.{WardSummary}
-use Rattle.ward_core.specs.declared.WardAnswer.{WardAnswer}
-use Rattle.ward_core.specs.Ward.{Study, Room, retained, equivalent, injectionP, injectionQ, refusal, summary, number, answered, filled, workAfter, roomAfter, AfterWard, afterWard}
-use Rattle.ward_core.specs.WardCalls.{roomOf, after}
+use Rattle.ward_studies.specs.declared.WardSummary.{WardSummary}
+use Rattle.ward_studies.specs.declared.WardAnswer.{WardAnswer}
+use Rattle.ward_studies.specs.Ward.{Study, Room, retained, equivalent, injectionP, injectionQ, refusal, summary, number, answered, filled, workAfter, roomAfter, AfterWard, afterWard}
+use Rattle.ward_studies.specs.WardCalls.{roomOf, after}
 use Rattle.entry_slices.specs.Slices.{told, storedWords}
 use Rattle.entry_slices.proofs.StoredLaws.{words-refused, floats-stored}
 use Rattle.ward_entries.specs.WardEntry.{summaryWords, storedSummary, Outputs, Written, Left, StudiedBy}

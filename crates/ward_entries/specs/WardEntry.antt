@@ -5,11 +5,11 @@ use mathlib.Core.List.{List, [], _∷_, map}
 use lib.ListN.{length}
 use lib.Ieee.{Float, binary64, toBits}
 use Rattle.complex.specs.Matrices.{rows}
-use Rattle.ward_core.specs.declared.WardSummary.{WardSummary}
-use Rattle.ward_core.specs.declared.WardAnswer.{WardAnswer}
-use Rattle.ward_core.specs.declared.WardAnswer.the-variants.{Done, Refused}
-use Rattle.ward_core.specs.Ward.{Study, Room, retained, equivalent, injectionP, injectionQ, refusal, summary}
-use Rattle.ward_core.specs.WardCalls.{studyOf, roomOf}
+use Rattle.ward_studies.specs.declared.WardSummary.{WardSummary}
+use Rattle.ward_studies.specs.declared.WardAnswer.{WardAnswer}
+use Rattle.ward_studies.specs.declared.WardAnswer.the-variants.{Done, Refused}
+use Rattle.ward_studies.specs.Ward.{Study, Room, retained, equivalent, injectionP, injectionQ, refusal, summary}
+use Rattle.ward_studies.specs.WardCalls.{studyOf, roomOf}
 use Rattle.entry_slices.specs.Rooms.{listRoom, matrixRoom, wardMatrixRoom, wardWorkRoom}
 use Rattle.entry_slices.specs.Slices.{floatsIn, wordsIn, spare, misfit, told, storedFloats, storedWords, workAfter}
 

@@ -3,10 +3,10 @@ use complex::words::to_word;
 use entry_slices::slices::clear_work;
 use entry_slices::slices::store_floats;
 use entry_slices::slices::store_words;
-use ward_core::WardAnswer;
-use ward_core::WardSummary;
+use ward_studies::WardAnswer;
+use ward_studies::WardSummary;
 ghost use mathlib.Core.Path.{_≡_};
-ghost use Rattle.ward_core.specs.Ward as ward;
+ghost use Rattle.ward_studies.specs.Ward as ward;
 ghost use Rattle.entry_slices.specs.Slices.{storedWords};
 ghost use Rattle.ward_entries.specs.WardEntry as spec;
 

@@ -9,7 +9,7 @@ use ward_core::compute;
 ghost use mathlib.Core.Path.{_≡_};
 ghost use Prim.Native.Nat.{_<_};
 ghost use lib.ListN.{length};
-ghost use Rattle.ward_core.specs.WardCalls as calls;
+ghost use Rattle.ward_studies.specs.WardCalls as calls;
 ghost use Rattle.ward_entries.specs.WardEntry as spec;
 ghost use Rattle.entry_slices.specs.Rooms.{listRoom, matrixRoom, wardMatrixRoom, wardWorkRoom};
 

@@ -2,8 +2,8 @@
 -- Assumes nothing.
 use mathlib.Core.Path.{_∙_}
 use borrow.Author.Needs.{needs}
-use Rattle.ward_core.specs.WardExtended.{Extended, ExtendedRoom}
-use Rattle.ward_core.specs.WardCalls.{studyOf, roomOf, extendedOf, extendedRoomOf}
+use Rattle.ward_studies.specs.WardExtended.{Extended, ExtendedRoom}
+use Rattle.ward_studies.specs.WardCalls.{studyOf, roomOf, extendedOf, extendedRoomOf}
 use Rattle.ward_core.proofs.WardExtendedTold.{toldXOf, FittingX, extended-refused, extended-fitting}
 use Rattle.ward_core.proofs.WardExtended.{external-listing, boundary-listing, extended-done, extended-not, corrections-seen, compensations-seen}
 use Rattle.ward_core.proofs.compute_extended.Statement.{statement}

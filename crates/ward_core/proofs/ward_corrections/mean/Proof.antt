@@ -4,7 +4,7 @@ use mathlib.Core.Path.{sym, ap}
 use mathlib.Core.Bool.{Bool, cond}
 use Rattle.complex.specs.Arithmetic.{_⊘_}
 use Rattle.complex.specs.Constants.{plus0, weak}
-use Rattle.ward_core.specs.WardCalls.{meanOf}
+use Rattle.ward_studies.specs.WardCalls.{meanOf}
 use Rattle.ward_core.proofs.ward_corrections.mean.Statement.{statement}
 use Rattle.ward_core.proofs.ward_corrections.mean.Tie as tie
 

@@ -5,7 +5,7 @@ use native.Mathlib.Omega.{arith}
 use lib.ListN.{length, getD}
 use borrow.Author.Needs.{needs}
 use Rattle.complex.specs.Constants.{plus0, one}
-use Rattle.ward_core.specs.WardCalls.{seen}
+use Rattle.ward_studies.specs.WardCalls.{seen}
 use Rattle.ward_products.proofs.WardPlaces.{listed-below, entry-index}
 use Rattle.ward_core.proofs.WardTies.{TiesTo, ties-none, ties-more, ties-all}
 use Rattle.ward_core.proofs.ward_corrections.over_ties.Statement.{statement}

@@ -5,8 +5,8 @@ use native.Mathlib.Omega.{arith}
 use borrow.Author.Needs.{needs}
 use borrow.Author.Tests.{lt-ltb, le-ltb, eq-eqb, ne-eqb}
 use Rattle.refusals.specs.Refusals.{limit}
-use Rattle.ward_core.specs.WardCalls.{toldX}
-use Rattle.ward_core.proofs.WardTold.{few}
+use Rattle.ward_studies.specs.WardCalls.{toldX}
+use Rattle.ward_studies.proofs.WardTold.{few}
 use Rattle.ward_core.proofs.ward_lengths.told_extended.Statement.{statement}
 use Rattle.ward_core.proofs.ward_lengths.told_extended.Tie as tie
 

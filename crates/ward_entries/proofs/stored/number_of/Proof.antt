@@ -1,6 +1,6 @@
 -- `ward_entries::stored::number_of` meets its contract.
 -- Assumes nothing.
-use Rattle.ward_core.specs.Ward.{number}
+use Rattle.ward_studies.specs.Ward.{number}
 use borrow.Author.Needs.{needs}
 use Rattle.ward_entries.proofs.stored.number_of.Statement.{statement}
 use Rattle.ward_entries.proofs.stored.number_of.Tie as tie

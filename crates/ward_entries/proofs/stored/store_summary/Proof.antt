@@ -2,7 +2,7 @@
 -- Assumes nothing.
 use mathlib.Core.Path.{sym, ap, _∙_}
 use denote.Ref.{now}
-use Rattle.ward_core.specs.declared.WardAnswer.{WardAnswer}
+use Rattle.ward_studies.specs.declared.WardAnswer.{WardAnswer}
 use Rattle.ward_entries.specs.WardEntry.{storedSummary}
 use borrow.Author.Needs.{needs}
 use Rattle.ward_entries.proofs.stored.store_summary.Statement.{statement}

@@ -1,0 +1,127 @@
+-- A list without a repeated bus is at most as long as the matrix. A list of external, internal and boundary buses, cut into the three. And what 7 and 8 leave.
+-- Assumes nothing.
+use mathlib.Core.Path.{_≡_, refl, sym, ap, subst, _∙_}
+use mathlib.Core.Logic.{_⊎_, inl, inr}
+use mathlib.Core.Bool.{Bool, true, false, not, _&&_, _||_, cond}
+use mathlib.Core.List.{List, [], _∷_, _++_}
+use Prim.Native.Nat.{ℕ, zero, suc, _+_, _*_, _-_, _≤_, _<_}
+use native.Mathlib.Omega.{arith}
+use lib.Dec.{T, eqb, ltb, ltb→lt, lt→ltb, eqb→eq, eqb·suc-zero}
+use lib.ListN.{length, take, drop, take-append-drop}
+use lib.Seq.{take-append-seam, drop-append-seam, drop-append-add}
+use lib.Ieee.{Float}
+use lib.Ieee.Fits.{and-i, and-l, and-r}
+use lib.Ieee.Bits.{is-true, is-false}
+use borrow.Author.Tests.{eq-eqb, ne-eqb, eqb-true, eqb-false}
+use Rattle.ward_studies.specs.declared.WardAnswer.the-variants.{Refused}
+use Rattle.buses.specs.Buses.{mem, _∈_, others, allBelow}
+use Rattle.ward_studies.specs.Ward.{Study, Room, repeats, retained, listed, busRefusal, thenPivots, summary, answered, roomAfter, workAfter}
+use Rattle.ward_studies.specs.WardCalls.{studyOf, roomOf, after, cut, studied, Joined, Listed}
+use Rattle.buses.proofs.Buses.{in-head, in-tail, in-cases, stays, others-none, below-all, all-below}
+use Rattle.ward_studies.proofs.WardStudied.{retained-cut}
+
+-- ---- a list that repeats none
+
+no : true ≡ false → ⊥
+no e = subst T e tt
+
+pub none-of : (a b : Bool) → a || b ≡ false → (a ≡ false) × (b ≡ false)
+none-of true b h = absurd (no h)
+none-of false b h = (refl, h)
+
+-- the list without k is one shorter at most, and repeats none either
+mem-others : (ks : List ℕ) (x : ℕ) (xs : List ℕ) → mem x xs ≡ false → mem x (others ks xs) ≡ false
+mem-others ks x xs h = pick (mem x (others ks xs)) refl
+  where
+    pick : (b : Bool) → mem x (others ks xs) ≡ b → mem x (others ks xs) ≡ false
+    pick false e = e
+    pick true e = absurd (subst T h (stays x ks xs (subst T (sym e) tt) .0))
+
+record Shorter (k : ℕ) (xs : List ℕ) : Type 0 where
+  distinct : repeats (others (k ∷ []) xs) ≡ false
+  long : length xs ≤ suc (length (others (k ∷ []) xs))
+
+shorter : (k : ℕ) (xs : List ℕ) → repeats xs ≡ false → Shorter k xs
+unfolding repeats others
+shorter k [] h = record { distinct = refl; long = omega arith }
+shorter k (x ∷ xs) h = pick (eqb x k) refl (none-of (mem x xs) (repeats xs) h) (shorter k xs)
+  where
+    pick : (b : Bool) → eqb x k ≡ b → (mem x xs ≡ false) × (repeats xs ≡ false) → (repeats xs ≡ false → Shorter k xs) → Shorter k (x ∷ xs)
+    pick true e m ih =
+        let same : others (k ∷ []) xs ≡ xs = others-none (k ∷ []) xs (λ (a : ℕ) (p : a ∈ xs) (q : a ∈ k ∷ []).
+        elim (in-cases a k [] q) [ inl r ↦ subst T (m .0) (subst (λ (z : ℕ). T (mem z xs)) (r ∙ sym (eqb-true x k e)) p) | inr r ↦ r ]) in
+        record { distinct = rw e (ih (m .1) .distinct); long = rw (e, same) (omega arith) }
+    pick false e m ih =
+        let s = ih (m .1) in
+        record { distinct = rw (e, mem-others (k ∷ []) x xs (m .0)) (s .distinct); long = rw e (let l = s .long in omega arith) }
+
+below-others : (n : ℕ) (xs : List ℕ) → T (allBelow (suc n) xs) → T (allBelow n (others (n ∷ []) xs))
+below-others n xs h = all-below n (others (n ∷ []) xs) λ (k : ℕ) (m : k ∈ others (n ∷ []) xs).
+    let s = stays k (n ∷ []) xs m in
+    let l : k < suc n = below-all (suc n) xs h k (s .0) in
+    let other : k ≡ n → ⊥ = λ (e : k ≡ n). s .1 (subst (λ (z : ℕ). k ∈ z ∷ []) e (in-head k [])) in
+    omega arith
+
+pub distinct-length : (n : ℕ) (xs : List ℕ) → T (allBelow n xs) → repeats xs ≡ false → length xs ≤ n
+unfolding allBelow
+distinct-length zero [] h d = omega arith
+distinct-length zero (x ∷ xs) h d = absurd (let l : x < 0 = ltb→lt x 0 (and-l (ltb x 0) (allBelow 0 xs) h) in omega arith)
+distinct-length (suc n) xs h d =
+    let s = shorter n xs d in
+    let l = distinct-length n (others (n ∷ []) xs) (below-others n xs h) (s .distinct) in
+    let m = s .long in
+    omega arith
+
+-- ---- cut
+
+pub listed-cut : (n : ℕ) (ys : List Float) (bs : List ℕ) (e f : ℕ) (base : Float) (ps qs : List Float) → e ≤ f → listed (cut n ys bs e f base ps qs) ≡ bs
+unfolding listed
+listed-cut n ys bs e f base ps qs h = ap (λ (l : List ℕ). take e bs ++ l) (retained-cut n ys bs e f base ps qs h) ∙ take-append-drop e bs
+
+pub cut-joined : (n : ℕ) (ys : List Float) (E I B : List ℕ) (base : Float) (ps qs : List Float)
+    → cut n ys (E ++ (I ++ B)) (length E) (length E + length I) base ps qs ≡ studyOf n ys I E B base ps qs
+cut-joined n ys E I B base ps qs =
+    let r : length E + length I - length E ≡ length I = omega arith in
+    let internal : take (length E + length I - length E) (drop (length E) (E ++ (I ++ B))) ≡ I =
+    ap (take (length E + length I - length E)) (drop-append-seam E (I ++ B)) ∙ ap (λ (k : ℕ). take k (I ++ B)) r ∙ take-append-seam I B in
+    let external : take (length E) (E ++ (I ++ B)) ≡ E = take-append-seam E (I ++ B) in
+    let boundary : drop (length E + length I) (E ++ (I ++ B)) ≡ B = drop-append-add E (I ++ B) (length I) ∙ drop-append-seam I B in
+    λ i. studyOf n ys (internal i) (external i) (boundary i) base ps qs
+
+-- ---- 7, 8 or none
+
+pub bus-lacks : (S : Study) (bs : List ℕ) → listed S ≡ bs → allBelow (S .size) bs ≡ false → busRefusal S ≡ 7
+unfolding busRefusal
+bus-lacks S bs e h = rw (e, h)
+
+pub bus-repeats : (S : Study) (bs : List ℕ) → listed S ≡ bs → allBelow (S .size) bs ≡ true → repeats bs ≡ true → busRefusal S ≡ 8
+unfolding busRefusal
+bus-repeats S bs e h r = rw (e, h, r)
+
+pub bus-fine : (S : Study) (bs : List ℕ) → listed S ≡ bs → allBelow (S .size) bs ≡ true → repeats bs ≡ false → busRefusal S ≡ 0
+unfolding busRefusal
+bus-fine S bs e h r = rw (e, h, r)
+
+-- an input refusal leaves every slice as it was
+pub studied-refused : (S : Study) (o : Room) (k : ℕ) → eqb (suc k) 13 ≡ false → after (Refused (suc k)) (o .y-ward) (o .p-ward) (o .q-ward) (o .work) ≡ studied S o (suc k)
+unfolding studied thenPivots answered summary roomAfter workAfter
+studied-refused S o k h = simp (eqb·suc-zero, h)
+
+-- ---- the lists looked through
+
+pub listed-of : (n : ℕ) (ys : List Float) (bs : List ℕ) (e f : ℕ) (ps qs : List Float) (o : Room) → Joined n ys bs e f ps qs o → allBelow n bs ≡ true → repeats bs ≡ false → Listed n ys bs e f ps qs o
+listed-of n ys bs e f ps qs o j h d =
+    let below : T (allBelow n bs) = subst T (sym h) tt in
+    record {
+      listing = record { full = j .given; below = below };
+      few = j .few;
+      distinct = distinct-length n bs below d;
+      first = j .first;
+      last = j .last;
+      p-ext = j .p-ext;
+      q-ext = j .q-ext;
+      y-ward = j .y-ward;
+      p-ward = j .p-ward;
+      q-ward = j .q-ward;
+      work = j .work;
+    }

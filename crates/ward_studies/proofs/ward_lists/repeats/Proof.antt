@@ -1,0 +1,100 @@
+-- `equivalents::ward_lists::repeats` meets its contract. The invariant: whether a bus stands twice is whether one does from i on.
+-- Assumes nothing.
+use mathlib.Core.Path.{_≡_, refl, sym, ap, subst, _∙_}
+use mathlib.Core.Bool.{true, false}
+use mathlib.Core.List.{List}
+use Prim.Native.Nat.{ℕ, suc, _+_, _*_, _-_, _≤_, _<_}
+use native.Mathlib.Omega.{arith}
+use lib.ListN.{length, getD, take, drop, length-set}
+use lib.Ieee.{Float, nan}
+use borrow.Author.Needs.{needs}
+use Rattle.complex.specs.declared.Complex.{Complex}
+use lib.ListN.{length-drop}
+use lib.Seq.{take-all}
+use Rattle.buses.specs.Buses.{mem}
+use Rattle.ward_studies.specs.Ward.{repeats}
+use Rattle.ward_studies.proofs.Scans.{Scan, scan-start, scan-more, scan-stop, scan-end, repeats-here, repeats-past, rest-is}
+use Rattle.ward_studies.proofs.ward_lists.repeats.Statement.{statement}
+use Rattle.ward_studies.proofs.ward_lists.repeats.Tie as tie
+
+abbrev Inv-loop : tie.InvT-loop
+Inv-loop list i₀ end i = (i ≤ length list) × Scan repeats list i
+
+abbrev μ-loop : tie.MeasureT-loop
+μ-loop list i₀ end i = length list - i
+
+loop-holds : tie.Need-loop-holds Inv-loop μ-loop
+loop-holds c = (omega arith, scan-start repeats (c .before .args .list .now))
+
+add-next : tie.Need-add-next Inv-loop μ-loop
+add-next c = search needs
+
+mul-stands : tie.Need-mul-stands Inv-loop μ-loop
+mul-stands c = search needs
+
+shared-slice-read-stands : tie.Need-shared-slice-read-stands Inv-loop μ-loop
+shared-slice-read-stands c = search needs
+
+mul-stands-2 : tie.Need-mul-stands-2 Inv-loop μ-loop
+mul-stands-2 c = search needs
+
+sub-stands : tie.Need-sub-stands Inv-loop μ-loop
+sub-stands c = search needs
+
+part-stands-start : tie.Need-part-stands-start Inv-loop μ-loop
+part-stands-start c = search needs
+
+part-stands-end : tie.Need-part-stands-end Inv-loop μ-loop
+part-stands-end c = search needs
+
+stands-requires : tie.Need-stands-requires Inv-loop μ-loop
+stands-requires c κs = search needs
+
+returns : tie.Need-returns Inv-loop μ-loop
+returns c =
+    let s = c .before .stands in
+    let t = c .before .before .before .before in
+    let l = t .before in
+    let xs = l .before .before .args .list .now in
+    let i = l .loop .i in
+    scan-stop repeats xs i (omega arith) (l .loop .inv .1) true
+    (repeats-here (getD xs i 0) (drop (i + 1) xs) (ap (mem (getD xs i 0)) (sym (rest-is xs (i + 1))) ∙ sym (s .ensures) ∙ c .if1 .taken))
+
+loop-less : tie.Need-loop-less Inv-loop μ-loop
+loop-less c = search needs
+
+loop-again : tie.Need-loop-again Inv-loop μ-loop
+loop-again c =
+    let s = c .before .stands in
+    let t = c .before .before .before .before in
+    let l = t .before in
+    let xs = l .before .before .args .list .now in
+    let i = l .loop .i in (
+      omega arith,
+      scan-more repeats xs i (omega arith) (l .loop .inv .1)
+          (repeats-past (getD xs i 0) (drop (i + 1) xs) (ap (mem (getD xs i 0)) (sym (rest-is xs (i + 1))) ∙ sym (s .ensures) ∙ c .if1 .left)),
+    )
+
+returns-2 : tie.Need-returns-2 Inv-loop μ-loop
+unfolding repeats
+returns-2 c = scan-end repeats (c .before .before .before .args .list .now) (c .before .loop .i) (c .loop-test .left) (c .before .loop .inv .1)
+
+pub repeats-spec : {M : Type 1} → statement M
+repeats-spec =
+    tie.close
+    (tie.spec
+    Inv-loop
+    μ-loop
+    loop-holds
+    add-next
+    mul-stands
+    shared-slice-read-stands
+    mul-stands-2
+    sub-stands
+    part-stands-start
+    part-stands-end
+    stands-requires
+    returns
+    loop-less
+    loop-again
+    returns-2)

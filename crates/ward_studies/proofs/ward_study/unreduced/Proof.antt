@@ -1,0 +1,70 @@
+-- `equivalents::ward_study::unreduced` meets its contract.
+-- Assumes nothing.
+use mathlib.Core.Path.{_≡_, refl, sym, ap, subst, _∙_}
+use mathlib.Core.Bool.{true, false}
+use mathlib.Core.List.{List}
+use Prim.Native.Nat.{ℕ, suc, _+_, _*_, _-_, _≤_, _<_}
+use native.Mathlib.Omega.{arith}
+use lib.ListN.{length, getD, take, drop, length-set}
+use lib.Ieee.{Float, nan}
+use borrow.Author.Needs.{needs}
+use Rattle.complex.specs.declared.Complex.{Complex}
+use native.Mathlib.Nat.{sub-zero}
+use lib.Dec.{le→leb}
+use lib.ListN.{length-drop}
+use lib.Seq.{length-take-le}
+use Rattle.complex.specs.Constants.{plus0, one}
+use Rattle.complex.specs.Matrices.{entryAt, zeros}
+use Rattle.refusals.specs.Refusals.{limit}
+use Rattle.ward_studies.specs.declared.WardSummary.{WardSummary}
+use Rattle.ward_studies.specs.declared.WardAnswer.the-variants.{Done, Refused}
+use Rattle.ward_products.specs.WardArithmetic.{injectedP, injectedQ}
+use Rattle.ward_studies.specs.Ward.{reduction}
+use Rattle.ward_products.specs.WardWork.{Listing, Rows, product, lessProduct}
+use Rattle.ward_studies.specs.WardCalls.{roomOf, after, cut, studied, Listed, Solved, filledBy}
+use Rattle.ward_studies.proofs.Scans.{rest-is}
+use Rattle.ward_studies.proofs.WardSolved.{listing-take, listing-drop, pivots-of}
+use Rattle.ward_studies.proofs.WardStudied.{same-after, matrix-of, studied-singular, studied-regular, filled-ward, studied-none}
+use Rattle.ward_studies.proofs.ward_study.unreduced.Statement.{statement}
+use Rattle.ward_studies.proofs.ward_study.unreduced.Tie as tie
+
+submatrix-requires : tie.Need-submatrix-requires
+submatrix-requires c κs =
+    let s = c .before .before .before .before .before .before .before .before .before in
+    (s .pre .listing, s .pre .y-ward ∙ ap (λ (m : ℕ). 2 * (m * m)) (sub-zero (length (s .args .buses .now))))
+
+clear-requires : tie.Need-clear-requires
+clear-requires c κs = search needs
+
+clear-requires-2 : tie.Need-clear-requires-2
+clear-requires-2 c κs = search needs
+
+same-length : tie.Need-same-length
+same-length c = search needs
+
+same-length-2 : tie.Need-same-length-2
+same-length-2 c = search needs
+
+same-length-3 : tie.Need-same-length-3
+same-length-3 c = search needs
+
+returns : tie.Need-returns
+unfolding plus0
+returns c =
+    let s = c .before .before .before .before .before .before .before .before .before .before .before .before .before .before .before .before .before .before .before .before in
+    let a = s .args in
+    let o = roomOf (a .to .now) (a .active .now) (a .reactive .now) (a .work .now) in
+    studied-none (a .n) (a .y .now) (a .buses .now) (a .f) (a .base) (a .p .now) (a .q .now) o (c .before .before .before .before .before .before .before .before .before .before .submatrix .last .1 .1 .1 .0) (c .before .before .before .before .before .before .clear .last .0) (c .before .before .clear2 .last .0)
+    (c .before .before .before .before .before .before .before .before .before .before .submatrix .ensures) (c .before .before .before .before .before .before .clear .ensures) (c .before .before .clear2 .ensures) (s .pre .p-ward) (s .pre .q-ward) (omega (arith, s .pre .work))
+
+pub unreduced-spec : {M : Type 1} → statement M
+unreduced-spec =
+    tie.close
+    (tie.spec
+    submatrix-requires
+    clear-requires
+    clear-requires-2
+    same-length
+    same-length-2
+    same-length-3
+    returns)

@@ -1,0 +1,210 @@
+-- Ward's study: what `compute` answers and leaves, for every input. Bus numbers are rows of the given matrix, counted from 0.
+use Prim.Native.Nat.{ℕ, zero, suc, _+_, _*_}
+use mathlib.Core.Bool.{Bool, false, not, _||_, cond}
+use mathlib.Core.List.{List, [], _∷_, _++_, map}
+use lib.Dec.{T, eqb, ltb}
+use lib.ListN.{length, getD}
+use lib.IntN.{pos}
+use lib.Ieee.{Float, nan, binary64, neg, ofInt}
+use Rattle.complex.specs.declared.Complex.{Complex}
+use Rattle.complex.specs.Constants.{plus0, one}
+use Rattle.complex.specs.Arithmetic.{_⊖_, _⊗_, _⊘_, cadd, csub, cmul}
+use Rattle.complex.specs.Matrices.{Matrix, entryAt, rows, zeros}
+use Rattle.ward_products.specs.WardArithmetic.{sumUp, current, injectedP, injectedQ}
+use Rattle.refusals.specs.Refusals.{limit, tooMany, wrongLength, unlikeLists, noSuchBus, busTwice, smallPivot, refuse}
+use Rattle.gauss_jordan.specs.Solving.{solve, singular}
+use Rattle.ward_studies.specs.declared.WardSummary.{WardSummary}
+use Rattle.ward_studies.specs.declared.WardAnswer.{WardAnswer}
+use Rattle.ward_studies.specs.declared.WardAnswer.the-variants.{Done, Refused}
+use Rattle.buses.specs.Buses.{mem, allBelow}
+
+-- what is given: base in MVA, injections at the external buses in MW and MVAr
+pub record Study : Type 0 where
+  pub size : ℕ
+  pub given : List Float
+  pub internal : List ℕ
+  pub external : List ℕ
+  pub boundary : List ℕ
+  pub base : Float
+  pub p-ext : List Float
+  pub q-ext : List Float
+
+-- the slices that the answer goes to, and the work slice
+pub record Room : Type 0 where
+  pub y-ward : List Float
+  pub p-ward : List Float
+  pub q-ward : List Float
+  pub work : List Float
+
+-- ---- buses
+
+-- row and column order of the equivalent
+unfoldable pub retained : Study → List ℕ
+retained S = S .internal ++ S .boundary
+
+-- the three lists together
+unfoldable pub listed : Study → List ℕ
+unfolding retained
+listed S = S .external ++ retained S
+
+abbrev pub externals : Study → ℕ
+externals S = length (S .external)
+
+abbrev pub externalAt : Study → ℕ → ℕ
+externalAt S k = getD (S .external) k 0
+
+-- the given admittance between two buses
+unfoldable pub admittance : Study → Matrix
+admittance S = entryAt (S .size) (S .given)
+
+-- ---- Ward's formula
+
+-- Y_ee, by place in the external list
+unfoldable pub system : Study → Matrix
+unfolding admittance
+system S k l = admittance S (externalAt S k) (externalAt S l)
+
+-- X: the solution of Y_ee x = the column of bus j in Y_er
+unfoldable pub response : Study → ℕ → ℕ → Complex
+unfolding system admittance
+response S j k = solve (externals S) (system S) (λ (l : ℕ). admittance S (externalAt S l) j) k
+
+-- row i of Y_re times a vector over the external buses
+unfoldable pub rowTimes : Study → ℕ → (ℕ → Complex) → Complex
+unfolding sumUp admittance
+rowTimes S i x = sumUp (externals S) (λ (k : ℕ). cmul (admittance S i (externalAt S k)) (x k))
+
+-- Y_rr - Y_re X, by bus; with no external bus the given matrix
+unfoldable pub equivalent : Study → Matrix
+unfolding rowTimes response admittance
+equivalent S i j = cond (eqb (externals S) 0) (admittance S i j) (csub (admittance S i j) (rowTimes S i (response S j)))
+
+-- ---- injections
+
+-- x: the solution of Y_ee x = the currents
+unfoldable pub driven : Study → ℕ → Complex
+unfolding system current
+driven S k = solve (externals S) (system S) (λ (l : ℕ). current (S .base) (getD (S .p-ext) l nan) (getD (S .q-ext) l nan)) k
+
+-- Y_be x at boundary bus i
+unfoldable pub transferred : Study → ℕ → Complex
+unfolding rowTimes driven
+transferred S i = rowTimes S i (driven S)
+
+unfoldable pub injectionP : Study → ℕ → Float
+unfolding plus0 injectedP transferred
+injectionP S i = cond (eqb (externals S) 0) plus0 (injectedP (S .base) (transferred S i))
+
+unfoldable pub injectionQ : Study → ℕ → Float
+unfolding plus0 injectedQ transferred
+injectionQ S i = cond (eqb (externals S) 0) plus0 (injectedQ (S .base) (transferred S i))
+
+-- ---- refusals
+
+-- a bus that stands twice in the list
+unfoldable pub repeats : List ℕ → Bool
+repeats [] = false
+repeats (x ∷ xs) = mem x xs || repeats xs
+
+-- 1: more buses than the limit, or a list longer than it
+unfoldable pub tooLong : Study → Bool
+tooLong S =
+    ltb limit (S .size)
+    || ltb limit (length (S .internal)) || ltb limit (length (S .external)) || ltb limit (length (S .boundary))
+    || ltb limit (length (S .p-ext)) || ltb limit (length (S .q-ext))
+
+-- 2: a slice not of its exact length
+unfoldable pub misfit : Study → Room → Bool
+unfolding retained
+misfit S o =
+    let r = length (retained S) in
+    let e = externals S in
+    not (eqb (length (S .given)) (2 * (S .size * S .size)))
+    || not (eqb (length (o .y-ward)) (2 * (r * r)))
+    || not (eqb (length (o .p-ward)) (length (S .boundary))) || not (eqb (length (o .q-ward)) (length (S .boundary)))
+    || not (eqb (length (o .work)) (2 * (e * (e + r + 1))))
+
+-- 3: injections that don't match the external list
+unfoldable pub unmatched : Study → Bool
+unmatched S = not (eqb (length (S .p-ext)) (externals S)) || not (eqb (length (S .q-ext)) (externals S))
+
+-- 7: a bus that the matrix lacks. 8: a bus listed twice, in one list or in two
+unfoldable pub busRefusal : Study → ℕ
+unfolding listed repeats
+busRefusal S = refuse (not (allBelow (S .size) (listed S))) noSuchBus (refuse (repeats (listed S)) busTwice 0)
+
+-- told from the input: 1, 2, 3, 7, 8 or 0
+unfoldable pub inputRefusal : Study → Room → ℕ
+unfolding tooLong misfit unmatched busRefusal
+inputRefusal S o =
+    refuse (tooLong S) tooMany
+    (refuse (misfit S o) wrongLength
+    (refuse (unmatched S) unlikeLists (busRefusal S)))
+
+-- 13 after the input refusal f
+unfoldable pub thenPivots : Study → ℕ → ℕ
+unfolding system
+thenPivots S f = cond (eqb f 0) (refuse (singular (externals S) (system S)) smallPivot 0) f
+
+unfoldable pub refusal : Study → Room → ℕ
+unfolding inputRefusal thenPivots
+refusal S o = thenPivots S (inputRefusal S o)
+
+abbrev pub Accepted : Study → Room → Type 0
+Accepted S o = T (eqb (refusal S o) 0)
+
+-- ---- the answer
+
+-- 1 - r / n, in binary64
+unfoldable pub reduction : ℕ → ℕ → Float
+unfolding one
+reduction r n = one ⊖ ofInt binary64 (pos r) ⊘ ofInt binary64 (pos n)
+
+-- the original size, and the size of the equivalent
+unfoldable pub summary : Study → WardSummary
+unfolding reduction retained plus0
+summary S =
+    record {
+      «n_buses_reduced» = S .size;
+      «n_buses_equivalent» = length (retained S);
+      «reduction_ratio» = cond (eqb (externals S) 0) plus0 (reduction (length (retained S)) (S .size));
+    }
+
+-- the answer of a study with this refusal
+unfoldable pub answered : ℕ → WardSummary → WardAnswer
+answered zero s = Done s
+answered (suc k) s = Refused (suc k)
+
+-- the number of an answer
+unfoldable pub number : WardAnswer → ℕ
+number (Done s) = 0
+number (Refused k) = k
+
+-- the outputs of an accepted study
+unfoldable pub filled : Study → List Float → Room
+unfolding equivalent injectionP injectionQ retained rows
+filled S ws =
+    record {
+      y-ward = rows (equivalent S) (retained S) (retained S);
+      p-ward = map (injectionP S) (S .boundary);
+      q-ward = map (injectionQ S) (S .boundary);
+      work = ws;
+    }
+
+-- the work slice after refusal f: +0 after acceptance or 13, else as it was
+unfoldable pub workAfter : ℕ → List Float → List Float
+unfolding zeros
+workAfter f ws = cond (eqb f 0 || eqb f smallPivot) (zeros (length ws)) ws
+
+-- the slices after refusal f: outputs are written only where there is none
+unfoldable pub roomAfter : Study → ℕ → Room → Room
+unfolding filled workAfter
+roomAfter S f o = cond (eqb f 0) (filled S (workAfter f (o .work))) (record { y-ward = o .y-ward; p-ward = o .p-ward; q-ward = o .q-ward; work = workAfter f (o .work) })
+
+pub record AfterWard : Type 0 where
+  pub answer : WardAnswer
+  pub room : Room
+
+unfoldable pub afterWard : Study → Room → AfterWard
+unfolding refusal answered summary roomAfter
+afterWard S o = let f = refusal S o in record { answer = answered f (summary S); room = roomAfter S f o }

@@ -1,0 +1,103 @@
+-- The extended Ward study: what `compute_extended` answers and leaves beside Ward's own, for every input.
+use Prim.Native.Nat.{ℕ, zero, suc}
+use mathlib.Core.Bool.{Bool, not, _||_, cond}
+use mathlib.Core.List.{List, map}
+use lib.Dec.{T, eqb, ltb}
+use lib.ListN.{length, getD}
+use lib.Ieee.{Float, nan, neg, lt}
+use Rattle.complex.specs.declared.Complex.{Complex}
+use Rattle.complex.specs.Constants.{plus0, one, weak}
+use Rattle.complex.specs.Arithmetic.{_⊕_, _⊖_, _⊗_, _⊘_}
+use Rattle.complex.specs.Magnitude.{magnitude}
+use Rattle.refusals.specs.Refusals.{limit, tooMany, wrongLength, unlikeLists, refuse}
+use Rattle.ward_studies.specs.declared.WardAnswer.{WardAnswer}
+use Rattle.ward_studies.specs.Ward.{Study, Room, externals, externalAt, admittance, tooLong, misfit, unmatched, busRefusal, thenPivots, summary, answered, roomAfter}
+
+-- the voltages at the external buses, per unit
+pub record Extended : Type 0 where
+  pub study : Study
+  pub v-ext : List Float
+
+pub record ExtendedRoom : Type 0 where
+  pub room : Room
+  pub correction : List Float
+  pub compensation : List Float
+
+-- ---- the formulas
+
+-- f 0 + f 1 + .. + f (n - 1), from +0 upward
+unfoldable pub addUp : ℕ → (ℕ → Float) → Float
+unfolding plus0
+addUp zero f = plus0
+addUp (suc n) f = addUp n f ⊕ f n
+
+-- how far the voltage of external bus k is from 1.0
+unfoldable pub deviation : Extended → ℕ → Float
+unfolding one
+deviation S k = getD (S .v-ext) k nan ⊖ one
+
+-- Y_be between boundary bus i and external bus k, and its magnitude
+abbrev pub tie : Extended → ℕ → ℕ → Complex
+tie S i k = admittance (S .study) i (externalAt (S .study) k)
+
+unfoldable pub weight : Extended → ℕ → ℕ → Float
+weight S i k = magnitude (tie S i k)
+
+unfoldable pub weightSum : Extended → ℕ → Float
+unfolding weight addUp
+weightSum S i = addUp (externals (S .study)) (weight S i)
+
+unfoldable pub weightedSum : Extended → ℕ → Float
+unfolding weight addUp deviation
+weightedSum S i = addUp (externals (S .study)) (λ (k : ℕ). weight S i k ⊗ deviation S k)
+
+-- the mean of the deviations by weight; a weight sum not above 1e-12 leaves +0
+unfoldable pub voltageCorrection : Extended → ℕ → Float
+unfolding weightSum weightedSum weak plus0
+voltageCorrection S i = cond (lt weak (weightSum S i)) (weightedSum S i ⊘ weightSum S i) plus0
+
+-- the reactive power of one tie at this deviation, in MVAr
+unfoldable pub reactive : Float → Complex → Float → Float
+reactive base y d = neg (y .im) ⊗ d ⊗ base
+
+unfoldable pub qCompensation : Extended → ℕ → Float
+unfolding addUp reactive deviation
+qCompensation S i = addUp (externals (S .study)) (λ (k : ℕ). reactive (S .study .base) (tie S i k) (deviation S k))
+
+-- ---- refusals
+
+-- told from the input: 1, 2, 3, 7, 8 or 0
+unfoldable pub inputRefusalX : Extended → ExtendedRoom → ℕ
+unfolding tooLong misfit unmatched busRefusal
+inputRefusalX S o =
+    refuse (tooLong (S .study) || ltb limit (length (S .v-ext))) tooMany
+    (refuse (misfit (S .study) (o .room)
+    || not (eqb (length (o .correction)) (length (S .study .boundary)))
+    || not (eqb (length (o .compensation)) (length (S .study .boundary)))) wrongLength
+    (refuse (unmatched (S .study) || not (eqb (length (S .v-ext)) (externals (S .study)))) unlikeLists (busRefusal (S .study))))
+
+unfoldable pub refusalX : Extended → ExtendedRoom → ℕ
+unfolding inputRefusalX thenPivots
+refusalX S o = thenPivots (S .study) (inputRefusalX S o)
+
+abbrev pub AcceptedX : Extended → ExtendedRoom → Type 0
+AcceptedX S o = T (eqb (refusalX S o) 0)
+
+-- ---- the answer
+
+unfoldable pub roomAfterX : Extended → ℕ → ExtendedRoom → ExtendedRoom
+unfolding roomAfter voltageCorrection qCompensation
+roomAfterX S f o =
+    record {
+      room = roomAfter (S .study) f (o .room);
+      correction = cond (eqb f 0) (map (voltageCorrection S) (S .study .boundary)) (o .correction);
+      compensation = cond (eqb f 0) (map (qCompensation S) (S .study .boundary)) (o .compensation);
+    }
+
+pub record AfterExtended : Type 0 where
+  pub answer : WardAnswer
+  pub room : ExtendedRoom
+
+unfoldable pub afterExtended : Extended → ExtendedRoom → AfterExtended
+unfolding refusalX answered summary roomAfterX
+afterExtended S o = let f = refusalX S o in record { answer = answered f (summary (S .study)); room = roomAfterX S f o }

@@ -1,0 +1,15 @@
+// A Ward study on slices of the right lengths: its lists looked through, and one elimination for all columns.
+pub mod ward_lists;
+pub mod ward_study;
+
+// Of a study: the size of the given matrix, how many buses the equivalent keeps, and 1 less their quotient.
+pub struct WardSummary {
+    pub n_buses_reduced: usize,
+    pub n_buses_equivalent: usize,
+    pub reduction_ratio: f64,
+}
+
+pub enum WardAnswer {
+    Done(WardSummary),
+    Refused(u32),
+}

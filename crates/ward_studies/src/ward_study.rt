@@ -1,0 +1,184 @@
+// A Ward study whose slices have their exact lengths. The functions here have a `requires`, which their callers prove.
+use crate::WardAnswer;
+use crate::WardSummary;
+use crate::ward_lists;
+use gauss_jordan::elimination::gauss_jordan;
+use gauss_jordan::rows;
+use refusals::LIMIT;
+use ward_products::ward_rows;
+ghost use mathlib.Core.Path.{_≡_};
+ghost use Prim.Native.Nat.{ℕ, _+_, _*_, _<_, _≤_};
+ghost use lib.ListN.{length};
+ghost use Rattle.ward_studies.specs.Ward as ward;
+ghost use Rattle.ward_studies.specs.WardCalls as spec;
+
+// No external bus: the given matrix in the rows and columns of the listed buses, no injections, ratio 0.
+pub fn unreduced(
+    n: usize,
+    y: &[f64],
+    buses: &[usize],
+    f: usize,
+    base: f64,
+    p: &[f64],
+    q: &[f64],
+    to: &mut [f64],
+    active: &mut [f64],
+    reactive: &mut [f64],
+    work: &mut [f64],
+) -> WardAnswer
+    requires { ⌜ spec.Listed n (now y) (now buses) 0 f (now p) (now q) (spec.roomOf (now to) (now active) (now reactive) (now work)) ⌝ }
+    ensures { λ r. ⌜ spec.after r (now (to .exit)) (now (active .exit)) (now (reactive .exit)) (now (work .exit)) ≡ spec.studied (spec.cut n (now (y .entry)) (now (buses .entry)) 0 f base (now (p .entry)) (now (q .entry))) (spec.roomOf (now (to .entry)) (now (active .entry)) (now (reactive .entry)) (now (work .entry))) 0 ⌝ }
+{
+    ward_rows::submatrix(y, n, buses, to);
+    rows::clear(active);
+    rows::clear(reactive);
+    WardAnswer::Done(WardSummary {
+        n_buses_reduced: n,
+        n_buses_equivalent: buses.len(),
+        reduction_ratio: 0.0,
+    })
+}
+
+// The share of the buses that the equivalent leaves out.
+fn ratio(r: usize, n: usize) -> f64
+    requires { ⌜ (r ≤ n) × (n < 65) ⌝ }
+    ensures { λ x. ⌜ x ≡ ward.reduction r n ⌝ }
+{
+    1.0 - (r as f64) / (n as f64)
+}
+
+// What the elimination left in the work slice becomes the equivalent, and the work slice +0.
+fn filled(
+    n: usize,
+    y: &[f64],
+    buses: &[usize],
+    e: usize,
+    f: usize,
+    base: f64,
+    to: &mut [f64],
+    active: &mut [f64],
+    reactive: &mut [f64],
+    work: &mut [f64],
+) -> WardAnswer
+    requires { ⌜ spec.Solved n (now y) (now buses) e f (spec.roomOf (now to) (now active) (now reactive) (now work)) ⌝ }
+    ensures { λ r. ⌜ spec.after r (now (to .exit)) (now (active .exit)) (now (reactive .exit)) (now (work .exit)) ≡ spec.filledBy n (now (y .entry)) (now (buses .entry)) e f base (now (work .entry)) ⌝ }
+{
+    let k = buses.len();
+    let w = k + 1;
+    ward_rows::reduced(y, n, &buses[0..e], &buses[e..k], work, w, to);
+    ward_rows::injections(
+        y,
+        n,
+        &buses[0..e],
+        &buses[f..k],
+        base,
+        work,
+        w,
+        k,
+        active,
+        reactive,
+    );
+    rows::clear(work);
+    WardAnswer::Done(WardSummary {
+        n_buses_reduced: n,
+        n_buses_equivalent: k - e,
+        reduction_ratio: ratio(k - e, n),
+    })
+}
+
+// The external buses, the first e of the list, are eliminated for all retained columns and the currents at once.
+// Outputs are written only once 13 is excluded.
+pub fn eliminated(
+    n: usize,
+    y: &[f64],
+    buses: &[usize],
+    e: usize,
+    f: usize,
+    base: f64,
+    p: &[f64],
+    q: &[f64],
+    to: &mut [f64],
+    active: &mut [f64],
+    reactive: &mut [f64],
+    work: &mut [f64],
+) -> WardAnswer
+    requires { ⌜ (0 < e) × (spec.Listed n (now y) (now buses) e f (now p) (now q) (spec.roomOf (now to) (now active) (now reactive) (now work))) ⌝ }
+    ensures { λ r. ⌜ spec.after r (now (to .exit)) (now (active .exit)) (now (reactive .exit)) (now (work .exit)) ≡ spec.studied (spec.cut n (now (y .entry)) (now (buses .entry)) e f base (now (p .entry)) (now (q .entry))) (spec.roomOf (now (to .entry)) (now (active .entry)) (now (reactive .entry)) (now (work .entry))) 0 ⌝ }
+{
+    let w = buses.len() + 1;
+    ward_rows::fill(y, n, buses, e, base, p, q, work);
+    if gauss_jordan(work, e, w) {
+        rows::clear(work);
+        return WardAnswer::Refused(13);
+    }
+    filled(n, y, buses, e, f, base, to, active, reactive, work)
+}
+
+// A study on one list of buses: the first e are external, those from f on boundary. A bus that the matrix lacks is 7, one that stands twice is 8.
+fn listed(
+    n: usize,
+    y: &[f64],
+    buses: &[usize],
+    e: usize,
+    f: usize,
+    base: f64,
+    p: &[f64],
+    q: &[f64],
+    to: &mut [f64],
+    active: &mut [f64],
+    reactive: &mut [f64],
+    work: &mut [f64],
+) -> WardAnswer
+    requires { ⌜ spec.Joined n (now y) (now buses) e f (now p) (now q) (spec.roomOf (now to) (now active) (now reactive) (now work)) ⌝ }
+    ensures { λ r. ⌜ spec.after r (now (to .exit)) (now (active .exit)) (now (reactive .exit)) (now (work .exit)) ≡ spec.studied (spec.cut n (now (y .entry)) (now (buses .entry)) e f base (now (p .entry)) (now (q .entry))) (spec.roomOf (now (to .entry)) (now (active .entry)) (now (reactive .entry)) (now (work .entry))) (ward.busRefusal (spec.cut n (now (y .entry)) (now (buses .entry)) e f base (now (p .entry)) (now (q .entry)))) ⌝ }
+{
+    if !ward_lists::all_below(n, buses) {
+        return WardAnswer::Refused(7);
+    }
+    if ward_lists::repeats(buses) {
+        return WardAnswer::Refused(8);
+    }
+    if e == 0 {
+        return unreduced(n, y, buses, f, base, p, q, to, active, reactive, work);
+    }
+    eliminated(n, y, buses, e, f, base, p, q, to, active, reactive, work)
+}
+
+// A study whose lengths are right.
+pub fn study(
+    n: usize,
+    y: &[f64],
+    internal: &[usize],
+    external: &[usize],
+    boundary: &[usize],
+    base: f64,
+    p: &[f64],
+    q: &[f64],
+    to: &mut [f64],
+    active: &mut [f64],
+    reactive: &mut [f64],
+    work: &mut [f64],
+) -> WardAnswer
+    requires { ⌜ spec.Fitting (spec.studyOf n (now y) (now internal) (now external) (now boundary) base (now p) (now q)) (spec.roomOf (now to) (now active) (now reactive) (now work)) ⌝ }
+    ensures { λ r. ⌜ spec.after r (now (to .exit)) (now (active .exit)) (now (reactive .exit)) (now (work .exit)) ≡ spec.studied (spec.studyOf n (now (y .entry)) (now (internal .entry)) (now (external .entry)) (now (boundary .entry)) base (now (p .entry)) (now (q .entry))) (spec.roomOf (now (to .entry)) (now (active .entry)) (now (reactive .entry)) (now (work .entry))) (ward.busRefusal (spec.studyOf n (now (y .entry)) (now (internal .entry)) (now (external .entry)) (now (boundary .entry)) base (now (p .entry)) (now (q .entry)))) ⌝ }
+{
+    let mut all = [0; 3 * LIMIT];
+    ward_lists::join(external, internal, boundary, &mut all);
+    let e = external.len();
+    let f = e + internal.len();
+    let k = f + boundary.len();
+    listed(
+        n,
+        y,
+        &all[0..k],
+        e,
+        f,
+        base,
+        p,
+        q,
+        to,
+        active,
+        reactive,
+        work,
+    )
+}
