@@ -2,4 +2,6 @@
 pub mod dc;
 pub mod kron;
 pub mod linear;
+pub mod rei;
 pub mod scalars;
+pub mod ward;
