@@ -9,10 +9,10 @@ use native.Mathlib.Omega.{arith}
 use lib.Dec.{eqb}
 use lib.ListN.{length, take, drop}
 use lib.Ieee.{Float}
-use Rattle.ward_core.specs.declared.WardAnswer.{WardAnswer}
-use Rattle.ward_core.specs.Ward.{summary, number, answered, roomAfter}
-use Rattle.ward_core.specs.WardExtended.{Extended, ExtendedRoom, voltageCorrection, qCompensation, refusalX, roomAfterX, AfterExtended, afterExtended}
-use Rattle.ward_core.specs.WardCalls.{roomOf, extendedRoomOf, afterX}
+use Rattle.ward_studies.specs.declared.WardAnswer.{WardAnswer}
+use Rattle.ward_studies.specs.Ward.{summary, number, answered, roomAfter}
+use Rattle.ward_studies.specs.WardExtended.{Extended, ExtendedRoom, voltageCorrection, qCompensation, refusalX, roomAfterX, AfterExtended, afterExtended}
+use Rattle.ward_studies.specs.WardCalls.{roomOf, extendedRoomOf, afterX}
 use Rattle.entry_slices.specs.Rooms.{listRoom, wardMatrixRoom, wardWorkRoom}
 use Rattle.entry_slices.specs.Slices.{floatsIn, spare, misfit, told, storedFloats}
 use Rattle.entry_slices.proofs.StoredLaws.{floats-stored}

@@ -3,8 +3,8 @@ use Prim.Native.Nat.{ℕ, _+_}
 use mathlib.Core.Path.{_≡_}
 use mathlib.Core.List.{List, map}
 use lib.Ieee.{Float}
-use Rattle.ward_core.specs.WardExtended.{Extended, ExtendedRoom, voltageCorrection, qCompensation, refusalX}
-use Rattle.ward_core.specs.WardCalls.{studyOf, extendedOf, extendedRoomOf}
+use Rattle.ward_studies.specs.WardExtended.{Extended, ExtendedRoom, voltageCorrection, qCompensation, refusalX}
+use Rattle.ward_studies.specs.WardCalls.{studyOf, extendedOf, extendedRoomOf}
 use Rattle.entry_slices.specs.Rooms.{listRoom, matrixRoom}
 use Rattle.entry_slices.specs.Slices.{floatsIn, wordsIn, spare, told, storedFloats}
 use Rattle.ward_entries.specs.WardEntry.{Outputs, Left, roomsOf, spareOf}

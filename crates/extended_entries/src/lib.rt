@@ -10,7 +10,7 @@ use ward_entries::stored::store_study;
 ghost use mathlib.Core.Path.{_≡_};
 ghost use Prim.Native.Nat.{_<_};
 ghost use lib.ListN.{length};
-ghost use Rattle.ward_core.specs.WardCalls as calls;
+ghost use Rattle.ward_studies.specs.WardCalls as calls;
 ghost use Rattle.ward_entries.specs.WardEntry as ward;
 ghost use Rattle.extended_entries.specs.ExtendedEntry as spec;
 ghost use Rattle.entry_slices.specs.Rooms.{listRoom, matrixRoom, wardMatrixRoom, wardWorkRoom};
