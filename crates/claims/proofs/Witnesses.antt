@@ -25,10 +25,10 @@ use Rattle.claims.specs.Removals.{Alike, NoInto}
 use Rattle.claims.proofs.Demand3.{demand3, words-f64s}
 
 -- M of the two-bus book: 1, -1 / -1, 2
-book-words : List ℕ
+unfoldable pub book-words : List ℕ
 book-words = 0x3ff0000000000000 ∷ 0 ∷ 0xbff0000000000000 ∷ 0 ∷ 0xbff0000000000000 ∷ 0 ∷ 0x4000000000000000 ∷ 0 ∷ []
 
-abbrev book : Making
+abbrev pub book : Making
 book = makingOf 2 (words book-words)
 
 -- a bus that is not there, a list too long, a list that is refused at its second bus, and a bus that is gone: one bus is removed

@@ -21,7 +21,7 @@ use Rattle.claims.specs.Accounts
 use Rattle.claims.specs.Accounts.{bus, entry}
 use Rattle.claims.specs.Chains.{Linked, Chain}
 use Rattle.claims.specs.Finite.{words, ofAccount, Finite}
-use Rattle.claims.proofs.Book.{book-words, book}
+use Rattle.claims.proofs.Witnesses.{book-words, book}
 use Rattle.words.specs.Bytes.{Bytes, ascii}
 use Rattle.words.specs.Words
 use Rattle.lines.specs.Lines
