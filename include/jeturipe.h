@@ -4,7 +4,8 @@
  * A complex number is two of them, real then imaginary; a matrix stands row after row.
  * Each slice is a pointer and its length in bytes. Slices must not overlap where one is written.
  * The answer is 0 where the call was carried out, else the number of the refusal.
- * Every list and matrix counts buses by row, from 0. */
+ * Lists and matrices count buses by row, from 0; REI's bus lists hold ids of the caller's choice.
+ * A work slice is all +0 after 0 or 13, else as it was. The pointer of a slice of length 0 is not followed. */
 #ifndef JETURIPE_H
 #define JETURIPE_H
 
@@ -51,7 +52,7 @@ uint32_t jeturipe_abs(double x, uint8_t *out, size_t out_len);
 uint32_t jeturipe_sqrt(double x, uint8_t *out, size_t out_len);
 uint32_t jeturipe_magnitude(double re, double im, uint8_t *out, size_t out_len);
 
-/* a x = b; work is 2n(n+1) numbers, all +0 afterwards. */
+/* a x = b; work is 2n(n+1) numbers. */
 uint32_t jeturipe_solve_linear(
     size_t n,
     const uint8_t *a, size_t a_len,

@@ -1,4 +1,4 @@
--- What the steps of the root hand on in the code (src/root.rt), as facts on whole numbers.
+-- What the steps of the root hand on in the code (src/steps.rt), as facts on whole numbers.
 use Prim.Native.Nat.{ℕ, _+_, _*_, _^_, _≤_, _<_}
 use mathlib.Core.Path.{_≡_}
 use Rattle.binary64.specs.Root.{square, half, radicand}

@@ -1,2 +1,2 @@
-// Lists of buses and branch ends: the tests and copies that the equivalents share.
+// Lists of buses and branch ends: the tests that the equivalents share.
 pub mod lists;

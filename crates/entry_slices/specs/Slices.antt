@@ -29,11 +29,11 @@ spare bs = length bs % 8
 unfoldable pub misfit : ℕ → ℕ → ℕ
 misfit len exact = cond (eqb len exact) 0 1
 
--- the refusal of a call whose slices have this many spare bytes, where the library's own is f: 1 comes first, then 2
+-- the refusal of a call whose slices have this many spare bytes (and one for each that is not of its exact length), where the library's own is f: 1 comes first, then 2
 unfoldable pub told : ℕ → ℕ → ℕ
 told over f = cond (eqb f tooMany) tooMany (cond (eqb over 0) f wrongLength)
 
--- an output of a call with refusal f: written whole where there is none, else untouched
+-- an output of a call with refusal f: written whole where there is none and it is as long as the numbers, else untouched
 unfoldable pub storedFloats : ℕ → List Float → List ℕ → List ℕ
 unfolding ofFloats
 storedFloats f xs bs = cond (eqb f 0 && eqb (length bs / 8) (length xs) && eqb (length bs % 8) 0) (ofFloats xs) bs

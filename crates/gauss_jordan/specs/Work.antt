@@ -22,7 +22,7 @@ withRow r f A i j = cond (eqb i r) (f j) (A i j)
 
 -- ---- elimination
 
--- an entry x of a row with this factor, below the pivot row's entry p
+-- an entry x of a row with this factor, in the column of the pivot row's entry p
 unfoldable pub reducedEntry : Complex → Complex → Complex → Complex
 reducedEntry factor p x = cond (operations .skips factor) x (operations .minus x (operations .times factor p))
 

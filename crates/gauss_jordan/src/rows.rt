@@ -78,7 +78,7 @@ pub fn subtract(row: &mut [f64], w: usize, factor: Complex, pivot: &[f64])
     }
 }
 
-// The row loses its factor, its entry in column c, times the pivot row.
+// The row loses its factor, its entry in column c, times the pivot row, unless the factor is skipped.
 pub fn reduce(row: &mut [f64], w: usize, c: usize, pivot: &[f64])
     requires { ⌜ (c < w) × (length (now row) ≡ 2 * w) × (length (now pivot) ≡ 2 * w) ⌝ }
     ensures { λ _. ⌜ ((q : ℕ) → q < w → entry (now (row .exit)) q ≡ reducedEntry (entry (now (row .entry)) c) (entry (now (pivot .entry)) q) (entry (now (row .entry)) q)) ⌝ }

@@ -27,7 +27,7 @@ ghost use Rattle.kron_rows.specs.Removal.{shown, padded, kept, foundIn};
 ghost use Rattle.kron_core.specs.Reading.{readingRefusal, afterMatrix, afterImpedance};
 ghost use Rattle.kron_core.specs.Reducer.{makingOf, recordOf, afterNew, sound, inputRefusal, afterBus, afterBuses};
 
-pub mod thevenin;
+mod thevenin;
 
 const ROW: usize = 2 * LIMIT;
 
@@ -59,6 +59,7 @@ pub struct TakenAll {
     pub removals: Removals,
     pub rec: KronReducer,
 }
+
 // The impedance between two buses.
 pub enum Impedance {
     Value(Complex),
@@ -163,7 +164,7 @@ fn input_refusal(r: KronReducer, len: usize, count: usize) -> u32
     0
 }
 
-// The same, once the input is accepted.
+// A list of removals whose input is accepted.
 fn take_accepted(r: KronReducer, y: &mut [f64], buses: &[usize]) -> TakenAll
     requires { ⌜ inputRefusal r (now y) (length (now buses)) ≡ 0 ⌝ }
     ensures { λ o. ⌜ (o ≡ afterBuses r (now (y .entry)) (now (buses .entry)) .out)
@@ -277,7 +278,7 @@ pub fn reduced_matrix(r: KronReducer, y: &[f64], out: &mut [f64]) -> Outcome
 }
 
 // The impedance seen between two buses. Refusals: 1, 2, 9; 11, of the first bus or of the second; 13.
-// The work slice has two rows for each at making; it is +0 after an answer or 13.
+// The work slice has four numbers for each entry at making; it is +0 after an answer or 13.
 pub fn thevenin_impedance(
     r: KronReducer,
     y: &[f64],

@@ -1,4 +1,4 @@
-// The impedance between two rows of a matrix. Private to the crate: what each function requires, `kron` has tested.
+// The impedance between two rows of a matrix. What each function requires, `thevenin_impedance` has tested.
 use crate::Impedance;
 use complex::Complex;
 use complex::cadd;

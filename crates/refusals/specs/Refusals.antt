@@ -53,7 +53,7 @@ badRecord = 9
 abbrev pub notActive : ℕ
 notActive = 11
 
--- the removed bus's own entry is too small to divide by
+-- the bus's own entry is too small to divide by
 abbrev pub smallEntry : ℕ
 smallEntry = 12
 

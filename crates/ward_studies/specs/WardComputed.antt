@@ -1,4 +1,4 @@
--- The numbers that a Ward study computes, in the order of the work. A turned sign is no number of its own.
+-- The numbers that a Ward study computes, in the order of the work; of a correction first its terms, then its sums. A turned sign is no number of its own.
 use Prim.Native.Nat.{ℕ, zero, suc}
 use mathlib.Core.Bool.{cond}
 use mathlib.Core.List.{List, [], _∷_, _++_}

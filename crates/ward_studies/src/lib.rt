@@ -2,7 +2,7 @@
 pub mod ward_lists;
 pub mod ward_study;
 
-// Of a study: the size of the given matrix, how many buses the equivalent keeps, and 1 less their quotient.
+// Of a study: the size of the given matrix, how many buses the equivalent keeps, and 1 less their quotient, or 0 where no bus is external.
 pub struct WardSummary {
     pub n_buses_reduced: usize,
     pub n_buses_equivalent: usize,
