@@ -1,9 +1,9 @@
--- A study that meets the premise of `wardRows`: the row of bus 2 has zeros towards the one external bus and keeps its values,
+-- Studies that meet the premises of `wardRows`, one of each kind: the row of bus 2 has zeros towards the one external bus and keeps its values,
 -- the row of bus 1 changes and gets an injection. Assumes nothing.
 use mathlib.Core.Path.{_≡_, refl}
 use mathlib.Core.Logic.{inl, inr}
 use mathlib.Core.Bool.{Bool, true, false, not, _||_, _&&_}
-use mathlib.Core.List.{List, [], _∷_}
+use mathlib.Core.List.{List, [], _∷_, _++_}
 use Prim.Native.Nat.{ℕ, zero, suc, _<_}
 use native.Mathlib.Omega.{arith}
 use lib.Dec.{T, eqb, lit<, eqb→eq}
@@ -11,9 +11,10 @@ use lib.ListN.{length, getD}
 use lib.Ieee.{Float, nan, binary64, fits, ofBits, span, climb, size, odd, units, round, neg, sum, add, sub, mul, div, lt, eq, ofInt, ofFields}
 use lib.Ieee.Fits.{nan-fits, and-l, and-r}
 use Rattle.complex.specs.Arithmetic.{cadd, csub, cmul, sqmag, cdiv, complexInv}
-use Rattle.complex.specs.Constants.{plus0, one, tiny}
+use Rattle.complex.specs.Constants.{plus0, one, tiny, weak}
 use Rattle.complex.specs.Entries.{entry}
-use Rattle.complex.specs.Magnitude.{abs}
+use Rattle.complex.specs.Magnitude.{abs, magnitude}
+use Rattle.binary64.specs.Root.{root, rootOf, wholeRoot, half, radicand}
 use Rattle.complex.specs.Matrices.{upTo, entryAt, row, rows, zeros}
 use Rattle.complex.specs.Values.{_≈_, Zero, isZero, allFinite, F64s}
 use Rattle.refusals.specs.Refusals.{limit}
@@ -23,10 +24,12 @@ use Rattle.gauss_jordan.specs.Computed.{ofSearch, ofScaling, ofReducing, ofRedu
 use Rattle.buses.specs.Buses.{_∈_, allBelow}
 use Rattle.ward_products.specs.WardArithmetic.{sumUp, current, injectedP, injectedQ}
 use Rattle.ward_studies.specs.Ward.{Study, Room, retained, listed, externals, admittance, system, response, rowTimes, equivalent, driven, transferred, injectionP, injectionQ, repeats, tooLong, misfit, unmatched, busRefusal, inputRefusal, thenPivots, refusal, Accepted, reduction, summary, answered, filled, workAfter, roomAfter, afterWard}
-use Rattle.ward_studies.specs.WardComputed.{ofEach, ofProducts, ofRowTimes, ofResponse, ofEntry, ofCurrents, ofDriven, ofInjection, ofReduction, ofEquivalent, ofInjections, ofStudy}
+use Rattle.ward_studies.specs.WardComputed.{ofEach, ofProducts, ofRowTimes, ofResponse, ofEntry, ofCurrents, ofDriven, ofInjection, ofReduction, ofEquivalent, ofInjections, ofStudy, ofSums, ofTies, ofCorrection, ofExtended}
 use Rattle.buses.proofs.Buses.{in-cases}
-use Rattle.claims.specs.WardRows.{givenOf, FiniteStudy, old, rowBuses, busOfRow, ZeroRow, KeepsRow}
+use Rattle.ward_studies.specs.WardExtended.{Extended, ExtendedRoom, addUp, deviation, weight, weightSum, weightedSum, voltageCorrection, reactive, qCompensation, inputRefusalX, refusalX, AcceptedX, roomAfterX, afterExtended}
+use Rattle.claims.specs.WardRows.{givenOf, FiniteStudy, FiniteExtended, old, rowBuses, busOfRow, ZeroRow, KeepsRow, KeepsRowX}
 use Rattle.claims.proofs.WardKeeps.{zero-row}
+use Rattle.claims.proofs.WardRows.{zero-rowX}
 
 abbrev z : Float
 z = ofBits binary64 0
@@ -97,3 +100,36 @@ keeps = zero-row S o accepted finite-study 1 (lit< tt) zero-towards
 changes : T (not (eq (entryAt 3 (afterWard S o .room .y-ward) 2 2 .re) (old S 1 1 .re))) × T (not (isZero (getD (afterWard S o .room .p-ward) 1 nan)))
 unfolding old retained listed admittance sumUp system response rowTimes equivalent current injectedP injectedQ driven transferred injectionP injectionQ repeats tooLong misfit unmatched busRefusal inputRefusal thenPivots refusal reduction summary answered filled workAfter roomAfter afterWard allBelow limit stays tooSmall heldAfter pivotRow swapped scaled reduced pivoted cleared runFrom run beside solution singularSystem skipped cadd csub cmul sqmag cdiv complexInv plus0 one tiny entry abs upTo entryAt row rows zeros ofBits span climb size odd units round neg sum add sub mul div lt eq ofInt ofFields
 changes = (tt, tt)
+
+-- ---- the same study, extended: the external bus at 2 per unit
+
+abbrev X : Extended
+X = record { study = S; v-ext = II ∷ [] }
+
+abbrev wide : ExtendedRoom
+unfolding zeros
+wide = record { room = o; correction = zeros 2; compensation = zeros 2 }
+
+accepted-x : AcceptedX X wide
+unfolding retained listed admittance sumUp system response rowTimes equivalent current injectedP injectedQ driven transferred injectionP injectionQ repeats tooLong misfit unmatched busRefusal inputRefusal thenPivots refusal reduction summary answered filled workAfter roomAfter afterWard allBelow limit stays tooSmall heldAfter pivotRow swapped scaled reduced pivoted cleared runFrom run beside solution singularSystem skipped cadd csub cmul sqmag cdiv complexInv plus0 one tiny entry abs upTo entryAt row rows zeros ofBits span climb size odd units round neg sum add sub mul div lt eq ofInt ofFields magnitude root rootOf wholeRoot half radicand weak addUp deviation weight weightSum weightedSum voltageCorrection reactive qCompensation inputRefusalX refusalX roomAfterX afterExtended
+accepted-x = tt
+
+given-x : T (allFinite (givenOf S ++ X .v-ext))
+unfolding givenOf allFinite ofBits ofFields odd
+given-x = tt
+
+computed-x : T (allFinite (ofExtended X))
+unfolding retained listed admittance sumUp system response rowTimes equivalent current injectedP injectedQ driven transferred injectionP injectionQ repeats tooLong misfit unmatched busRefusal inputRefusal thenPivots refusal reduction summary answered filled workAfter roomAfter afterWard allBelow limit stays tooSmall heldAfter pivotRow swapped scaled reduced pivoted cleared runFrom run beside solution singularSystem skipped cadd csub cmul sqmag cdiv complexInv plus0 one tiny entry abs upTo entryAt row rows zeros ofBits span climb size odd units round neg sum add sub mul div lt eq ofInt ofFields magnitude root rootOf wholeRoot half radicand weak addUp deviation weight weightSum weightedSum voltageCorrection reactive qCompensation inputRefusalX refusalX roomAfterX afterExtended ofSearch ofScaling ofReducing ofReductions ofRunFrom ofRun ofSolve ofEach ofProducts ofRowTimes ofResponse ofEntry ofCurrents ofDriven ofInjection ofReduction ofEquivalent ofInjections ofStudy ofSums ofTies ofCorrection ofExtended allFinite
+computed-x = tt
+
+finite-extended : FiniteExtended X
+finite-extended = record { f64s = f64s; given = search given-x; computed = search computed-x }
+
+keeps-x : KeepsRowX X (afterExtended X wide .room) 1
+unfolding rowBuses
+keeps-x = zero-rowX X wide accepted-x finite-extended 1 (lit< tt) zero-towards
+
+-- row 2, of bus 1, gets a correction
+changes-x : T (not (isZero (getD (afterExtended X wide .room .correction) 1 nan)))
+unfolding retained listed admittance sumUp system response rowTimes equivalent current injectedP injectedQ driven transferred injectionP injectionQ repeats tooLong misfit unmatched busRefusal inputRefusal thenPivots refusal reduction summary answered filled workAfter roomAfter afterWard allBelow limit stays tooSmall heldAfter pivotRow swapped scaled reduced pivoted cleared runFrom run beside solution singularSystem skipped cadd csub cmul sqmag cdiv complexInv plus0 one tiny entry abs upTo entryAt row rows zeros ofBits span climb size odd units round neg sum add sub mul div lt eq ofInt ofFields magnitude root rootOf wholeRoot half radicand weak addUp deviation weight weightSum weightedSum voltageCorrection reactive qCompensation inputRefusalX refusalX roomAfterX afterExtended
+changes-x = tt
