@@ -92,7 +92,7 @@ fn sizeable(call: &Call, n: usize) -> bool {
 fn main() {
     quietly();
     let folder = std::env::args().nth(1).expect("a folder");
-    let files: [(&str, Wanted); 7] = [
+    let files: [(&str, Wanted); 8] = [
         (
             "systems.bin",
             &[
@@ -104,11 +104,11 @@ fn main() {
             "reducers.bin",
             &[
                 (KronNew, 60, &[16, 64]),
-                (EliminateBus, 200, &[16, 64]),
-                (EliminateBuses, 220, &[8, 16, 33]),
+                (EliminateBus, 180, &[16, 64]),
                 (ReducedMatrix, 80, &[16]),
             ],
         ),
+        ("lists.bin", &[(EliminateBuses, 220, &[8, 16, 33])]),
         ("thevenin.bin", &[(TheveninImpedance, 300, &[8, 16, 48])]),
         (
             "ward.bin",
