@@ -5,7 +5,7 @@
  * Each slice is a pointer and its length in bytes. Slices must not overlap where one is written.
  * The answer is 0 where the call was carried out, else the number of the refusal.
  * Lists and matrices count buses by row, from 0; REI's bus lists hold ids of the caller's choice.
- * A work slice is all +0 after 0 or 13, else as it was. The pointer of a slice of length 0 is not followed. */
+ * A work slice is all +0 after 0 or 13, else as it was. No pointer is null, also of a slice of length 0. */
 #ifndef JETURIPE_H
 #define JETURIPE_H
 
