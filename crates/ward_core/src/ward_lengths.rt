@@ -2,7 +2,8 @@
 // Nothing is multiplied before the lengths are known to be within the limit.
 use refusals::LIMIT;
 ghost use mathlib.Core.Path.{_≡_};
-ghost use Prim.Native.Nat.{_<_};
+ghost use Prim.Native.Nat.{_≤_};
+ghost use Rattle.refusals.specs.Refusals.{limit};
 ghost use Rattle.ward_studies.specs.WardCalls as spec;
 
 // More buses than the limit, or a longer list.
@@ -39,7 +40,7 @@ fn uneven(
     qw: usize,
     w: usize,
 ) -> bool
-    requires { ⌜ (n < 65) × (i < 65) × (e < 65) × (b < 65) ⌝ }
+    requires { ⌜ (n ≤ limit) × (i ≤ limit) × (e ≤ limit) × (b ≤ limit) ⌝ }
     ensures { λ r. ⌜ r ≡ spec.uneven n y i e b yw pw qw w ⌝ }
 {
     let r = i + b;

@@ -1,39 +1,10 @@
-// Lists of buses of a Ward study: joined, and looked through.
-use refusals::LIMIT;
+// Lists of buses of a Ward study: joined, and looked through for one that stands twice.
+use buses::lists::holds;
 ghost use mathlib.Core.Path.{_≡_};
 ghost use mathlib.Core.List.{_++_};
 ghost use Prim.Native.Nat.{_+_, _≤_};
 ghost use lib.ListN.{length, take};
-ghost use Rattle.buses.specs.Buses as buses;
 ghost use Rattle.ward_studies.specs.Ward as ward;
-
-// Whether the bus stands in the list.
-fn stands(bus: usize, list: &[usize]) -> bool
-    ensures { λ r. ⌜ r ≡ buses.mem bus (now (list .entry)) ⌝ }
-{
-    let mut i = 0;
-    while i < list.len() {
-        if list[i] == bus {
-            return true;
-        }
-        i += 1;
-    }
-    false
-}
-
-// Whether every bus of the list is one of a matrix of n.
-pub fn all_below(n: usize, list: &[usize]) -> bool
-    ensures { λ r. ⌜ r ≡ buses.allBelow n (now (list .entry)) ⌝ }
-{
-    let mut i = 0;
-    while i < list.len() {
-        if list[i] >= n {
-            return false;
-        }
-        i += 1;
-    }
-    true
-}
 
 // Whether a bus stands twice in the list.
 pub fn repeats(list: &[usize]) -> bool
@@ -43,7 +14,8 @@ pub fn repeats(list: &[usize]) -> bool
     let end = list.len();
     while i < end {
         let next = i + 1;
-        if stands(list[i], &list[next..end]) {
+        let bus = list[i];
+        if holds(&list[next..end], bus) {
             return true;
         }
         i = next;

@@ -2,6 +2,7 @@
 use crate::WardAnswer;
 use crate::WardSummary;
 use crate::ward_lists;
+use buses::lists::all_below;
 use gauss_jordan::elimination::gauss_jordan;
 use gauss_jordan::rows;
 use refusals::LIMIT;
@@ -9,6 +10,7 @@ use ward_products::ward_rows;
 ghost use mathlib.Core.Path.{_≡_};
 ghost use Prim.Native.Nat.{ℕ, _+_, _*_, _<_, _≤_};
 ghost use lib.ListN.{length};
+ghost use Rattle.refusals.specs.Refusals.{limit};
 ghost use Rattle.ward_studies.specs.Ward as ward;
 ghost use Rattle.ward_studies.specs.WardCalls as spec;
 
@@ -41,7 +43,7 @@ pub fn unreduced(
 
 // The share of the buses that the equivalent leaves out.
 fn ratio(r: usize, n: usize) -> f64
-    requires { ⌜ (r ≤ n) × (n < 65) ⌝ }
+    requires { ⌜ (r ≤ n) × (n ≤ limit) ⌝ }
     ensures { λ x. ⌜ x ≡ ward.reduction r n ⌝ }
 {
     1.0 - (r as f64) / (n as f64)
@@ -132,7 +134,7 @@ fn listed(
     requires { ⌜ spec.Joined n (now y) (now buses) e f (now p) (now q) (spec.roomOf (now to) (now active) (now reactive) (now work)) ⌝ }
     ensures { λ r. ⌜ spec.after r (now (to .exit)) (now (active .exit)) (now (reactive .exit)) (now (work .exit)) ≡ spec.studied (spec.cut n (now (y .entry)) (now (buses .entry)) e f base (now (p .entry)) (now (q .entry))) (spec.roomOf (now (to .entry)) (now (active .entry)) (now (reactive .entry)) (now (work .entry))) (ward.busRefusal (spec.cut n (now (y .entry)) (now (buses .entry)) e f base (now (p .entry)) (now (q .entry)))) ⌝ }
 {
-    if !ward_lists::all_below(n, buses) {
+    if !all_below(n, buses) {
         return WardAnswer::Refused(7);
     }
     if ward_lists::repeats(buses) {

@@ -28,6 +28,7 @@ unfolding told
 returns c = rw (sym (c .before .crowded .ensures) ∙ c .if1 .taken)
 
 uneven-requires : tie.Need-uneven-requires
+unfolding limit
 uneven-requires c κs =
     let a = c .before .before .args in
     let f = few (a .n) (a .i) (a .e) (a .b) (a .p) (a .q) (sym (c .before .crowded .ensures) ∙ c .if1 .left) in

@@ -22,6 +22,7 @@ unfolding toldX limit
 returns-2 c = simp (sym (c .before .before .crowded .ensures) ∙ c .before .if1 .left, lt-ltb 64 (c .before .before .before .args .v) (c .if2 .taken))
 
 uneven-requires : tie.Need-uneven-requires
+unfolding limit
 uneven-requires c κs =
     let a = c .before .before .before .args in
     let f = few (a .n) (a .i) (a .e) (a .b) (a .p) (a .q) (sym (c .before .before .crowded .ensures) ∙ c .before .if1 .left) in

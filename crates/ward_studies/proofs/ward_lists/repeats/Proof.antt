@@ -29,30 +29,30 @@ loop-holds c = (omega arith, scan-start repeats (c .before .args .list .now))
 add-next : tie.Need-add-next Inv-loop μ-loop
 add-next c = search needs
 
-mul-stands : tie.Need-mul-stands Inv-loop μ-loop
-mul-stands c = search needs
+mul-bus : tie.Need-mul-bus Inv-loop μ-loop
+mul-bus c = search needs
 
-shared-slice-read-stands : tie.Need-shared-slice-read-stands Inv-loop μ-loop
-shared-slice-read-stands c = search needs
+shared-slice-read-bus : tie.Need-shared-slice-read-bus Inv-loop μ-loop
+shared-slice-read-bus c = search needs
 
-mul-stands-2 : tie.Need-mul-stands-2 Inv-loop μ-loop
-mul-stands-2 c = search needs
+mul-holds : tie.Need-mul-holds Inv-loop μ-loop
+mul-holds c = search needs
 
-sub-stands : tie.Need-sub-stands Inv-loop μ-loop
-sub-stands c = search needs
+sub-holds : tie.Need-sub-holds Inv-loop μ-loop
+sub-holds c = search needs
 
-part-stands-start : tie.Need-part-stands-start Inv-loop μ-loop
-part-stands-start c = search needs
+part-holds-start : tie.Need-part-holds-start Inv-loop μ-loop
+part-holds-start c = search needs
 
-part-stands-end : tie.Need-part-stands-end Inv-loop μ-loop
-part-stands-end c = search needs
+part-holds-end : tie.Need-part-holds-end Inv-loop μ-loop
+part-holds-end c = search needs
 
-stands-requires : tie.Need-stands-requires Inv-loop μ-loop
-stands-requires c κs = search needs
+holds-requires : tie.Need-holds-requires Inv-loop μ-loop
+holds-requires c κs = search needs
 
 returns : tie.Need-returns Inv-loop μ-loop
 returns c =
-    let s = c .before .stands in
+    let s = c .before .holds in
     let t = c .before .before .before .before in
     let l = t .before in
     let xs = l .before .before .args .list .now in
@@ -65,7 +65,7 @@ loop-less c = search needs
 
 loop-again : tie.Need-loop-again Inv-loop μ-loop
 loop-again c =
-    let s = c .before .stands in
+    let s = c .before .holds in
     let t = c .before .before .before .before in
     let l = t .before in
     let xs = l .before .before .args .list .now in
@@ -87,13 +87,13 @@ repeats-spec =
     μ-loop
     loop-holds
     add-next
-    mul-stands
-    shared-slice-read-stands
-    mul-stands-2
-    sub-stands
-    part-stands-start
-    part-stands-end
-    stands-requires
+    mul-bus
+    shared-slice-read-bus
+    mul-holds
+    sub-holds
+    part-holds-start
+    part-holds-end
+    holds-requires
     returns
     loop-less
     loop-again
