@@ -8,23 +8,15 @@ use borrow.Author.Tests.{ltb-false}
 use lib.IntN.{ℤ, pos}
 use lib.Dec.{T}
 use lib.Ieee.{Float, nan, inf, fin, binary64, fits, up, down, lt, sum, round, units, odd, neg, add, sub, mul}
-use lib.Ieee.Fits.{up-pos, neg-fits, nan-fits, inf-fits, add-fits, mul-fits}
+use lib.Ieee.Fits.{up-pos, neg-fits, mul-fits}
 use lib.Ieee.Scale.{finite}
 use Rattle.complex.specs.Magnitude.{abs, magnitude}
 use Rattle.complex.specs.declared.Complex.{Complex}
 use Rattle.complex.specs.Arithmetic.{sqmag}
-use Rattle.binary64.specs.Root.{root, Root}
+use Rattle.binary64.specs.Root.{root}
 use Rattle.binary64.proofs.Floats.{Zero, same, zeros, zero-of, zero-way, add-left, mul-zero-left}
-use Rattle.binary64.proofs.RootNearest.{root-is}
 
 -- ---- the sign cleared
-
-pub abs-fits : (x : Float) → T (fits binary64 x) → T (fits binary64 (abs x))
-unfolding abs fits
-abs-fits nan h = tt
-abs-fits (inf s) h = tt
-abs-fits (fin s zero e) h = h
-abs-fits (fin s (suc m) e) h = h
 
 pub abs-above : (x : Float) → lt (fin false 0 (pos 0)) x ≡ true → x ≡ abs x
 unfolding abs lt
@@ -54,25 +46,7 @@ abs-else (fin true (suc m) e) h t = from-zero false m e (neg-fits binary64 (fin 
 abs-else (fin false (suc m) e) h t =
     absurd (not-le-of-lt (mul-pos (mul-pos (zero-lt-suc m) (up-pos e)) (zero-lt-suc 0)) (simp zero-mul at (ltb-false (0 * 1 * down e) (suc m * up e * 1) t)))
 
-pub abs-zero : (x : Float) → Zero x → Zero (abs x)
-unfolding abs
-abs-zero nan z = z
-abs-zero (inf s) z = z
-abs-zero (fin s zero e) z = tt
-abs-zero (fin s (suc m) e) z = z
-
 -- ---- the root and the magnitude
-
-pub root-fits : (x : Float) → T (fits binary64 x) → T (fits binary64 (root x))
-root-fits x h = go x (root x) h (root-is x h)
-  where
-    go : (x r : Float) → T (fits binary64 x) → Root x r → T (fits binary64 r)
-    go nan r h e = rw e (nan-fits binary64)
-    go (inf true) r h e = rw e (nan-fits binary64)
-    go (inf false) r h e = rw e (inf-fits binary64 false)
-    go (fin s zero e) r h p = rw p h
-    go (fin true (suc m) e) r h p = rw p (nan-fits binary64)
-    go (fin false (suc m) e) r h p = p .held
 
 pub root-zero : (x : Float) → Zero x → Zero (root x)
 unfolding root
@@ -80,10 +54,6 @@ root-zero nan z = absurd z
 root-zero (inf s) z = absurd z
 root-zero (fin s zero e) z = tt
 root-zero (fin s (suc m) e) z = absurd z
-
-pub magnitude-fits : (c : Complex) → T (fits binary64 (magnitude c))
-unfolding magnitude sqmag
-magnitude-fits c = root-fits (sqmag c) (add-fits binary64 (mul binary64 (c .re) (c .re)) (mul binary64 (c .im) (c .im)))
 
 -- zero where both parts are
 zero-finite : (x : Float) → Zero x → T (finite x)

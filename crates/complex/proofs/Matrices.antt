@@ -1,21 +1,20 @@
 -- Matrices in slices: the entry of a laid-out matrix, a row as a part, a row that came back, and when a slice is a layout.
 -- Assumes nothing.
-use mathlib.Core.Path.{_≡_, refl, sym, ap, subst, _∙_}
+use mathlib.Core.Path.{_≡_, refl, sym, ap, _∙_}
 use mathlib.Core.Logic.{_⊎_, inl, inr}
 use mathlib.Core.List.{List, [], _∷_, _++_}
-use Prim.Native.Nat.{ℕ, zero, suc, _+_, _*_, _-_, _/_, _%_, _≤_, _<_}
-use native.Mathlib.Nat.{mul-add, mul-zero, zero-mul, mul-comm, add-comm, add-assoc, suc-mul, mul-suc, zero-add, div-add-mod', mod-lt, div-lt-iff-lt-mul, mul-le-mul-right, le-trans, lt-of-lt-of-le, lt-of-le-of-lt}
+use Prim.Native.Nat.{ℕ, zero, suc, _+_, _*_, _/_, _%_, _≤_, _<_}
+use native.Mathlib.Nat.{mul-zero, zero-mul, add-comm, add-assoc, suc-mul, zero-add, div-add-mod', mod-lt, div-lt-iff-lt-mul, mul-le-mul-right}
 use native.Mathlib.Omega.{arith}
-use lib.ListN.{length, getD, take, drop, length-append, length-replicate, getD-replicate, length-take, length-drop, List·getD-append}
-use lib.Seq.{getD-append-seam, getD-at}
+use lib.ListN.{length, getD, take, drop, length-append, length-replicate, getD-replicate, List·getD-append}
+use lib.Seq.{getD-at}
 use lib.Arith.{digits-lt}
 use lib.Ieee.{Float, nan}
-use Rattle.complex.specs.declared.Complex.{Complex}
 use Rattle.complex.specs.Constants.{plus0}
 use Rattle.complex.specs.Entries.{entry}
 use Rattle.complex.specs.Matrices.{Matrix, upTo, entryAt, row, rows, grid, zeros}
-use Rattle.complex.proofs.Parts.{back, length-back}
-use Rattle.complex.proofs.Entries.{parts-same, entry-take, entry-drop, entry-append-left, entry-append-right, entry-back-before, entry-back-in, entry-back-after, entry-next, ext-entry}
+use Rattle.complex.proofs.Parts.{back}
+use Rattle.complex.proofs.Entries.{entry-take, entry-drop, entry-append-left, entry-append-right, entry-back-before, entry-back-in, entry-back-after, entry-next, ext-entry}
 
 -- ---- 0, 1, .. n - 1
 

@@ -1,21 +1,9 @@
-// The limits of the formulas, as the code's literals, each shown to be its definition's bit pattern.
-ghost use mathlib.Core.Path.{_≡_};
-ghost use Rattle.complex.specs.Constants as spec;
+// The limits of the formulas. Each function that tests against one is proved against its definition, a bit pattern.
+// Below it a squared magnitude is no divisor and no pivot, and the parts of a factor are none.
+pub const TINY: f64 = 1e-300;
 
-pub fn tiny() -> f64
-    ensures { λ r. ⌜ r ≡ spec.tiny ⌝ }
-{
-    1e-300
-}
+// A reactance, a denominator, a weight or a magnitude that counts as none.
+pub const WEAK: f64 = 1e-12;
 
-pub fn weak() -> f64
-    ensures { λ r. ⌜ r ≡ spec.weak ⌝ }
-{
-    1e-12
-}
-
-pub fn faint() -> f64
-    ensures { λ r. ⌜ r ≡ spec.faint ⌝ }
-{
-    1e-14
-}
+// A part of an admittance that makes no tie.
+pub const FAINT: f64 = 1e-14;

@@ -60,7 +60,7 @@ pub fn cdiv(a: Complex, b: Complex) -> Complex
     ensures { λ r. ⌜ r ≡ spec.cdiv a b ⌝ }
 {
     let d = b.re * b.re + b.im * b.im;
-    if d < 1e-300 {
+    if d < constants::TINY {
         return Complex {
             re: 1.0 / 0.0,
             im: 1.0 / 0.0,

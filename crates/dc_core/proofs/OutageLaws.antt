@@ -1,7 +1,7 @@
 -- Lists of numbers by a rule, rows of them, and a row of the PTDF as a part of its slice.
 -- Assumes nothing.
 use mathlib.Core.Path.{_≡_, refl, sym, ap, _∙_}
-use mathlib.Core.List.{List, [], _∷_, _++_, append-assoc}
+use mathlib.Core.List.{List, [], _∷_, _++_}
 use mathlib.Core.Logic.{_⊎_, inl, inr}
 use Prim.Native.Nat.{ℕ, zero, suc, _+_, _*_, _-_, _<_, _≤_}
 use native.Mathlib.Nat.{suc-mul, zero-mul}
@@ -11,7 +11,6 @@ use lib.Dec.{T}
 use lib.ListN.{length, getD, set, take, drop, length-append, length-drop, List·getD-append}
 use lib.Seq.{getD-take, getD-drop, getD-at, length-take-le}
 use lib.Ieee.{Float, nan}
-use Rattle.complex.specs.Arithmetic.{_⊖_}
 use Rattle.buses.specs.Buses.{allBelow}
 use Rattle.buses.proofs.Ends.{below-at}
 use Rattle.buses.proofs.Fronts.{front-next, front-end}

@@ -1,16 +1,16 @@
 -- What a chain of refusals answers, and what an answer of no refusal tells.
 -- Assumes nothing.
-use mathlib.Core.Path.{_≡_, refl, sym, ap, _∙_}
+use mathlib.Core.Path.{_≡_, refl}
 use mathlib.Core.Bool.{Bool, true, false, not, _&&_, _||_, cond}
 use mathlib.Core.List.{List}
-use Prim.Native.Nat.{ℕ, zero, suc, _+_, _*_, _<_, _≤_}
+use Prim.Native.Nat.{ℕ, zero, suc, _*_, _≤_}
 use native.Mathlib.Omega.{arith}
 use lib.Dec.{T, eqb, ltb, eqb→eq}
 use lib.ListN.{length}
 use lib.Ieee.{Float}
-use borrow.Author.Tests.{ltb-false, eqb-true, ne-eqb}
+use borrow.Author.Tests.{ltb-false, ne-eqb}
 use Rattle.refusals.specs.Refusals.{limit, refuse, outcome}
-use Rattle.refusals.specs.declared.Outcome.the-variants.{Done, Refused}
+use Rattle.refusals.specs.declared.Outcome.the-variants.{Refused}
 use Rattle.buses.specs.Buses.{allBelow}
 use Rattle.dc_core.specs.Dc.{endsRefusal, buildRefusal, lodfRefusal}
 use Rattle.buses.specs.Limits.{over}

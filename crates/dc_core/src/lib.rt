@@ -4,6 +4,7 @@ use buses::lists::all_below;
 use buses::lists::clear;
 use buses::lists::no_buses;
 use buses::lists::over;
+use complex::constants::WEAK;
 use complex::magnitude::abs;
 use refusals::LIMIT;
 use refusals::Outcome;
@@ -164,7 +165,7 @@ fn add_branch(n: usize, b: &mut [f64], from: usize, to: usize, x: f64)
     requires { ⌜ length (now b) ≡ n * n ⌝ }
     ensures { λ _. ⌜ now (b .exit) ≡ spec.addBranch n (now (b .entry)) from to x ⌝ }
 {
-    if abs(x) < 1e-12 {
+    if abs(x) < WEAK {
         return;
     }
     join(b, from * n, to * n, from, to, 1.0 / x);
@@ -309,7 +310,7 @@ fn outage_factor(l: usize, k: usize, taken: f64, d: f64) -> f64
     if l == k {
         return -1.0;
     }
-    if abs(d) < 1e-12 {
+    if abs(d) < WEAK {
         return 0.0;
     }
     taken / d

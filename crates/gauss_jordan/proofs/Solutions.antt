@@ -6,20 +6,18 @@ use mathlib.Core.Logic.{_⊎_, inl, inr}
 use mathlib.Core.Bool.{Bool, true, false, cond}
 use mathlib.Core.List.{List}
 use Prim.Native.Nat.{ℕ, zero, suc, _+_, _*_, _-_, _≤_, _<_}
-use native.Mathlib.Nat.{mul-one, add-zero, sub-zero}
+use native.Mathlib.Nat.{sub-zero}
 use native.Mathlib.Omega.{arith}
 use borrow.Author.Tests.{eqb-true, eqb-false, eq-eqb, ne-eqb}
 use lib.Dec.{eqb}
-use lib.ListN.{length}
 use lib.Ieee.{Float}
-use Rattle.complex.specs.declared.Complex.{Complex}
 use Rattle.complex.specs.Constants.{plus0}
 use Rattle.complex.specs.Arithmetic.{unit}
 use Rattle.complex.specs.Entries.{entry}
 use Rattle.complex.specs.Matrices.{Matrix, entryAt, grid, zeros}
 use Rattle.complex.proofs.Entries.{parts-same}
 use Rattle.complex.proofs.Matrices.{entry-grid, entry-within, getD-zeros}
-use Rattle.gauss_jordan.specs.GaussJordan.{Run, run, beside, solution, singularSystem}
+use Rattle.gauss_jordan.specs.GaussJordan.{run, beside, solution, singularSystem}
 use Rattle.gauss_jordan.specs.Solving.{operations, unitColumn}
 use Rattle.gauss_jordan.specs.Work.{placed, beyond, diagonal}
 use Rattle.gauss_jordan.proofs.GaussJordan.{run-same, beside-singular, beside-system, beside-right, column-alone}

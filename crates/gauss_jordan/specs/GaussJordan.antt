@@ -1,12 +1,10 @@
 -- Gauss-Jordan elimination, a column at a time, on a matrix of n rows whose columns from n on are right sides.
 -- The element's operations are a parameter: complex numbers are one instance.
-use Prim.Native.Nat.{ℕ, zero, suc, _+_, _-_}
-use mathlib.Core.Bool.{Bool, true, false, _||_, _&&_, cond}
+use Prim.Native.Nat.{ℕ, zero, suc, _-_}
+use mathlib.Core.Bool.{Bool, true, false, _||_, cond}
 use lib.Dec.{eqb, ltb}
 use lib.Ieee.{Float, lt}
-use Rattle.complex.specs.declared.Complex.{Complex}
 use Rattle.complex.specs.Constants.{tiny}
-use Rattle.complex.specs.Arithmetic as Arithmetic
 
 pub record Operations (E : Type 0) : Type 0 where
   pub times : E → E → E

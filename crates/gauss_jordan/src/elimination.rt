@@ -1,12 +1,12 @@
 // Gauss-Jordan elimination in a lent work slice, for the layers above: n rows of w entries, the system's n columns first, then w - n right sides.
 // The functions here have a `requires`, which their callers prove.
 use crate::rows;
-use complex::Complex;
+use complex::constants::TINY;
 use complex::entry::get;
 use refusals::LIMIT;
 ghost use mathlib.Core.Path.{_≡_};
 ghost use mathlib.Core.Bool.{cond};
-ghost use Prim.Native.Nat.{ℕ, _+_, _*_, _-_, _<_, _≤_};
+ghost use Prim.Native.Nat.{ℕ, _+_, _*_, _<_, _≤_};
 ghost use lib.ListN.{length};
 ghost use Rattle.complex.specs.Entries.{entry};
 ghost use Rattle.complex.specs.Matrices.{entryAt, grid};
@@ -124,7 +124,7 @@ fn column(work: &mut [f64], n: usize, w: usize, c: usize, row: &mut [f64]) -> bo
 {
     let p = pivot_row(work, n, w, c);
     swap(work, n, w, c, p, row);
-    if complex::sqmag(get(row, c)) < 1e-300 {
+    if complex::sqmag(get(row, c)) < TINY {
         return true;
     }
     clear_column(work, n, w, c, row);

@@ -1,5 +1,6 @@
 // Row routines. A row is a part of a slice of f64: w complex entries in 2 w numbers.
 use complex::Complex;
+use complex::constants::TINY;
 use complex::entry::get;
 use complex::entry::put;
 ghost use mathlib.Core.Path.{_≡_};
@@ -62,7 +63,7 @@ pub fn scale(row: &mut [f64], w: usize, by: Complex)
 pub fn skipped(f: Complex) -> bool
     ensures { λ r. ⌜ r ≡ spec.skipped f ⌝ }
 {
-    complex::magnitude::abs(f.re) < 1e-300 && complex::magnitude::abs(f.im) < 1e-300
+    complex::magnitude::abs(f.re) < TINY && complex::magnitude::abs(f.im) < TINY
 }
 
 pub fn subtract(row: &mut [f64], w: usize, factor: Complex, pivot: &[f64])

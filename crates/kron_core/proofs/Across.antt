@@ -1,36 +1,35 @@
 -- What `thevenin_impedance` answers and leaves: only the n rows and columns of a matrix count for its inverse, and each test picks its case.
 -- Assumes nothing.
-use mathlib.Core.Path.{_≡_, refl, sym, ap, ap₂, _∙_}
-use mathlib.Core.Logic.{_⊎_, inl, inr}
-use mathlib.Core.Bool.{Bool, true, false, not, _||_, cond}
+use mathlib.Core.Path.{_≡_, refl, sym, ap, _∙_}
+use mathlib.Core.Logic.{inl, inr}
+use mathlib.Core.Bool.{Bool, true, false, not, _||_}
 use mathlib.Core.List.{List}
-use Prim.Native.Nat.{ℕ, zero, suc, _+_, _*_, _-_, _≤_, _<_}
-use native.Mathlib.Nat.{mul-le-mul, mul-le-mul-left, mul-add}
+use Prim.Native.Nat.{ℕ, zero, suc, _+_, _*_, _≤_, _<_}
+use native.Mathlib.Nat.{mul-le-mul, mul-add}
 use native.Mathlib.Omega.{arith}
-use borrow.Author.Tests.{le-ltb, ne-eqb, eq-eqb}
+use borrow.Author.Tests.{le-ltb, ne-eqb}
 use lib.Dec.{eqb, ltb}
-use lib.ListN.{length, take}
+use lib.ListN.{length}
 use lib.Ieee.{Float}
 use lib.Ieee.Bits.{is-true}
 use Rattle.complex.specs.declared.Complex.{Complex}
-use Rattle.complex.specs.Arithmetic.{cadd, csub, cmul}
 use Rattle.complex.specs.Matrices.{Matrix, entryAt, zeros}
-use Rattle.complex.proofs.Matrices.{row-within, entry-within}
-use Rattle.refusals.specs.Refusals.{limit, tooMany, wrongLength, badRecord, notActive, smallPivot, refuse}
-use Rattle.gauss_jordan.specs.GaussJordan.{run, beside, solution, singularSystem}
-use Rattle.gauss_jordan.specs.Solving.{operations, singular, solve, inverse, unitColumn}
+use Rattle.complex.proofs.Matrices.{row-within}
+use Rattle.refusals.specs.Refusals.{limit, tooMany, wrongLength, badRecord, smallPivot, refuse}
+use Rattle.gauss_jordan.specs.GaussJordan.{beside, solution}
+use Rattle.gauss_jordan.specs.Solving.{operations, singular, inverse, unitColumn}
 use Rattle.gauss_jordan.proofs.GaussJordan.{run-same, singular-system, beside-system}
 use Rattle.kron_core.specs.declared.KronReducer.{KronReducer}
 use Rattle.kron_core.specs.declared.Impedance.{Impedance}
-use Rattle.kron_core.specs.declared.Impedance.the-variants.{Value, Refused}
+use Rattle.kron_core.specs.declared.Impedance.the-variants.{Refused}
 use Rattle.kron_rows.specs.declared.Found.the-variants.{At, Nothing}
 use Rattle.buses.specs.Buses.{mem, place}
 use Rattle.kron_core.specs.Reducer.{activeOf, sound, inputRefusal}
 use Rattle.kron_rows.specs.Removal.{foundIn, Holds}
-use Rattle.kron_core.specs.Reading.{readingRefusal, two, across, impedance, impedanceRefusal, afterImpedance}
+use Rattle.kron_core.specs.Reading.{readingRefusal, across, impedance, impedanceRefusal, afterImpedance}
 use Rattle.kron_rows.proofs.Positions.{lt-or-ge}
-use Rattle.kron_rows.proofs.Taking.{found-at, found-not, took-lt}
-use Rattle.kron_core.proofs.Calls.{accepts-has, accepted-holds, entryAt-take}
+use Rattle.kron_rows.proofs.Taking.{found-at, found-not}
+use Rattle.kron_core.proofs.Calls.{accepts-has, accepted-holds}
 use Rattle.kron_core.proofs.Reading.{reading-accepted}
 
 -- ---- a work slice of n rows of 2 n entries

@@ -1,7 +1,7 @@
 -- What the calls on a record answer and leave, from the tests that the code makes and from what a list of removals leaves.
 -- Assumes nothing.
 use mathlib.Core.Path.{_≡_, refl, sym, ap, ap₂, _∙_}
-use mathlib.Core.Bool.{Bool, true, false, not, _||_, cond}
+use mathlib.Core.Bool.{Bool, true, false, not, _||_}
 use mathlib.Core.Logic.{_⊎_, inl, inr}
 use mathlib.Core.List.{List, [], _∷_, _++_, append-nil}
 use Prim.Native.Nat.{ℕ, zero, suc, _+_, _*_, _-_, _≤_, _<_}
@@ -9,23 +9,22 @@ use native.Mathlib.Nat.{zero-add, le-trans, mul-le-mul, mul-le-mul-left}
 use native.Mathlib.Omega.{arith}
 use borrow.Author.Tests.{lt-ltb, le-ltb, eq-eqb, ne-eqb, ltb-false, eqb-true}
 use lib.Dec.{T, eqb, ltb}
-use lib.ListN.{length, getD, take, drop, length-drop, drop-of-length-le}
-use lib.Seq.{length-take-le, drop-drop}
+use lib.ListN.{length, take, drop, length-drop, drop-of-length-le}
+use lib.Seq.{length-take-le}
 use lib.Ieee.{Float}
-use lib.Ieee.Bits.{is-true}
 use Rattle.complex.specs.Matrices.{entryAt, zeros, rows}
 use Rattle.complex.proofs.Parts.{back}
 use Rattle.complex.proofs.Entries.{entry-take}
-use Rattle.complex.proofs.Matrices.{length-zeros, rows-ext, entry-within}
+use Rattle.complex.proofs.Matrices.{rows-ext, entry-within}
 use Rattle.refusals.specs.Refusals.{limit, tooMany, wrongLength, badRecord, refuse, outcome}
 use Rattle.refusals.specs.declared.Outcome.{Outcome}
 use Rattle.kron_core.specs.declared.KronReducer.{KronReducer}
 use Rattle.kron_core.specs.declared.TakenAll.{TakenAll}
 use Rattle.kron_rows.specs.declared.Ran.{Ran}
-use Rattle.buses.specs.Buses.{rising, allBelow}
+use Rattle.buses.specs.Buses.{rising}
 use Rattle.kron_rows.specs.Kron.{State, eliminate, taken, stop}
 use Rattle.kron_core.specs.Reducer.{recordOf, activeOf, sound, inputRefusal, view, held, laidOut, laid, leaves, removable, refusalOf, Held, AfterBuses, afterBuses}
-use Rattle.kron_rows.specs.Removal.{padded, shown, Shows, Holds, TookAll}
+use Rattle.kron_rows.specs.Removal.{padded, Shows, Holds, TookAll}
 use Rattle.buses.proofs.Buses.{rising-length}
 use Rattle.kron_rows.proofs.States.{Accepted, taken-accepted}
 use Rattle.kron_core.proofs.Reducer.{Sound, sound-has, sound-is}

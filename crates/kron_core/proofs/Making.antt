@@ -1,8 +1,8 @@
 -- What `new` answers and what a record's tests say, from the tests that the code makes.
 -- Assumes nothing.
-use mathlib.Core.Path.{_≡_, refl, sym, ap, _∙_}
-use mathlib.Core.Bool.{Bool, true, false, not, _&&_, cond}
-use mathlib.Core.List.{List, []}
+use mathlib.Core.Path.{_≡_, sym, ap, _∙_}
+use mathlib.Core.Bool.{Bool, true, false, _&&_}
+use mathlib.Core.List.{List}
 use Prim.Native.Nat.{ℕ, _*_, _≤_, _<_}
 use borrow.Author.Tests.{lt-ltb, le-ltb, le-leb, lt-leb, eq-eqb, ne-eqb}
 use lib.Dec.{leb}
@@ -12,7 +12,6 @@ use Rattle.complex.specs.Matrices.{upTo}
 use Rattle.refusals.specs.Refusals.{limit, outcome}
 use Rattle.refusals.specs.declared.Outcome.the-variants.{Done, Refused}
 use Rattle.kron_core.specs.declared.KronReducer.{KronReducer}
-use Rattle.kron_core.specs.declared.NewReducer.{NewReducer}
 use Rattle.kron_core.specs.Reducer.{makingOf, makingRefusal, recordOf, afterNew, activeOf, sound}
 use Rattle.buses.specs.Buses.{rising, allBelow, allZero}
 

@@ -7,7 +7,7 @@ use Prim.Native.Nat.{ℕ, zero, suc, _+_, _*_, _-_, _≤_, _<_}
 use native.Mathlib.Nat.{mul-le-mul, mul-le-mul-left, le-trans, sub-self}
 use native.Mathlib.Omega.{arith}
 use lib.Dec.{T, eqb, leb, ltb, eqb→eq, leb→le, le→leb}
-use lib.ListN.{length, getD, drop, replicate, length-append, length-replicate, length-drop, take-append-drop}
+use lib.ListN.{length, getD, drop, replicate, length-append, length-drop, take-append-drop}
 use lib.Seq.{length-take-le, take-append-seam, drop-append-seam}
 use lib.Ieee.{Float}
 use lib.Ieee.Fits.{and-i, and-l, and-r}
@@ -41,10 +41,6 @@ all-zero-is (x ∷ xs) h =
     let e = eqb→eq x 0 (and-l (eqb x 0) (allZero xs) h) in
     let f = all-zero-is xs (and-r (eqb x 0) (allZero xs) h) in
     cc
-
-pub length-recordOf : (n : ℕ) (xs : List ℕ) → length xs ≤ limit → length (recordOf n xs .«active_buses») ≡ limit
-unfolding limit
-length-recordOf n xs h = simp (length-append, length-replicate) (omega arith)
 
 pub sound-recordOf : (n : ℕ) (xs : List ℕ) → length xs ≤ limit → T (rising xs) → T (allBelow n xs) → T (sound (recordOf n xs))
 unfolding sound

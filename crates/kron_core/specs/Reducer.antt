@@ -1,5 +1,5 @@
 -- What `new`, `eliminate_bus` and `eliminate_buses` answer and leave, for every record and slice. The contracts are these definitions.
-use Prim.Native.Nat.{ℕ, zero, suc, _+_, _*_, _-_}
+use Prim.Native.Nat.{ℕ, _*_, _-_}
 use mathlib.Core.Bool.{Bool, not, _&&_, _||_, cond}
 use mathlib.Core.List.{List, [], _∷_, _++_}
 use lib.Dec.{T, eqb, leb, ltb}

@@ -9,7 +9,7 @@ use gauss_jordan::elimination::gauss_jordan;
 use gauss_jordan::rows::clear;
 use solver::solving::fill_identity;
 ghost use mathlib.Core.Path.{_≡_};
-ghost use Prim.Native.Nat.{ℕ, _+_, _*_, _≤_, _<_};
+ghost use Prim.Native.Nat.{_+_, _*_, _≤_, _<_};
 ghost use lib.ListN.{length};
 ghost use Rattle.complex.specs.Matrices.{entryAt, zeros};
 ghost use Rattle.refusals.specs.Refusals.{limit, refuse, smallPivot};

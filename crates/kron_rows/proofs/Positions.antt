@@ -1,9 +1,9 @@
 -- Laws of what removal by rows and columns cites: testing a record's buses, finding one, and which row stands where when one drops out.
 -- Assumes nothing.
 use mathlib.Core.Path.{_≡_, refl, sym, ap, _∙_}
-use mathlib.Core.Bool.{Bool, true, false, _&&_, _||_, cond}
+use mathlib.Core.Bool.{Bool, true, false, _&&_}
 use mathlib.Core.Logic.{_⊎_, inl, inr}
-use mathlib.Core.List.{List, [], _∷_, _++_}
+use mathlib.Core.List.{List, [], _∷_}
 use Rattle.complex.specs.declared.Complex.{Complex}
 use Rattle.complex.specs.Entries.{entry, put}
 use Rattle.complex.specs.Matrices.{entryAt}
@@ -17,14 +17,12 @@ use Rattle.refusals.specs.Refusals.{limit}
 use native.Mathlib.Numerals.{add-one}
 use native.Mathlib.Omega.{arith}
 use borrow.Author.Count.{below-more}
-use borrow.Author.Tests.{lt-ltb, le-ltb, le-leb, lt-leb, eq-eqb, ne-eqb, ltb-true, ltb-false}
-use lib.Dec.{T, eqb, leb, ltb, leb·zero}
-use lib.ListN.{length, length-drop, getD, take, drop, set, replicate}
+use borrow.Author.Tests.{lt-ltb, le-ltb, le-leb, lt-leb, eq-eqb, ne-eqb}
+use lib.Dec.{leb, ltb, leb·zero}
+use lib.ListN.{length, length-drop, getD, take, drop, set}
 use lib.Seq.{length-take-le, drop-cons, getD-set-same, getD-set-other}
-use Rattle.kron_rows.specs.declared.Found.{Found}
-use Rattle.kron_rows.specs.declared.Found.the-variants.{At, Nothing}
-use Rattle.buses.specs.Buses.{mem, place, others, rising, allBelow, allZero}
-use Rattle.kron_rows.specs.Removal.{kept, foundIn}
+use Rattle.buses.specs.Buses.{place, rising, allBelow, allZero}
+use Rattle.kron_rows.specs.Removal.{kept}
 
 -- ---- the record's tests, a bus at a time
 
@@ -88,15 +86,9 @@ module _ (xs : List ℕ) (i : ℕ) (h : i < length xs) where
 -- ---- where a bus is found
 
 module _ (k : ℕ) (xs : List ℕ) (i : ℕ) (h : i < length xs) where
-  pub mem-here : getD xs i 0 ≡ k → mem k (drop i xs) ≡ true
-  mem-here e = rw (drop-cons xs i 0) (simp (eq-eqb _ _ (sym e)))
-
   pub place-here : getD xs i 0 ≡ k → place k (drop i xs) ≡ 0
   unfolding place
   place-here e = rw (drop-cons xs i 0) (simp (eq-eqb _ _ (sym e)))
-
-  pub mem-on : (getD xs i 0 ≡ k → ⊥) → mem k (drop i xs) ≡ mem k (drop (i + 1) xs)
-  mem-on e = rw (add-one i, drop-cons xs i 0) (simp (ne-eqb k (getD xs i 0) (λ (q : k ≡ getD xs i 0). e (sym q))))
 
   pub place-on : (getD xs i 0 ≡ k → ⊥) → place k (drop i xs) ≡ suc (place k (drop (i + 1) xs))
   unfolding place

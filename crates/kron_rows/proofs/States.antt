@@ -30,15 +30,6 @@ accepted-big s k h = go (mem k (s .active)) (tooSmall (s .entries k k)) h
     go true false h = tt
     go false c h = absurd h
 
-pub accepted-is : (s : State) (k : ℕ) → k ∈ s .active → T (not (tooSmall (s .entries k k))) → T (accepts s k)
-unfolding refusal
-accepted-is s k h b = go (mem k (s .active)) (tooSmall (s .entries k k)) h b
-  where
-    go : (b c : Bool) → T b → T (not c) → T (eqb (cond b (cond c smallEntry 0) notActive) 0)
-    go true true h k = k
-    go true false h k = tt
-    go false c h k = absurd h
-
 -- each is accepted when its turn comes
 abbrev pub Accepted : State → List ℕ → Type 0
 Accepted s [] = Unit {0}

@@ -3,7 +3,7 @@
 use mathlib.Core.Path.{_≡_, refl, sym, ap, ap₂, _∙_}
 use mathlib.Core.Bool.{Bool, true, false, cond}
 use mathlib.Core.List.{List, [], _∷_, _++_, append-nil, append-assoc}
-use Prim.Native.Nat.{ℕ, zero, suc, _+_, _*_, _-_, _≤_, _<_}
+use Prim.Native.Nat.{ℕ, suc, _+_, _*_, _-_, _≤_, _<_}
 use native.Mathlib.Nat.{le-trans, add-zero, mul-le-mul, mul-le-mul-left}
 use native.Mathlib.Numerals.{add-one}
 use borrow.Author.Tests.{eq-eqb, ne-eqb}
@@ -15,13 +15,12 @@ use lib.Ieee.{Float}
 use lib.Ieee.Bits.{is-true}
 use Rattle.complex.specs.Matrices.{entryAt}
 use Rattle.refusals.specs.Refusals.{limit, notActive, smallEntry}
-use Rattle.kron_rows.specs.declared.Found.{Found}
 use Rattle.kron_rows.specs.declared.Found.the-variants.{At, Nothing}
-use Rattle.buses.specs.Buses.{mem, _∈_, place, others, rising}
+use Rattle.buses.specs.Buses.{mem, _∈_, place, rising}
 use Rattle.kron_rows.specs.Kron.{kron, State, remove, tooSmall, refusal, accepts, eliminate, taken, stop}
 use Rattle.kron_rows.specs.Removal.{foundIn, kept, padded, shown, Shows, Holds, TookOne, TookAll}
 use Rattle.buses.proofs.Buses.{place-lt, rising-others}
-use Rattle.kron_rows.proofs.States.{Accepted, accepted-active, taken-accepted, eliminate-append, eliminate-active, Agree, agree-remove, agree-refusal}
+use Rattle.kron_rows.proofs.States.{Accepted, accepted-active, eliminate-append, eliminate-active, Agree, agree-remove, agree-refusal}
 use Rattle.kron_rows.proofs.Showing.{length-padded, length-others-one, places-closed, shows-removed, shown-shows, shows-agree, agree-shows}
 
 -- ---- a bus that was found, or not

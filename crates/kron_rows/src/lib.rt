@@ -2,7 +2,7 @@
 use complex::Complex;
 use complex::cdiv;
 use complex::cmul;
-use complex::constants::tiny;
+use complex::constants::TINY;
 use complex::csub;
 use complex::entry::get;
 use complex::entry::put;
@@ -205,7 +205,7 @@ fn too_small(n: usize, k: usize, y: &[f64]) -> bool
     requires { ⌜ (n ≤ limit) × (k < n) × (2 * (n * n) ≤ length (now y)) ⌝ }
     ensures { λ r. ⌜ r ≡ tooSmall (entryAt n (now (y .entry)) k k) ⌝ }
 {
-    sqmag(get(y, k * n + k)) < tiny()
+    sqmag(get(y, k * n + k)) < TINY
 }
 
 // One bus is removed from the n that `active` and the slice's front hold: 0, or 11 or 12 with both as they were.

@@ -1,25 +1,22 @@
 -- What a run leaves has room: the record is one that removals leave, so its buses are few and small, and the text of every run fits the output.
 -- Assumes nothing.
-use Prim.Native.Nat.{ℕ, zero, suc, _+_, _-_, _*_, _/_, _≤_, _<_}
-use mathlib.Core.Path.{_≡_, refl, sym, ap, subst, _∙_}
+use Prim.Native.Nat.{ℕ, zero, suc, _+_, _-_, _*_, _≤_, _<_}
+use mathlib.Core.Path.{_≡_, ap, _∙_}
 use mathlib.Core.Bool.{Bool, true, false, cond}
 use mathlib.Core.List.{List, [], _∷_, _++_}
 use native.Mathlib.Nat.{mul-le-mul, le-trans}
-use native.Mathlib.Numerals.{add-one}
-use native.Mathlib.Decide.{decLt}
 use native.Mathlib.Omega.{arith}
-use lib.Dec.{T, eqb, leb, ltb, lit≤, leb→le}
+use lib.Dec.{T, leb, lit≤, leb→le}
 use lib.ListN.{length, getD, replicate, length-append, List·getD-append}
 use lib.Ieee.{Float}
 use borrow.Author.Tests.{le-ltb, eq-eqb}
-use Rattle.complex.specs.Matrices.{entryAt, upTo}
-use Rattle.complex.specs.Entries.{entry}
+use Rattle.complex.specs.Matrices.{entryAt}
 use Rattle.refusals.specs.declared.Outcome.{Outcome}
 use Rattle.refusals.specs.declared.Outcome.the-variants.{Done, Refused}
 use Rattle.refusals.specs.Refusals.{limit}
 use Rattle.kron_core.specs.declared.KronReducer.{KronReducer}
 use Rattle.kron_rows.specs.Kron.{State, start, eliminate, taken}
-use Rattle.kron_core.specs.Reducer.{AfterBus, makingOf, makingRefusal, recordOf, afterNew, Held, held, laid, leaves, removable, afterBus}
+use Rattle.kron_core.specs.Reducer.{makingOf, makingRefusal, recordOf, afterNew, Held, held, laid, leaves, removable, afterBus}
 use Rattle.kron_rows.proofs.States.{Regular, regular-start, regular-eliminate, taken-accepted}
 use Rattle.buses.proofs.Buses.{below-all, getD-in}
 use Rattle.kron_core.proofs.Reducer.{active-room, length-laid, laidOut-all, removable-laid, leaves-laid}
@@ -27,9 +24,8 @@ use Rattle.words.specs.declared.Number.{Number}
 use Rattle.words.specs.declared.Number.the-variants.{Is, Not}
 use Rattle.lines.specs.declared.text.Entry.{Entry}
 use Rattle.lines.specs.declared.text.Entry.the-variants.{Words, NoEntry}
-use Rattle.lines.specs.declared.read.End.{End}
-use Rattle.lines.specs.declared.read.End.the-variants.{Kept, RefusedDrop, BadLine}
-use Rattle.words.specs.Bytes.{Bytes, ascii}
+use Rattle.lines.specs.declared.read.End.the-variants.{BadLine}
+use Rattle.words.specs.Bytes.{Bytes}
 use Rattle.lines.specs.Lines.{lines, busesOf, dropOf, entryOf}
 use Rattle.lines.specs.Reading.{most, Run, ended, noReducer, ofWord, onNumber, onOutcome, onEntry, afterDrop, drops, entries, noBuses, first, run}
 

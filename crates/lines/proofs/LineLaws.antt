@@ -1,19 +1,17 @@
 -- Laws of lines: where the first line ends, what is behind it, and a keyword compared byte by byte.
 -- Assumes nothing.
-use Prim.Native.Nat.{ℕ, zero, suc, _+_, _-_, _≤_, _<_}
-use mathlib.Core.Path.{_≡_, refl, sym, ap, _∙_}
-use mathlib.Core.Bool.{Bool, true, false, _&&_, cond, true≢false, false≢true}
-use mathlib.Core.List.{List, [], _∷_, _++_}
+use Prim.Native.Nat.{ℕ, suc, _+_, _≤_, _<_}
+use mathlib.Core.Path.{_≡_, refl, ap, _∙_}
+use mathlib.Core.Bool.{Bool, true, false, _&&_, cond, false≢true}
+use mathlib.Core.List.{[], _∷_}
 use native.Mathlib.Numerals.{add-one}
 use native.Mathlib.Omega.{arith}
 use lib.Dec.{eqb}
 use lib.ListN.{length, getD, take, drop, drop-of-length-le}
-use lib.Seq.{drop-cons, drop-length, drop-nil}
+use lib.Seq.{drop-cons}
 use borrow.Author.Tests.{eq-eqb, ne-eqb}
-use Rattle.words.specs.declared.Number.{Number}
-use Rattle.words.specs.declared.Number.the-variants.{Is, Not}
-use Rattle.lines.specs.declared.text.Entry.{Entry}
-use Rattle.lines.specs.declared.text.Entry.the-variants.{Words, NoEntry}
+use Rattle.words.specs.declared.Number.the-variants.{Not}
+use Rattle.lines.specs.declared.text.Entry.the-variants.{NoEntry}
 use Rattle.words.specs.Bytes.{Bytes, lineFeed, space}
 use Rattle.words.specs.Words.{decimalOf, hexOf}
 use Rattle.lines.specs.Lines.{inFront, lines, span, startsWith, numberAfter, both, entryOf}
@@ -46,10 +44,6 @@ span-le (b ∷ bs) = go (eqb b lineFeed) (span-le bs)
     go false h = omega arith
 
 -- ---- the first line, and those behind it
-
-pub lines-none : lines [] ≡ []
-unfolding lines
-lines-none = refl
 
 pub lines-first : (b : ℕ) (bs : Bytes) → lines (b ∷ bs) ≡ take (span (b ∷ bs)) (b ∷ bs) ∷ lines (drop (suc (span (b ∷ bs))) (b ∷ bs))
 unfolding lines span

@@ -1,27 +1,26 @@
 -- The program reads no further than its buffer: what it prints for an input is what it prints for the first so many bytes of it.
 -- Assumes nothing.
-use Prim.Native.Nat.{ℕ, zero, suc, _+_, _-_, _*_, _^_, _≤_, _<_}
+use Prim.Native.Nat.{ℕ, zero, suc, _+_, _-_, _*_, _≤_, _<_}
 use mathlib.Core.Path.{_≡_, refl, sym, ap, subst, _∙_}
 use mathlib.Core.Bool.{Bool, true, false, cond}
 use mathlib.Core.List.{List, [], _∷_, _++_}
-use native.Mathlib.Nat.{le-trans, mul-le-mul, mul-le-mul-left}
+use native.Mathlib.Nat.{le-trans, mul-le-mul}
 use native.Mathlib.Decide.{decLt, ℕ-discrete}
 use borrow.Author.Tests.{eq-eqb, ne-eqb}
 use native.Mathlib.Omega.{arith}
-use lib.Dec.{T, eqb, leb, lit≤, lit<, leb→le, eqb-refl}
+use lib.Dec.{T, eqb, leb, lit≤, leb→le}
 use lib.ListN.{length, take, drop, length-append, length-take, length-drop}
 use lib.Seq.{take-nil, length-take-le}
 use lib.Ieee.{Float}
 use lib.Ieee.Bits.{is-true}
-use Rattle.complex.specs.Matrices.{entryAt, upTo}
 use Rattle.complex.proofs.Matrices.{length-upTo}
 use Rattle.refusals.specs.declared.Outcome.{Outcome}
 use Rattle.refusals.specs.declared.Outcome.the-variants.{Done, Refused}
 use Rattle.refusals.specs.Refusals.{limit, outcome}
 use Rattle.kron_core.specs.declared.KronReducer.{KronReducer}
 use Rattle.buses.specs.Buses.{_∈_, others, place}
-use Rattle.kron_rows.specs.Kron.{State, accepts, refusal, remove, eliminate, taken, stop}
-use Rattle.kron_core.specs.Reducer.{makingOf, recordOf, refusalOf, afterNew, afterBus, Held, held, laid}
+use Rattle.kron_rows.specs.Kron.{State, accepts, refusal, eliminate, taken, stop}
+use Rattle.kron_core.specs.Reducer.{makingOf, refusalOf, afterNew, afterBus, Held, laid}
 use Rattle.buses.proofs.Buses.{below-all, others-one, place-lt}
 use Rattle.kron_rows.proofs.States.{Regular, accepted-active, eliminate-active}
 use Rattle.kron_core.proofs.Reducer.{refusal-laid}
@@ -32,13 +31,13 @@ use Rattle.lines.specs.declared.text.Entry.the-variants.{Words, NoEntry}
 use Rattle.lines.specs.declared.read.End.the-variants.{BadLine}
 use Rattle.words.specs.Bytes.{Bytes, ascii}
 use Rattle.lines.specs.Lines.{lines, span, busesOf, dropOf, entryOf}
-use Rattle.lines.specs.Reading.{most, Run, ended, noReducer, ofWord, onNumber, onOutcome, onEntry, afterDrop, drops, entries, noBuses, first, run}
+use Rattle.lines.specs.Reading.{most, ended, noReducer, ofWord, onNumber, onOutcome, onEntry, afterDrop, drops, entries, noBuses, first, run}
 use Rattle.lines.specs.Printing.{text}
 use Rattle.lines.specs.Reduce.{printed, inputLength}
 use Rattle.lines.proofs.LineLaws.{span-le, entry-length}
 use Rattle.lines.proofs.ReadLaws.{first-and-rest, entry-33}
 use Rattle.lines.proofs.NumberSizes.{number-size, number-long}
-use Rattle.lines.proofs.Cutting.{firstLine, behind, cut-same, Long, cut-long}
+use Rattle.lines.proofs.Cutting.{firstLine, behind, cut-same, cut-long}
 use Rattle.lines.proofs.Fit.{Laid, laid-new, fresh, within, left-is, laid-bus}
 
 -- ---- a drop that is carried out: the bus is small, and one bus fewer is left

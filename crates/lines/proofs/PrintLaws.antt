@@ -1,8 +1,8 @@
 -- Laws of printing: how long the lines are, and one line more.
 -- Assumes nothing.
 use Prim.Native.Nat.{ℕ, zero, suc, _+_, _*_, _≤_, _<_}
-use mathlib.Core.Path.{_≡_, refl, sym, ap, _∙_}
-use mathlib.Core.List.{List, [], _∷_, _++_}
+use mathlib.Core.Path.{_≡_, refl, ap, _∙_}
+use mathlib.Core.List.{List, _++_}
 use mathlib.Core.Logic.{⊎-elim}
 use native.Mathlib.Nat.{le-of-eq, le-trans, le-of-suc-le-suc, eq-or-lt-of-le}
 use native.Mathlib.Numerals.{add-one}
@@ -13,8 +13,8 @@ use Rattle.complex.specs.declared.Complex.{Complex}
 use Rattle.complex.specs.Entries.{entry}
 use Rattle.kron_core.specs.declared.KronReducer.{KronReducer}
 use Rattle.words.specs.Bytes.{Bytes, ascii}
-use Rattle.words.specs.Words.{decimal, hex}
-use Rattle.lines.specs.Printing.{toWord, numberLine, busLines, entryLine, entryLines, keptText, refusedText}
+use Rattle.words.specs.Words.{decimal}
+use Rattle.lines.specs.Printing.{numberLine, busLines, entryLine, entryLines, keptText, refusedText}
 use Rattle.words.specs.Writing.{Room, Wrote}
 use Rattle.words.proofs.WordLaws.{length-hex}
 use Rattle.words.proofs.Writing.{then}

@@ -1,7 +1,7 @@
 -- Laws of the whole program: slices of a wrong length, and what reading, clearing and printing come to.
 -- Assumes nothing.
-use Prim.Native.Nat.{ℕ, _+_, _-_, _*_, _≤_}
-use mathlib.Core.Path.{_≡_, refl, sym, ap, _∙_}
+use Prim.Native.Nat.{ℕ, _+_, _-_, _≤_}
+use mathlib.Core.Path.{_≡_, ap, _∙_}
 use mathlib.Core.List.{List, _++_}
 use native.Mathlib.Nat.{zero-add, le-trans}
 use native.Mathlib.Omega.{arith}
@@ -11,15 +11,14 @@ use borrow.Author.Tests.{eq-eqb, ne-eqb}
 use Rattle.complex.specs.Matrices.{zeros}
 use Rattle.refusals.specs.Refusals.{wrongLength}
 use Rattle.buses.proofs.Fronts.{drop-replicate}
-use Rattle.lines.specs.declared.Answer.{Answer}
 use Rattle.lines.specs.declared.Answer.the-variants.{Written, Refused}
 use Rattle.lines.specs.declared.read.Reading.{Reading}
 use Rattle.words.specs.Bytes.{Bytes}
-use Rattle.words.specs.Writing.{written, Wrote}
-use Rattle.lines.specs.Reading.{Run, run, RanIn}
+use Rattle.words.specs.Writing.{written}
+use Rattle.lines.specs.Reading.{run, RanIn}
 use Rattle.lines.specs.Printing.{Whole, textOf, text}
 use Rattle.lines.specs.Reduce.{printed, matrixLength, outputLength, AfterReduce, afterReduce}
-use Rattle.lines.proofs.Fit.{FitRun, most-limit, run-fit}
+use Rattle.lines.proofs.Fit.{most-limit, run-fit}
 use Rattle.lines.proofs.Room.{text-front, text-room}
 
 abbrev untouched : Bytes → List Float → AfterReduce

@@ -1,17 +1,15 @@
 -- The text of every run fits the output: how long numbers, bus lines and the whole can get.
 -- Assumes nothing.
-use Prim.Native.Nat.{ℕ, zero, suc, _+_, _*_, _/_, _≤_, _<_}
-use mathlib.Core.Path.{_≡_, refl, sym, ap, ap₂, _∙_}
+use Prim.Native.Nat.{ℕ, zero, suc, _*_, _/_, _≤_, _<_}
+use mathlib.Core.Path.{_≡_, refl, ap, ap₂}
 use mathlib.Core.Bool.{Bool, true, false, cond}
-use mathlib.Core.List.{List, [], _∷_, _++_}
+use mathlib.Core.List.{List, _++_}
 use native.Mathlib.Nat.{mul-le-mul}
 use native.Mathlib.Decide.{decLt}
 use native.Mathlib.Omega.{arith}
 use lib.Dec.{ltb}
 use lib.ListN.{length, getD, length-append}
 use lib.Ieee.{Float}
-use Rattle.complex.specs.declared.Complex.{Complex}
-use Rattle.complex.specs.Entries.{entry}
 use Rattle.complex.proofs.Entries.{entry-append-left}
 use Rattle.kron_core.specs.declared.KronReducer.{KronReducer}
 use Rattle.lines.specs.declared.read.End.{End}
@@ -19,7 +17,7 @@ use Rattle.lines.specs.declared.read.End.the-variants.{Kept, RefusedDrop
 use Rattle.words.specs.Bytes.{Bytes, ascii}
 use Rattle.words.specs.Words.{places, decimal}
 use Rattle.lines.specs.Reading.{most, Run}
-use Rattle.lines.specs.Printing.{numberLine, busLines, entryLine, entryLines, keptText, refusedText, badText, textOf, text}
+use Rattle.lines.specs.Printing.{numberLine, busLines, entryLine, entryLines, keptText, badText, textOf, text}
 use Rattle.lines.specs.Reduce.{outputLength}
 use Rattle.words.proofs.WordLaws.{places-stop, places-more, length-decimal}
 use Rattle.lines.proofs.PrintLaws.{length-number-line, length-refused, length-kept}

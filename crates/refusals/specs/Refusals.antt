@@ -1,7 +1,6 @@
 -- The refusals by number, and the answers that carry them. 0 is no refusal.
 use Prim.Native.Nat.{ℕ, zero, suc}
 use mathlib.Core.Bool.{Bool, cond}
-use mathlib.Core.List.{List}
 use Rattle.refusals.specs.declared.Outcome.{Outcome}
 use Rattle.refusals.specs.declared.Outcome.the-variants.{Done, Refused}
 

@@ -1,11 +1,10 @@
 -- The REI definitions computed by the checker on a study of three buses.
 -- Assumes nothing.
 use mathlib.Core.Path.{_≡_, refl}
-use mathlib.Core.List.{List, [], _∷_, _++_}
-use Prim.Native.Nat.{ℕ}
+use mathlib.Core.List.{List, [], _∷_}
 use lib.Count.{trailingZeros}
-use lib.ListN.{length, replicate}
-use lib.Ieee.{Float, nan, binary64, ofInt, ofBits, ofFields, neg, add, sub, mul, div, sum, round, units, odd, lt, size, span, climb}
+use lib.ListN.{replicate}
+use lib.Ieee.{Float, nan, binary64, ofInt, ofBits, ofFields, neg, add, mul, div, sum, round, units, odd, lt, size, span, climb}
 use Rattle.complex.specs.Constants.{plus0, one, weak, faint}
 use Rattle.complex.specs.Arithmetic.{cneg, sqmag}
 use Rattle.complex.specs.Entries.{entry}
@@ -13,9 +12,8 @@ use Rattle.complex.specs.Magnitude.{abs, magnitude}
 use Rattle.complex.specs.Matrices.{upTo, entryAt}
 use Rattle.binary64.specs.Root.{root, rootOf, radicand, half, wholeRoot, movedBack}
 use Rattle.refusals.specs.Refusals.{limit}
-use Rattle.rei_core.specs.declared.ReiAnswer.the-variants.{Done, Refused}
 use Rattle.rei_core.specs.Rei.{Given, total, spoke, spokeParts, isTie, rowTies, upperTies, allTies, tieEnds, tieParts, tieRoom}
-use Rattle.rei_core.specs.Rei.{busesOf, sizeOf, spokesOf, tiesOf, sized, studyRefusal, refusalOf, equivalentOf, answered}
+use Rattle.rei_core.specs.Rei.{busesOf, sizeOf, spokesOf, tiesOf, sized, studyRefusal, refusalOf, equivalentOf}
 
 abbrev zero′ : Float
 zero′ = ofBits binary64 0

@@ -4,6 +4,8 @@ use buses::lists::no_buses;
 use buses::lists::over;
 use complex::Complex;
 use complex::cneg;
+use complex::constants::FAINT;
+use complex::constants::WEAK;
 use complex::entry::get;
 use complex::entry::put;
 use complex::magnitude::abs;
@@ -13,7 +15,6 @@ ghost use mathlib.Core.Bool.{cond};
 ghost use mathlib.Core.List.{_++_};
 ghost use Prim.Native.Nat.{_<_, _≤_, _*_, _+_, _-_};
 ghost use lib.ListN.{length, set, replicate, drop};
-ghost use lib.Seq.{sets};
 ghost use lib.Ieee.{binary64, ofInt};
 ghost use lib.IntN.{pos};
 ghost use Rattle.complex.specs.Entries as entries;
@@ -200,7 +201,7 @@ fn spoke_all(n: usize, y: &[f64], spokes: &mut [f64])
 fn spoke(n: f64, y: Complex) -> Complex
     ensures { λ r. ⌜ r ≡ spec.spoke n y ⌝ }
 {
-    if magnitude(y) > 1e-12 {
+    if magnitude(y) > WEAK {
         return Complex {
             re: y.re / n,
             im: y.im / n,
@@ -212,10 +213,10 @@ fn spoke(n: f64, y: Complex) -> Complex
 fn is_tie(y: Complex) -> bool
     ensures { λ r. ⌜ r ≡ spec.isTie y ⌝ }
 {
-    if abs(y.re) > 1e-14 {
+    if abs(y.re) > FAINT {
         return true;
     }
-    abs(y.im) > 1e-14
+    abs(y.im) > FAINT
 }
 
 // Into cleared slices; answers how many ties there are.

@@ -1,7 +1,7 @@
 -- Small systems computed from the definitions that the contracts cite: a singular one, an inverse, and wrong lengths.
 -- Assumes nothing.
 use mathlib.Core.Path.{_≡_, refl}
-use mathlib.Core.List.{List, [], _∷_}
+use mathlib.Core.List.{[], _∷_}
 use lib.Ieee.{Float, binary64, lt, add, sub, mul, div, ofBits}
 use Rattle.complex.specs.Constants.{plus0, one, tiny}
 use Rattle.complex.specs.Arithmetic.{csub, cmul, sqmag, cdiv, complexInv}

@@ -1,13 +1,11 @@
 -- A study for the order of rows, one that retains nothing, and one for each refusal, computed from the definitions.
 -- Assumes nothing.
 use mathlib.Core.Path.{_≡_, refl}
-use mathlib.Core.Bool.{true}
-use mathlib.Core.List.{List, [], _∷_, map}
+use mathlib.Core.List.{List, [], _∷_}
 use Prim.Native.Nat.{ℕ, _+_, _*_}
 use lib.ListN.{length, replicate}
 use lib.Ieee.{Float, binary64, ofBits, span, climb, size, odd, units, round, neg, sum, add, sub, mul, div, lt, eq, ofInt, ofFields}
 use Rattle.complex.specs.Matrices.{upTo, entryAt, row, rows, zeros}
-use Rattle.ward_studies.specs.declared.WardSummary.{WardSummary}
 use Rattle.ward_studies.specs.declared.WardAnswer.{WardAnswer}
 use Rattle.ward_studies.specs.declared.WardAnswer.the-variants.{Done, Refused}
 use Rattle.ward_products.specs.WardArithmetic.{sumUp, current, injectedP, injectedQ}
@@ -21,7 +19,7 @@ use Rattle.complex.specs.Constants.{plus0, one, tiny, weak}
 use Rattle.complex.specs.Entries.{entry}
 use Rattle.complex.specs.Magnitude.{abs, magnitude}
 use Rattle.binary64.specs.Root.{root, rootOf, wholeRoot, half, radicand}
-use Rattle.ward_studies.specs.WardExtended.{Extended, ExtendedRoom, addUp, deviation, weight, weightSum, weightedSum, voltageCorrection, reactive, qCompensation, inputRefusalX, refusalX, roomAfterX, AfterExtended, afterExtended}
+use Rattle.ward_studies.specs.WardExtended.{Extended, ExtendedRoom, addUp, deviation, weight, weightSum, weightedSum, voltageCorrection, reactive, qCompensation, inputRefusalX, refusalX, roomAfterX, afterExtended}
 
 abbrev float : ℕ → Float
 float b = ofBits binary64 b

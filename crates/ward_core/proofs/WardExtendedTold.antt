@@ -9,7 +9,7 @@ use Rattle.refusals.specs.Refusals.{limit, refuse}
 use Rattle.ward_studies.specs.declared.WardAnswer.the-variants.{Refused}
 use Rattle.ward_studies.specs.Ward.{externals, tooLong, unmatched, busRefusal, thenPivots, summary, answered, roomAfter, workAfter}
 use Rattle.ward_studies.specs.WardExtended.{Extended, ExtendedRoom, inputRefusalX, refusalX, roomAfterX, AfterExtended, afterExtended}
-use Rattle.ward_studies.specs.WardCalls.{after, afterX, crowded, uneven, toldX, Fitting}
+use Rattle.ward_studies.specs.WardCalls.{afterX, crowded, uneven, toldX, Fitting}
 use Rattle.ward_studies.proofs.WardBuses.{none-of}
 use Rattle.ward_studies.proofs.WardTold.{few, even, same-length, misfit-lengths, three, none-told, told-cond}
 

@@ -1,10 +1,11 @@
 // What the voltages at the external buses add to a Ward study: for each boundary bus a voltage correction and a reactive compensation.
 // The functions here have a `requires`, which their callers prove. n: buses; voltages per unit, base in MVA.
+use complex::constants::WEAK;
 use complex::magnitude::magnitude;
 use ward_products::ward_rows::at;
 ghost use mathlib.Core.Path.{_≡_};
 ghost use mathlib.Core.List.{map};
-ghost use Prim.Native.Nat.{ℕ, _<_};
+ghost use Prim.Native.Nat.{_<_};
 ghost use lib.ListN.{length};
 ghost use Rattle.ward_studies.specs.WardCalls as spec;
 ghost use Rattle.ward_studies.specs.WardExtended as ward;
@@ -52,7 +53,7 @@ fn over_ties(
 fn mean(weights: f64, weighted: f64) -> f64
     ensures { λ r. ⌜ r ≡ spec.meanOf weights weighted ⌝ }
 {
-    if weights > 1e-12 {
+    if weights > WEAK {
         return weighted / weights;
     }
     0.0

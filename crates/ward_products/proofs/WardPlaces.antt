@@ -4,7 +4,7 @@ use mathlib.Core.Path.{_≡_, refl, sym, ap, subst, _∙_}
 use mathlib.Core.List.{List, [], _∷_, _++_, map}
 use Prim.Native.Nat.{ℕ, zero, suc, _+_, _*_, _<_, _≤_}
 use native.Mathlib.Omega.{arith}
-use lib.Dec.{T, eqb, ltb}
+use lib.Dec.{eqb, ltb}
 use lib.ListN.{length, getD, take, drop, length-map}
 use lib.Seq.{ext-getD}
 use lib.Ieee.{Float, nan}
@@ -15,7 +15,7 @@ use mathlib.Core.Logic.{_⊎_, inl, inr}
 use mathlib.Core.Bool.{cond}
 use Rattle.complex.proofs.Parts.{back}
 use Rattle.gauss_jordan.specs.Work.{withRow}
-use Rattle.gauss_jordan.proofs.RowParts.{row-end, row-written, length-part}
+use Rattle.gauss_jordan.proofs.RowParts.{row-written}
 use Rattle.complex.specs.declared.Complex.{Complex}
 use Rattle.complex.specs.Arithmetic.{cadd, cmul}
 use Rattle.complex.specs.Entries.{entry, put}
@@ -24,7 +24,6 @@ use Rattle.complex.proofs.Entries.{parts-same, length-put, entry-put-same, entr
 use Rattle.complex.proofs.Matrices.{entry-within, length-row, entry-row, getD-zeros}
 use Rattle.gauss_jordan.proofs.Passed.{Put, put-more, Stored}
 use Rattle.ward_products.specs.WardArithmetic.{sumUp}
-use Rattle.buses.specs.Buses.{allBelow}
 use Rattle.ward_products.specs.WardWork.{Listing, augmentedRow, productTo}
 use Rattle.buses.proofs.Buses.{getD-in, below-all}
 

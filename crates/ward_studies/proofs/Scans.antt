@@ -1,17 +1,15 @@
 -- A loop that looks through a list from its front: what it asks of the list it asks of the rest. And a loop that copies one.
 -- Assumes nothing.
 use mathlib.Core.Path.{_≡_, refl, sym, ap, _∙_}
-use mathlib.Core.Bool.{Bool, true, false, _||_, _&&_}
+use mathlib.Core.Bool.{Bool, true, false}
 use mathlib.Core.List.{List, [], _∷_, _++_, append-assoc}
-use Prim.Native.Nat.{ℕ, suc, _+_, _-_, _≤_, _<_}
+use Prim.Native.Nat.{ℕ, _+_, _-_, _≤_, _<_}
 use native.Mathlib.Numerals.{add-one}
 use native.Mathlib.Omega.{arith}
-use lib.Dec.{eqb, ltb}
 use lib.ListN.{length, getD, take, drop, set, length-append, length-drop, drop-of-length-le}
-use lib.Seq.{drop-cons, take-suc, take-suc-set, take-all, take-length, take-at}
-use borrow.Author.Tests.{eq-eqb, ne-eqb, lt-ltb, le-ltb}
+use lib.Seq.{drop-cons, take-suc, take-suc-set, take-all, take-at}
 use Rattle.complex.proofs.Parts.{back}
-use Rattle.buses.specs.Buses.{mem, allBelow}
+use Rattle.buses.specs.Buses.{mem}
 use Rattle.ward_studies.specs.Ward.{repeats}
 
 -- what f asks of the list it asks of what stands from i on
@@ -34,21 +32,7 @@ module _ (f : List ℕ → Bool) (xs : List ℕ) (i : ℕ) where
 pub scan-start : (f : List ℕ → Bool) (xs : List ℕ) → Scan f xs 0
 scan-start f xs = refl
 
--- ---- the three questions at the next bus
-
-pub mem-here : (k x : ℕ) (xs : List ℕ) → x ≡ k → mem k (x ∷ xs) ≡ true
-mem-here k x xs e = rw (eq-eqb k x (sym e))
-
-pub mem-past : (k x : ℕ) (xs : List ℕ) → (x ≡ k → ⊥) → mem k (x ∷ xs) ≡ mem k xs
-mem-past k x xs n = rw (ne-eqb k x (λ (e : k ≡ x). n (sym e)))
-
-pub below-here : (n x : ℕ) (xs : List ℕ) → n ≤ x → allBelow n (x ∷ xs) ≡ false
-unfolding allBelow
-below-here n x xs h = rw (le-ltb x n h)
-
-pub below-past : (n x : ℕ) (xs : List ℕ) → x < n → allBelow n (x ∷ xs) ≡ allBelow n xs
-unfolding allBelow
-below-past n x xs h = rw (lt-ltb x n h)
+-- ---- whether a bus stands twice, at the next bus
 
 pub repeats-here : (x : ℕ) (xs : List ℕ) → mem x xs ≡ true → repeats (x ∷ xs) ≡ true
 unfolding repeats

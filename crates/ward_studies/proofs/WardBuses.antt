@@ -1,23 +1,22 @@
 -- A list without a repeated bus is at most as long as the matrix. A list of external, internal and boundary buses, cut into the three. And what 7 and 8 leave.
 -- Assumes nothing.
 use mathlib.Core.Path.{_≡_, refl, sym, ap, subst, _∙_}
-use mathlib.Core.Logic.{_⊎_, inl, inr}
-use mathlib.Core.Bool.{Bool, true, false, not, _&&_, _||_, cond}
+use mathlib.Core.Logic.{inl, inr}
+use mathlib.Core.Bool.{Bool, true, false, _||_}
 use mathlib.Core.List.{List, [], _∷_, _++_}
-use Prim.Native.Nat.{ℕ, zero, suc, _+_, _*_, _-_, _≤_, _<_}
+use Prim.Native.Nat.{ℕ, zero, suc, _+_, _-_, _≤_, _<_}
 use native.Mathlib.Omega.{arith}
-use lib.Dec.{T, eqb, ltb, ltb→lt, lt→ltb, eqb→eq, eqb·suc-zero}
+use lib.Dec.{T, eqb, ltb, ltb→lt, eqb·suc-zero}
 use lib.ListN.{length, take, drop, take-append-drop}
 use lib.Seq.{take-append-seam, drop-append-seam, drop-append-add}
 use lib.Ieee.{Float}
-use lib.Ieee.Fits.{and-i, and-l, and-r}
-use lib.Ieee.Bits.{is-true, is-false}
-use borrow.Author.Tests.{eq-eqb, ne-eqb, eqb-true, eqb-false}
+use lib.Ieee.Fits.{and-l}
+use borrow.Author.Tests.{eqb-true}
 use Rattle.ward_studies.specs.declared.WardAnswer.the-variants.{Refused}
 use Rattle.buses.specs.Buses.{mem, _∈_, others, allBelow}
-use Rattle.ward_studies.specs.Ward.{Study, Room, repeats, retained, listed, busRefusal, thenPivots, summary, answered, roomAfter, workAfter}
-use Rattle.ward_studies.specs.WardCalls.{studyOf, roomOf, after, cut, studied, Joined, Listed}
-use Rattle.buses.proofs.Buses.{in-head, in-tail, in-cases, stays, others-none, below-all, all-below}
+use Rattle.ward_studies.specs.Ward.{Study, Room, repeats, listed, busRefusal, thenPivots, summary, answered, roomAfter, workAfter}
+use Rattle.ward_studies.specs.WardCalls.{studyOf, after, cut, studied, Joined, Listed}
+use Rattle.buses.proofs.Buses.{in-head, in-cases, stays, others-none, below-all, all-below}
 use Rattle.ward_studies.proofs.WardStudied.{retained-cut}
 
 -- ---- a list that repeats none

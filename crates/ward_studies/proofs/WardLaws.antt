@@ -1,15 +1,13 @@
 -- What an accepted Ward study is: a matrix of its exact length, lists that name its buses alone. And what it leaves in its slices.
 -- Assumes nothing.
-use mathlib.Core.Path.{_≡_, refl, sym, ap, _∙_}
+use mathlib.Core.Path.{_≡_}
 use mathlib.Core.Bool.{Bool, true, false, not, _||_, cond}
-use mathlib.Core.List.{List, [], _∷_, _++_, map}
-use Prim.Native.Nat.{ℕ, zero, suc, _+_, _*_, _<_}
-use lib.Dec.{T, eqb, eqb→eq, eqb·suc-zero, T-not, not-T, ltb}
+use mathlib.Core.List.{map}
+use Prim.Native.Nat.{ℕ, zero, suc, _+_, _*_}
+use lib.Dec.{T, eqb, eqb→eq, eqb·suc-zero, ltb}
 use lib.ListN.{length}
-use lib.Ieee.{Float}
-use lib.Ieee.Bits.{is-true}
 use Rattle.complex.specs.Matrices.{zeros}
-use Rattle.refusals.specs.Refusals.{limit, tooMany, wrongLength, unlikeLists, noSuchBus, busTwice, smallPivot, refuse}
+use Rattle.refusals.specs.Refusals.{limit, wrongLength, unlikeLists, busTwice, smallPivot, refuse}
 use Rattle.gauss_jordan.specs.Solving.{singular}
 use Rattle.buses.specs.Buses.{allBelow}
 use Rattle.ward_studies.specs.Ward.{Study, Room, retained, listed, externals, system, repeats, tooLong, misfit, unmatched, busRefusal, inputRefusal, thenPivots, refusal, Accepted, filled, workAfter, roomAfter, afterWard}

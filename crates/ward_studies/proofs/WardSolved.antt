@@ -2,28 +2,27 @@
 -- Assumes nothing.
 use mathlib.Core.Path.{_≡_, refl, sym, ap, _∙_}
 use mathlib.Core.Logic.{_⊎_, inl, inr}
-use mathlib.Core.Bool.{Bool, true, false, _&&_, cond}
-use mathlib.Core.List.{List, [], _∷_, _++_, map}
-use Prim.Native.Nat.{ℕ, zero, suc, _+_, _*_, _-_, _≤_, _<_}
-use native.Mathlib.Nat.{sub-zero}
+use mathlib.Core.Bool.{Bool, cond}
+use mathlib.Core.List.{List, [], _∷_}
+use Prim.Native.Nat.{ℕ, zero, suc, _+_, _-_, _≤_, _<_}
 use native.Mathlib.Omega.{arith}
-use borrow.Author.Tests.{lt-ltb, le-ltb, ne-eqb}
-use lib.Dec.{T, eqb, ltb}
-use lib.ListN.{length, getD, take, drop, length-take, length-drop, length-append, take-append-drop}
-use lib.Seq.{length-take-le, getD-take, getD-drop, drop-drop}
+use borrow.Author.Tests.{lt-ltb, le-ltb}
+use lib.Dec.{T, ltb}
+use lib.ListN.{length, getD, take, drop}
+use lib.Seq.{length-take-le, getD-take}
 use lib.Ieee.{Float, nan}
 use lib.Ieee.Fits.{and-i, and-l, and-r}
 use Rattle.complex.specs.declared.Complex.{Complex}
-use Rattle.complex.specs.Arithmetic.{cadd, csub, cmul}
-use Rattle.complex.specs.Matrices.{Matrix, entryAt, rows, grid, zeros}
-use Rattle.complex.proofs.Matrices.{entry-grid, rows-ext, length-grid, grid-ext}
+use Rattle.complex.specs.Arithmetic.{cadd, cmul}
+use Rattle.complex.specs.Matrices.{Matrix, entryAt, grid}
+use Rattle.complex.proofs.Matrices.{entry-grid}
 use Rattle.gauss_jordan.specs.GaussJordan.{run, beside, solution, singularSystem}
-use Rattle.gauss_jordan.specs.Solving.{operations, singular, solve}
+use Rattle.gauss_jordan.specs.Solving.{operations, singular}
 use Rattle.gauss_jordan.proofs.GaussJordan.{run-same, singular-system, beside-system, beside-right, column-alone}
 use Rattle.buses.specs.Buses.{allBelow}
 use Rattle.ward_products.specs.WardArithmetic.{sumUp, current}
-use Rattle.ward_studies.specs.Ward.{Study, externals, externalAt, admittance, system, response, rowTimes, driven, transferred}
-use Rattle.ward_products.specs.WardWork.{Listing, augmentedRow, augmented, productTo, product, lessProduct}
+use Rattle.ward_studies.specs.Ward.{externals, admittance, system, response, rowTimes, driven, transferred}
+use Rattle.ward_products.specs.WardWork.{Listing, augmentedRow, augmented, productTo, product}
 use Rattle.ward_studies.specs.WardCalls.{cut}
 
 -- ---- parts of a listing

@@ -1,29 +1,27 @@
 -- What a study with right lists leaves: refused with 13, or the equivalent that the work slice holds after the elimination.
 -- Assumes nothing.
 use mathlib.Core.Path.{_≡_, refl, sym, ap, subst, _∙_}
-use mathlib.Core.Bool.{Bool, true, false, cond}
+use mathlib.Core.Bool.{true, false}
 use mathlib.Core.List.{List, [], _∷_, _++_, map}
-use Prim.Native.Nat.{ℕ, zero, suc, _+_, _*_, _-_, _≤_, _<_}
+use Prim.Native.Nat.{ℕ, _+_, _*_, _-_, _≤_, _<_}
 use native.Mathlib.Omega.{arith}
 use borrow.Author.Tests.{ne-eqb}
 use lib.Dec.{eqb}
 use lib.ListN.{length, getD, take, drop, length-drop, take-append-drop}
 use lib.Seq.{length-take-le, getD-drop, drop-drop}
 use lib.Ieee.{Float}
-use Rattle.complex.specs.declared.Complex.{Complex}
 use Rattle.complex.specs.Constants.{plus0}
 use Rattle.complex.specs.Arithmetic.{csub}
 use Rattle.complex.specs.Matrices.{Matrix, entryAt, rows, grid, zeros}
 use Rattle.complex.proofs.Matrices.{entry-grid, rows-ext, length-grid, grid-ext, length-rows, entry-rows}
 use Rattle.gauss_jordan.specs.GaussJordan.{run, runFrom, singularSystem}
 use Rattle.gauss_jordan.specs.Solving.{operations, singular}
-use Rattle.ward_studies.specs.declared.WardSummary.{WardSummary}
 use Rattle.ward_studies.specs.declared.WardAnswer.{WardAnswer}
 use Rattle.ward_studies.specs.declared.WardAnswer.the-variants.{Done, Refused}
 use Rattle.ward_products.specs.WardArithmetic.{injectedP, injectedQ}
-use Rattle.ward_studies.specs.Ward.{Study, Room, externals, retained, admittance, equivalent, rowTimes, response, transferred, injectionP, injectionQ, system, reduction, summary, answered, thenPivots, filled, workAfter, roomAfter, AfterWard}
-use Rattle.ward_products.specs.WardWork.{augmented, productTo, product, lessProduct}
-use Rattle.ward_studies.specs.WardCalls.{roomOf, after, cut, studied, filledBy}
+use Rattle.ward_studies.specs.Ward.{Study, Room, externals, retained, admittance, equivalent, rowTimes, response, injectionP, injectionQ, system, reduction, summary, answered, thenPivots, filled, workAfter, roomAfter, AfterWard}
+use Rattle.ward_products.specs.WardWork.{augmented, product, lessProduct}
+use Rattle.ward_studies.specs.WardCalls.{after, cut, studied, filledBy}
 use Rattle.ward_studies.proofs.WardSolved.{product-response, product-driven}
 
 -- ---- after 13, and with none

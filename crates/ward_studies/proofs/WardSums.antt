@@ -1,25 +1,24 @@
 -- Sums whose terms are zero are zero: of products with zero factors that are finite, of weights of zero admittances.
 -- Assumes nothing.
-use mathlib.Core.Path.{_≡_, refl, sym, ap, _∙_}
-use mathlib.Core.Bool.{Bool, true, false, cond}
+use mathlib.Core.Path.{_≡_, refl, ap, _∙_}
+use mathlib.Core.Bool.{true, false}
 use mathlib.Core.List.{List, [], _∷_, _++_}
-use Prim.Native.Nat.{ℕ, zero, suc, _+_, _*_, _<_}
-use native.Mathlib.Nat.{zero-mul, mul-zero}
+use Prim.Native.Nat.{ℕ, zero, suc, _*_, _<_}
+use native.Mathlib.Nat.{zero-mul}
 use native.Mathlib.Omega.{arith}
 use lib.Dec.{T, lit<, ltb, leb·suc-zero}
 use lib.IntN.{ℤ, negsuc}
 use lib.ListN.{length, getD}
 use lib.Ieee.{Float, nan, inf, fin, binary64, fits, lt, ofBits, up, down}
 use lib.Ieee.Fits.{add-fits, sub-fits, mul-fits}
-use lib.Ieee.Scale.{finite}
 use Rattle.complex.specs.declared.Complex.{Complex}
 use Rattle.complex.specs.Constants.{plus0, weak}
-use Rattle.complex.specs.Arithmetic.{_⊕_, _⊖_, _⊗_, cadd, cmul, sqmag}
+use Rattle.complex.specs.Arithmetic.{_⊕_, _⊗_, cadd, cmul, sqmag}
 use Rattle.complex.specs.Computed.{ofProduct, ofSum, ofSqmag}
 use Rattle.complex.specs.Values.{allFinite}
 use Rattle.binary64.specs.Root.{root}
 use Rattle.complex.specs.Magnitude.{magnitude}
-use Rattle.binary64.proofs.Floats.{Zero, add-left, add-right, sub-right, zero-of}
+use Rattle.binary64.proofs.Floats.{Zero, add-left, sub-right, zero-of}
 use Rattle.complex.proofs.Finite.{all-left, all-right, all-at, zero-times}
 use Rattle.ward_products.specs.WardArithmetic.{sumUp}
 use Rattle.ward_studies.specs.WardExtended.{addUp}

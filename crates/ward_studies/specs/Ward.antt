@@ -5,10 +5,10 @@ use mathlib.Core.List.{List, [], _∷_, _++_, map}
 use lib.Dec.{T, eqb, ltb}
 use lib.ListN.{length, getD}
 use lib.IntN.{pos}
-use lib.Ieee.{Float, nan, binary64, neg, ofInt}
+use lib.Ieee.{Float, nan, binary64, ofInt}
 use Rattle.complex.specs.declared.Complex.{Complex}
 use Rattle.complex.specs.Constants.{plus0, one}
-use Rattle.complex.specs.Arithmetic.{_⊖_, _⊗_, _⊘_, cadd, csub, cmul}
+use Rattle.complex.specs.Arithmetic.{_⊖_, _⊘_, csub, cmul}
 use Rattle.complex.specs.Matrices.{Matrix, entryAt, rows, zeros}
 use Rattle.ward_products.specs.WardArithmetic.{sumUp, current, injectedP, injectedQ}
 use Rattle.refusals.specs.Refusals.{limit, tooMany, wrongLength, unlikeLists, noSuchBus, busTwice, smallPivot, refuse}

@@ -1,20 +1,19 @@
 -- The calls `compute` and `compute_extended`: their arguments and what they leave, gathered into the records of a study; and the steps between.
-use Prim.Native.Nat.{ℕ, _+_, _*_, _-_, _≤_, _<_}
+use Prim.Native.Nat.{ℕ, _+_, _*_, _-_, _≤_}
 use mathlib.Core.Path.{_≡_}
 use mathlib.Core.Bool.{Bool, not, _||_, cond}
 use mathlib.Core.List.{List, [], map}
-use lib.Dec.{T, eqb, ltb}
+use lib.Dec.{eqb, ltb}
 use lib.ListN.{length, getD, take, drop}
 use lib.Ieee.{Float, lt}
 use Rattle.refusals.specs.Refusals.{limit, tooMany, wrongLength, unlikeLists, refuse}
 use Rattle.complex.specs.Constants.{plus0, weak}
 use Rattle.complex.specs.Arithmetic.{_⊘_}
 use Rattle.complex.specs.Matrices.{grid, zeros}
-use Rattle.ward_studies.specs.declared.WardSummary.{WardSummary}
 use Rattle.ward_studies.specs.declared.WardAnswer.{WardAnswer}
 use Rattle.ward_studies.specs.declared.WardAnswer.the-variants.{Done}
 use Rattle.ward_products.specs.WardArithmetic.{injectedP, injectedQ}
-use Rattle.ward_studies.specs.Ward.{Study, Room, externals, retained, thenPivots, summary, answered, roomAfter, AfterWard, reduction}
+use Rattle.ward_studies.specs.Ward.{Study, Room, externals, thenPivots, summary, answered, roomAfter, AfterWard, reduction}
 use Rattle.ward_studies.specs.WardExtended.{Extended, ExtendedRoom, AfterExtended}
 use Rattle.ward_products.specs.WardWork.{Listing, productTo, product, lessProduct}
 

@@ -11,7 +11,7 @@ use Rattle.complex.specs.Arithmetic.{_⊗_, _⊘_, cmul}
 use Rattle.complex.specs.Computed.{ofParts, ofSum, ofProduct, ofDifference, ofSqmag}
 use Rattle.gauss_jordan.specs.Computed.{ofSolve}
 use Rattle.ward_products.specs.WardArithmetic.{sumUp, current}
-use Rattle.ward_studies.specs.Ward.{Study, retained, externals, externalAt, admittance, system, response, rowTimes, injectionP, injectionQ, driven, transferred, reduction}
+use Rattle.ward_studies.specs.Ward.{Study, retained, externals, externalAt, admittance, system, response, rowTimes, injectionP, injectionQ, driven, reduction}
 use Rattle.ward_studies.specs.WardExtended.{Extended, addUp, deviation, tie, weight, voltageCorrection, reactive}
 
 -- of each of a list, in its order

@@ -1,6 +1,6 @@
 -- The extended Ward study: what `compute_extended` answers and leaves beside Ward's own, for every input.
 use Prim.Native.Nat.{ℕ, zero, suc}
-use mathlib.Core.Bool.{Bool, not, _||_, cond}
+use mathlib.Core.Bool.{not, _||_, cond}
 use mathlib.Core.List.{List, map}
 use lib.Dec.{T, eqb, ltb}
 use lib.ListN.{length, getD}

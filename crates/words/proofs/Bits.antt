@@ -1,10 +1,10 @@
 -- Laws of an f64's bits: a NaN is told by its bits or by itself, and printing what was read gives the same word, or 7ff8000000000000.
 -- Assumes nothing.
-use Prim.Native.Nat.{ℕ, _*_, _<_, _≤_, _^_, _%_}
+use Prim.Native.Nat.{ℕ, _<_, _≤_, _^_, _%_}
 use mathlib.Core.Path.{_≡_, refl, sym, ap, _∙_, subst}
 use mathlib.Core.Bool.{Bool, true, false, not, true≢false, false≢true}
-use lib.Dec.{T, ltb}
-use lib.Ieee.{Float, nan, inf, fin, binary64, ofBits, toBits, nanBits, isNan, ne, ones, hid, top}
+use lib.Dec.{T}
+use lib.Ieee.{Float, nan, inf, fin, binary64, ofBits, toBits, nanBits, isNan, ne}
 use lib.Ieee.Bits.{nanBits-is, nanBits-above, toBits-ofBits}
 use lib.Ieee.Compare.{differs-from-itself, nan-differs}
 use borrow.Author.Tests.{lt-ltb, le-ltb}

@@ -1,7 +1,7 @@
 -- Writing bytes into a slice from an index on.
 use Prim.Native.Nat.{ℕ, _+_, _≤_}
 use mathlib.Core.Path.{_≡_}
-use mathlib.Core.List.{List, _++_}
+use mathlib.Core.List.{_++_}
 use lib.ListN.{length, take, drop}
 use Rattle.words.specs.Bytes.{Bytes}
 

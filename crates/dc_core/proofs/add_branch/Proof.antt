@@ -1,5 +1,4 @@
 use Prim.Native.Nat.{_<_}
-use mathlib.Core.Path.{_≡_, refl, sym, ap, _∙_}
 use Rattle.complex.specs.Constants.{weak, one}
 use Rattle.dc_core.specs.Dc.{addBranch}
 use native.Mathlib.Omega.{arith}

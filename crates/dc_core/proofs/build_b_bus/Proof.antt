@@ -1,8 +1,7 @@
 -- `equivalents::dc::build_b_bus` meets its contract.
 -- Assumes nothing.
-use mathlib.Core.Path.{_≡_, refl, sym, ap, _∙_}
-use native.Mathlib.Omega.{arith}
-use Rattle.dc_core.specs.Dc.{buildRefusal, builtOutput}
+use mathlib.Core.Path.{refl, sym, ap, _∙_}
+use Rattle.dc_core.specs.Dc.{builtOutput}
 use Rattle.dc_core.proofs.Refusing.{outcome-refused, held-refused, build-accepted}
 use Rattle.refusals.specs.Refusals.{outcome}
 use Rattle.complex.specs.Matrices.{zeros}

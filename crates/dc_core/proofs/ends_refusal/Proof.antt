@@ -1,6 +1,5 @@
 -- `equivalents::dc::ends_refusal` meets its contract: each test is the definition's.
 -- Assumes nothing.
-use mathlib.Core.Path.{_≡_, refl}
 use borrow.Author.Needs.{needs}
 use borrow.Author.Tests.{not-true, not-false}
 use Rattle.dc_core.specs.Dc.{endsRefusal}

@@ -1,4 +1,3 @@
-use mathlib.Core.Path.{_≡_, refl, sym, ap, _∙_}
 use Rattle.dc_core.specs.Dc.{joined}
 use borrow.Author.Needs.{needs}
 use Rattle.dc_core.proofs.join.Statement.{statement}

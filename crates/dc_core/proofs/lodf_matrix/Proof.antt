@@ -1,9 +1,9 @@
 -- `equivalents::dc::lodf_matrix` meets its contract.
 -- Assumes nothing.
-use mathlib.Core.Path.{_≡_, refl, sym, ap, _∙_}
+use mathlib.Core.Path.{refl, sym, ap, _∙_}
 use lib.ListN.{length}
 use Rattle.refusals.specs.Refusals.{outcome}
-use Rattle.dc_core.specs.Dc.{lodfRefusal, lodfOutput}
+use Rattle.dc_core.specs.Dc.{lodfOutput}
 use Rattle.dc_core.proofs.Refusing.{outcome-refused, held-refused, lodf-accepted}
 use borrow.Author.Needs.{needs}
 use Rattle.dc_core.proofs.lodf_matrix.Statement.{statement}

@@ -1,6 +1,5 @@
 -- `equivalents::dc::outage_factor` meets its contract: each test is the definition's.
 -- Assumes nothing.
-use mathlib.Core.Path.{_≡_, refl, sym, ap, _∙_}
 use borrow.Author.Tests.{eq-eqb, ne-eqb}
 use Rattle.complex.specs.Constants.{plus0, one, weak}
 use Rattle.dc_core.specs.Dc.{outageFactor}

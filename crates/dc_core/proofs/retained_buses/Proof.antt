@@ -1,6 +1,6 @@
 -- `equivalents::dc::retained_buses` meets its contract.
 -- Assumes nothing.
-use mathlib.Core.Path.{_≡_, refl, sym, ap, _∙_}
+use mathlib.Core.Path.{refl, sym, ap, _∙_}
 use lib.ListN.{length, replicate}
 use Prim.Native.Nat.{ℕ}
 use native.Mathlib.Omega.{arith}

@@ -3,8 +3,7 @@
 use mathlib.Core.Path.{_≡_, refl, sym, ap}
 use Prim.Native.Nat.{ℕ, zero, suc}
 use Rattle.refusals.specs.Refusals.{outcome}
-use Rattle.refusals.specs.declared.Outcome.the-variants.{Done, Refused}
-use borrow.Author.Needs.{needs}
+use Rattle.refusals.specs.declared.Outcome.the-variants.{Refused}
 use Rattle.kron_core.proofs.answer_of.Statement.{statement}
 use Rattle.kron_core.proofs.answer_of.Tie as tie
 

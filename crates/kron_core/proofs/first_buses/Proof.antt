@@ -1,11 +1,10 @@
 -- `equivalents::kron::first_buses` meets its contract. The loop's invariant: bus i stands in each place passed, 0 in the others.
 -- Assumes nothing.
-use mathlib.Core.Path.{_≡_, refl, sym, ap, _∙_}
+use mathlib.Core.Path.{_≡_, refl, sym, _∙_}
 use mathlib.Core.Logic.{⊎-elim}
-use mathlib.Core.List.{List}
 use Prim.Native.Nat.{ℕ, _+_, _-_, _≤_, _<_}
 use native.Mathlib.Omega.{arith}
-use lib.ListN.{length, getD, length-set, replicate, length-replicate}
+use lib.ListN.{length, getD, length-set}
 use lib.Seq.{ext-getD, getD-set-other}
 use Rattle.complex.specs.Matrices.{upTo}
 use Rattle.complex.proofs.Matrices.{length-upTo, getD-upTo}

@@ -5,7 +5,6 @@ use mathlib.Core.List.{List}
 use Prim.Native.Nat.{ℕ}
 use borrow.Author.Needs.{needs}
 use Rattle.complex.proofs.Matrices.{length-upTo}
-use Rattle.kron_core.specs.declared.KronReducer.{KronReducer}
 use Rattle.kron_core.proofs.record_of.Statement.{statement}
 use Rattle.kron_core.proofs.record_of.Tie as tie
 

@@ -1,6 +1,6 @@
 -- `equivalents::kron::take_accepted` meets its contract: none is removed and all is as it was, or the rows behind those left are cleared.
 -- Assumes nothing.
-use mathlib.Core.Path.{_≡_, refl, sym, ap, _∙_}
+use mathlib.Core.Path.{_≡_, refl, ap, _∙_}
 use mathlib.Core.List.{List}
 use Prim.Native.Nat.{ℕ, _*_, _-_, _≤_}
 use native.Mathlib.Nat.{mul-le-mul, le-refl}

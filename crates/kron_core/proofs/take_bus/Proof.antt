@@ -2,7 +2,6 @@
 -- Assumes nothing.
 use mathlib.Core.Path.{ap}
 use borrow.Author.Needs.{needs}
-use Rattle.kron_core.specs.declared.Taken.{Taken}
 use Rattle.kron_core.specs.declared.TakenAll.{TakenAll}
 use Rattle.kron_core.specs.Reducer.{afterBus, afterBuses}
 use Rattle.kron_core.proofs.take_bus.Statement.{statement}

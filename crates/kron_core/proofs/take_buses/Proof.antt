@@ -1,10 +1,8 @@
 -- `equivalents::kron::take_buses` meets its contract: the input is refused, or accepted and the list worked off.
 -- Assumes nothing.
-use mathlib.Core.Path.{_≡_, refl, sym, ap, _∙_}
+use mathlib.Core.Path.{refl, sym, ap, _∙_}
 use borrow.Author.Needs.{needs}
-use lib.ListN.{length}
 use Rattle.refusals.specs.declared.Outcome.{Outcome}
-use Rattle.kron_core.specs.declared.TakenAll.{TakenAll}
 use Rattle.kron_core.proofs.Calls.{buses-refused}
 use Rattle.kron_core.proofs.take_buses.Statement.{statement}
 use Rattle.kron_core.proofs.take_buses.Tie as tie

@@ -7,7 +7,7 @@ use native.Mathlib.Omega.{arith}
 use borrow.Author.Needs.{needs}
 use lib.ListN.{length, take}
 use Rattle.refusals.specs.Refusals.{limit}
-use Rattle.kron_rows.specs.declared.Found.the-variants.{At, Nothing}
+use Rattle.kron_rows.specs.declared.Found.the-variants.{At}
 use Rattle.kron_core.specs.Reducer.{activeOf}
 use Rattle.kron_rows.specs.Removal.{foundIn, Holds}
 use Rattle.kron_core.specs.Reading.{readingRefusal}

@@ -1,7 +1,7 @@
 -- `kron_rows::all_zero` meets its contract. The loop's invariant: all are zero where what is left is.
 -- Assumes nothing.
 use mathlib.Core.Path.{_≡_, refl, sym, ap, _∙_}
-use Prim.Native.Nat.{_+_, _-_, _≤_}
+use Prim.Native.Nat.{_-_, _≤_}
 use native.Mathlib.Omega.{arith}
 use lib.ListN.{length, drop, drop-of-length-le}
 use Rattle.buses.specs.Buses.{allZero}

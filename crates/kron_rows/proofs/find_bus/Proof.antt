@@ -1,15 +1,15 @@
 -- `kron_rows::find_bus` meets its contract. The loop's invariant: the bus stands where it stands in what is left of the list.
 -- Assumes nothing.
 use mathlib.Core.Path.{_≡_, refl, sym, ap, _∙_}
-use mathlib.Core.Bool.{false, true, cond}
-use Prim.Native.Nat.{ℕ, suc, _+_, _-_, _≤_}
+use mathlib.Core.Bool.{false, true}
+use Prim.Native.Nat.{_+_, _-_, _≤_}
 use native.Mathlib.Nat.{zero-add}
 use native.Mathlib.Omega.{arith}
 use lib.ListN.{length, drop, drop-of-length-le}
-use Rattle.kron_rows.specs.declared.Found.the-variants.{At, Nothing}
 use Rattle.buses.specs.Buses.{mem, place}
 use Rattle.kron_rows.specs.Removal.{foundIn}
-use Rattle.kron_rows.proofs.Positions.{mem-here, place-here, mem-on, place-on}
+use Rattle.buses.proofs.Ends.{mem-here, mem-next}
+use Rattle.kron_rows.proofs.Positions.{place-here, place-on}
 use borrow.Author.Needs.{needs}
 use Rattle.kron_rows.proofs.find_bus.Statement.{statement}
 use Rattle.kron_rows.proofs.find_bus.Tie as tie
@@ -36,7 +36,7 @@ returns c =
     let i = c .before .before .before .loop .i in
     let k = c .before .before .before .before .args .bus in
     let inv = c .before .before .before .loop .inv in
-    let m : mem k xs ≡ true = inv .1 ∙ mem-here k xs i (omega arith) (c .if1 .taken) in
+    let m : mem k xs ≡ true = inv .1 ∙ mem-here k i xs (omega arith) (c .if1 .taken) in
     let z : place k (drop i xs) ≡ 0 = place-here k xs i (omega arith) (c .if1 .taken) in
     let p : place k xs ≡ i = omega (arith, inv .2, z) in
     rw (m, p) refl
@@ -53,7 +53,7 @@ loop-again c =
     let i = c .before .before .before .loop .i in
     let k = c .before .before .before .before .args .bus in
     let inv = c .before .before .before .loop .inv in
-    (omega arith, inv .1 ∙ mem-on k xs i (omega arith) (c .if1 .left), omega (arith, inv .2, place-on k xs i (omega arith) (c .if1 .left)))
+    (omega arith, inv .1 ∙ mem-next k i xs (omega arith) (c .if1 .left), omega (arith, inv .2, place-on k xs i (omega arith) (c .if1 .left)))
 
 returns-2 : tie.Need-returns-2 Inv-loop μ-loop
 unfolding foundIn

@@ -1,6 +1,6 @@
 -- `kron_rows::put_row` meets its contract: the part of the slice that comes back is row p of the smaller matrix.
 -- Assumes nothing.
-use mathlib.Core.Path.{_≡_, sym, ap, _∙_}
+use mathlib.Core.Path.{_≡_, ap, _∙_}
 use mathlib.Core.List.{List}
 use Prim.Native.Nat.{ℕ, _+_, _-_, _*_, _≤_, _<_}
 use native.Mathlib.Omega.{arith}
@@ -14,7 +14,6 @@ use Rattle.complex.proofs.Parts.{back}
 use Rattle.complex.proofs.Matrices.{row-within, entry-part, row-back-same, row-back-other}
 use Rattle.kron_rows.specs.Kron.{newEntry}
 use Rattle.kron_rows.specs.Removal.{kept}
-use Rattle.refusals.specs.Refusals.{limit}
 use Rattle.kron_rows.proofs.Positions.{room, kept-lt, entry-behind}
 use Rattle.kron_rows.proofs.put_row.Statement.{statement}
 use Rattle.kron_rows.proofs.put_row.Tie as tie

@@ -8,7 +8,6 @@ use lib.ListN.{length}
 use Rattle.complex.specs.declared.Complex.{Complex}
 use Rattle.complex.specs.Entries.{entry}
 use Rattle.complex.specs.Matrices.{entryAt}
-use Rattle.refusals.specs.Refusals.{limit}
 use Rattle.kron_rows.specs.Kron.{newEntry}
 use Rattle.kron_rows.specs.Removal.{kept}
 use Rattle.kron_rows.proofs.Positions.{lt-or-ge}

@@ -1,13 +1,11 @@
 -- `kron_rows::take_list` meets its contract. The loop's invariant: the first `done` buses of the list are removed, and where there are none the slice is as it was.
 -- Assumes nothing.
-use mathlib.Core.Path.{_≡_, refl, sym, ap, _∙_}
-use mathlib.Core.List.{List}
-use Prim.Native.Nat.{ℕ, _+_, _*_, _-_, _≤_, _<_}
+use mathlib.Core.Path.{_≡_, refl, _∙_}
+use Prim.Native.Nat.{_+_, _-_}
 use native.Mathlib.Omega.{arith}
 use lib.ListN.{length, take}
-use Rattle.refusals.specs.Refusals.{limit}
 use Rattle.kron_rows.specs.Kron.{State, taken, stop}
-use Rattle.kron_rows.specs.Removal.{shown, Holds}
+use Rattle.kron_rows.specs.Removal.{shown}
 use Rattle.kron_rows.proofs.Taking.{holds-long, Ongoing, ongoing-start, ongoing-same, ongoing-holds, ongoing-stopped, ongoing-next, took-so-far, took-all}
 use borrow.Author.Needs.{needs}
 use Rattle.kron_rows.proofs.take_list.Statement.{statement}

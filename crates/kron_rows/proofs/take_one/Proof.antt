@@ -1,13 +1,12 @@
 -- `kron_rows::take_one` meets its contract: the bus is not found, its own entry is too small, or the rows and the places are closed up.
 -- Assumes nothing.
-use mathlib.Core.Path.{_≡_, refl, sym, ap, _∙_}
-use Prim.Native.Nat.{ℕ, _+_, _*_, _-_, _≤_, _<_}
+use mathlib.Core.Path.{_≡_, sym, ap, _∙_}
+use Prim.Native.Nat.{ℕ, _<_}
 use native.Mathlib.Nat.{sub-zero}
 use native.Mathlib.Omega.{arith}
 use borrow.Author.Needs.{needs}
 use lib.ListN.{take}
-use Rattle.refusals.specs.Refusals.{limit}
-use Rattle.kron_rows.specs.declared.Found.the-variants.{At, Nothing}
+use Rattle.kron_rows.specs.declared.Found.the-variants.{At}
 use Rattle.kron_rows.specs.Removal.{foundIn}
 use Rattle.kron_rows.proofs.Taking.{holds-room, took-lt, took-absent, took-small, took}
 use Rattle.kron_rows.proofs.take_one.Statement.{statement}

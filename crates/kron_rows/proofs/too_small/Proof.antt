@@ -1,10 +1,10 @@
 -- `kron_rows::too_small` meets its contract.
 -- Assumes nothing.
-use mathlib.Core.Path.{_≡_, sym, ap, ap₂, _∙_}
-use Prim.Native.Nat.{ℕ, _+_, _*_, _≤_, _<_}
+use mathlib.Core.Path.{ap, _∙_}
 use native.Mathlib.Omega.{arith}
 use borrow.Author.Needs.{needs}
-use lib.Ieee.{lt}
+use lib.Ieee.{Float, lt}
+use Rattle.complex.specs.Constants.{tiny}
 use Rattle.complex.specs.Arithmetic.{sqmag}
 use Rattle.complex.specs.Matrices.{entryAt}
 use Rattle.kron_rows.specs.Kron.{tooSmall}
@@ -27,13 +27,10 @@ get-requires c κs =
 sqmag-requires : tie.Need-sqmag-requires
 sqmag-requires c κs = search needs
 
-tiny-requires : tie.Need-tiny-requires
-tiny-requires c κs = search needs
-
 returns : tie.Need-returns
-unfolding tooSmall entryAt
-returns c = ap₂ lt (c .before .sqmag .ensures ∙ ap sqmag (c .before .before .get .ensures)) (c .tiny .ensures)
+unfolding tooSmall entryAt tiny
+returns c = ap (λ (x : Float). lt x tiny) (c .sqmag .ensures ∙ ap sqmag (c .before .get .ensures))
 
 pub too-small-spec : {M : Type 1} → statement M
 too-small-spec =
-    tie.close (tie.spec mul-get add-get get-requires sqmag-requires tiny-requires returns)
+    tie.close (tie.spec mul-get add-get get-requires sqmag-requires returns)

@@ -1,15 +1,14 @@
 -- `lines::reduce` meets its contract: read, cleared, printed, cleared.
 -- Assumes nothing.
-use Prim.Native.Nat.{ℕ, _*_, _≤_}
-use mathlib.Core.Path.{_≡_, refl, sym, ap, subst, _∙_}
-use mathlib.Core.List.{_++_}
+use Prim.Native.Nat.{ℕ}
+use mathlib.Core.Path.{sym, ap, _∙_}
 use native.Mathlib.Omega.{arith}
 use native.Mathlib.Nat.{zero-add}
-use lib.ListN.{length, replicate, length-replicate}
+use lib.ListN.{length, replicate}
 use Rattle.complex.specs.Matrices.{zeros}
 use Rattle.lines.specs.declared.Answer.the-variants.{Written}
 use Rattle.words.specs.Bytes.{Bytes}
-use Rattle.words.specs.Writing.{Room, written, Wrote}
+use Rattle.words.specs.Writing.{written}
 use Rattle.lines.specs.Reading.{most}
 use Rattle.lines.specs.Reduce.{printed, matrixLength, outputLength, AfterReduce}
 use Rattle.lines.proofs.ReduceLaws.{after-output, after-matrix, after-both, whole-is, text-is, printed-room, on-cleared}

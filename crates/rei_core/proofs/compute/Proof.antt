@@ -1,6 +1,6 @@
 -- `equivalents::rei::compute` meets its contract.
 -- Assumes nothing.
-use mathlib.Core.Path.{_≡_, refl, sym, ap, _∙_}
+use mathlib.Core.Path.{_≡_, sym, _∙_}
 use Prim.Native.Nat.{_≤_, _+_, _*_}
 use Rattle.complex.specs.Constants.{one}
 use lib.ListN.{length}

@@ -1,13 +1,11 @@
 -- `equivalents::rei::exact` meets its contract: each test is the definition's.
 -- Assumes nothing.
-use mathlib.Core.Path.{_≡_, refl, sym, ap, _∙_}
 use native.Mathlib.Nat.{mul-le-mul}
 use native.Mathlib.Omega.{arith}
 use borrow.Author.Tests.{eq-eqb, ne-eqb}
 use Rattle.refusals.specs.Refusals.{limit}
 use Rattle.rei_core.specs.Rei.{sized, tieRoom}
 use Rattle.rei_core.proofs.Ties.{room-is, own-square}
-use borrow.Author.Needs.{needs}
 use Rattle.rei_core.proofs.exact.Statement.{statement}
 use Rattle.rei_core.proofs.exact.Tie as tie
 

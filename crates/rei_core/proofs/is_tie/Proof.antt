@@ -1,6 +1,5 @@
 -- `equivalents::rei::is_tie` meets its contract: each test is the definition's.
 -- Assumes nothing.
-use mathlib.Core.Path.{_≡_, refl, sym, ap, _∙_}
 use Rattle.complex.specs.Constants.{faint}
 use Rattle.rei_core.specs.Rei.{isTie}
 use borrow.Author.Needs.{needs}

@@ -1,6 +1,6 @@
 -- `equivalents::rei::refusal` meets its contract: each test is the definition's.
 -- Assumes nothing.
-use mathlib.Core.Path.{_≡_, refl, sym, ap, _∙_}
+use mathlib.Core.Path.{sym, _∙_}
 use borrow.Author.Tests.{eq-eqb, ne-eqb, not-true, not-false}
 use Rattle.rei_core.specs.Rei.{studyRefusal}
 use Rattle.dc_core.proofs.Refusing.{over-none}

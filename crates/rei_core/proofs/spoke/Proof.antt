@@ -1,6 +1,5 @@
 -- `equivalents::rei::spoke` meets its contract: the test on the magnitude picks the same case on both sides.
 -- Assumes nothing.
-use mathlib.Core.Path.{_≡_, refl, sym, ap, _∙_}
 use Rattle.complex.specs.Constants.{weak, plus0}
 use Rattle.rei_core.specs.Rei.{spoke}
 use borrow.Author.Needs.{needs}

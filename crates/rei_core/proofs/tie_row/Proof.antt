@@ -1,11 +1,11 @@
 -- `equivalents::rei::tie_row` meets its contract: the ties not yet written, written over what stands, are all of the row.
 -- Assumes nothing.
-use mathlib.Core.Path.{_≡_, refl, sym, ap, _∙_}
+use mathlib.Core.Path.{_≡_, refl, sym, _∙_}
 use Prim.Native.Nat.{_≤_, _<_, _-_, _+_, _*_}
 use native.Mathlib.Nat.{add-zero}
 use native.Mathlib.Omega.{arith}
 use borrow.Author.Needs.{needs}
-use lib.ListN.{length, length-set}
+use lib.ListN.{length}
 use lib.Seq.{sets}
 use Rattle.complex.specs.Entries.{entry}
 use Rattle.rei_core.specs.Rei.{isTie, tieEnds, tieParts}

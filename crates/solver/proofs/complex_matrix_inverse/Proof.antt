@@ -1,12 +1,10 @@
 -- `solver::complex_matrix_inverse` meets its contract.
 -- Assumes nothing.
-use mathlib.Core.Path.{_≡_, sym, _∙_}
-use Prim.Native.Nat.{ℕ}
+use mathlib.Core.Path.{sym, _∙_}
 use borrow.Author.Needs.{needs}
 use lib.ListN.{length}
-use Rattle.complex.specs.Entries.{entry}
 use Rattle.complex.specs.Matrices.{entryAt, grid}
-use Rattle.gauss_jordan.specs.Solving.{singular, solve, inverse}
+use Rattle.gauss_jordan.specs.Solving.{singular, inverse}
 use Rattle.solver.specs.Calls.{afterInverse}
 use Rattle.solver.proofs.Accepted.{inverse-accepted, after-refused, after-singular, after-done}
 use Rattle.solver.proofs.complex_matrix_inverse.Statement.{statement}

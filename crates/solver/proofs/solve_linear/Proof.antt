@@ -1,12 +1,12 @@
 -- `solver::solve_linear` meets its contract.
 -- Assumes nothing.
-use mathlib.Core.Path.{_≡_, sym, _∙_}
+use mathlib.Core.Path.{sym, _∙_}
 use Prim.Native.Nat.{ℕ}
 use borrow.Author.Needs.{needs}
 use lib.ListN.{length}
 use Rattle.complex.specs.Entries.{entry}
 use Rattle.complex.specs.Matrices.{entryAt, grid}
-use Rattle.gauss_jordan.specs.Solving.{singular, solve, inverse}
+use Rattle.gauss_jordan.specs.Solving.{singular, solve}
 use Rattle.solver.specs.Calls.{afterSolve}
 use Rattle.solver.proofs.Accepted.{solve-accepted, after-refused, after-singular, after-done}
 use Rattle.solver.proofs.solve_linear.Statement.{statement}

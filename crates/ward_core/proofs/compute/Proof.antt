@@ -1,22 +1,9 @@
 -- `equivalents::ward::compute` meets its contract.
 -- Assumes nothing.
-use mathlib.Core.Path.{_≡_, refl, sym, ap, subst, _∙_}
-use mathlib.Core.Bool.{true, false}
-use mathlib.Core.List.{List}
-use Prim.Native.Nat.{ℕ, suc, _+_, _*_, _-_, _≤_, _<_}
-use native.Mathlib.Omega.{arith}
-use lib.ListN.{length, getD, take, drop, length-set}
-use lib.Ieee.{Float, nan}
+use mathlib.Core.Path.{_∙_}
 use borrow.Author.Needs.{needs}
-use Rattle.complex.specs.declared.Complex.{Complex}
-use native.Mathlib.Nat.{mul-le-mul, add-assoc, sub-zero}
-use borrow.Author.Tests.{lt-ltb, le-ltb, eq-eqb, ne-eqb, not-true, not-false}
-use Rattle.refusals.specs.Refusals.{limit}
-use Rattle.buses.specs.Buses.{allBelow}
-use Rattle.ward_studies.specs.Ward.{Study, repeats, busRefusal}
-use Rattle.ward_studies.specs.WardCalls.{studyOf, roomOf, after, crowded, uneven, told, cut, studied, Fitting, Joined, Listed}
-use Rattle.ward_studies.proofs.WardBuses.{listed-cut, cut-joined, bus-lacks, bus-repeats, bus-fine, studied-refused, listed-of}
-use Rattle.ward_studies.proofs.WardTold.{few, toldOf, after-refused, after-told, told-fitting}
+use Rattle.ward_studies.specs.WardCalls.{studyOf, roomOf, told}
+use Rattle.ward_studies.proofs.WardTold.{toldOf, after-refused, after-told, told-fitting}
 use Rattle.ward_core.proofs.compute.Statement.{statement}
 use Rattle.ward_core.proofs.compute.Tie as tie
 

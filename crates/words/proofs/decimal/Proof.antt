@@ -1,10 +1,9 @@
 -- `words::decimal` meets its contract: what is read so far, and the digits left, make the number of the whole word.
 -- Assumes nothing.
 use Prim.Native.Nat.{_-_, _≤_, _<_, _^_}
-use mathlib.Core.Path.{_≡_, refl, sym, _∙_}
-use mathlib.Core.Bool.{false}
+use mathlib.Core.Path.{_≡_, sym, _∙_}
 use native.Mathlib.Omega.{arith}
-use lib.ListN.{length, getD, drop}
+use lib.ListN.{length, drop}
 use borrow.Author.Needs.{needs}
 use Rattle.words.specs.Words.{digit, spare, decimalFrom, decimalOf}
 use Rattle.words.proofs.WordLaws.{decimal-spare, decimal-plain, decimal-no, decimal-over, decimal-more, decimal-end}

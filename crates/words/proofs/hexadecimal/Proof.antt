@@ -1,10 +1,10 @@
 -- `words::hexadecimal` meets its contract: what is read so far, and the digits left, make the word.
 -- Assumes nothing.
 use Prim.Native.Nat.{ℕ, _+_, _-_, _*_, _≤_, _<_, _^_}
-use mathlib.Core.Path.{_≡_, refl, sym, subst, _∙_}
+use mathlib.Core.Path.{_≡_, sym, subst, _∙_}
 use native.Mathlib.Nat.{lt-of-lt-of-le}
 use native.Mathlib.Omega.{arith}
-use lib.ListN.{length, getD, drop}
+use lib.ListN.{length, drop}
 use lib.Pow.{pow-mono, pow-add}
 use borrow.Author.Needs.{needs}
 use Rattle.words.specs.Words.{digit, hexFrom, hexOf}

@@ -1,6 +1,6 @@
 -- `words::number_of` meets its contract: the test tells a NaN's bits.
 -- Assumes nothing.
-use mathlib.Core.Path.{sym, subst, _∙_}
+use mathlib.Core.Path.{sym, subst}
 use mathlib.Core.Bool.{Bool, not}
 use lib.Dec.{T}
 use lib.Ieee.{div, ofBits}

@@ -1,12 +1,7 @@
 -- `words::spare` meets its contract.
 -- Assumes nothing.
-use mathlib.Core.Path.{_≡_, refl, sym}
-use mathlib.Core.List.{List, [], _∷_}
-use Prim.Native.Nat.{ℕ, _<_}
-use lib.Dec.{eqb}
-use lib.ListN.{length, getD}
+use mathlib.Core.Path.{sym}
 use borrow.Author.Needs.{needs}
-use Rattle.words.specs.Words.{spare}
 use Rattle.words.proofs.WordLaws.{spare-none, spare-one, spare-more}
 use Rattle.words.proofs.spare.Statement.{statement}
 use Rattle.words.proofs.spare.Tie as tie

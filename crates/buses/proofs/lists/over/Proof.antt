@@ -1,6 +1,5 @@
 -- `equivalents::lists::over` meets its contract: each test is the definition's.
 -- Assumes nothing.
-use mathlib.Core.Path.{_≡_, refl}
 use Rattle.refusals.specs.Refusals.{limit}
 use borrow.Author.Tests.{lt-ltb, le-ltb}
 use Rattle.buses.proofs.lists.over.Statement.{statement}

@@ -1,9 +1,8 @@
 -- `complex::words::of_word` meets its contract: a pattern above the infinity's, the sign's bit taken off, is a NaN's, and reads as nan.
 -- Assumes nothing.
 use mathlib.Core.Path.{_≡_, refl, sym, _∙_}
-use mathlib.Core.Bool.{true, false, not}
+use mathlib.Core.Bool.{true, false}
 use Prim.Native.Nat.{ℕ, _%_, _<_, _≤_}
-use lib.Dec.{T}
 use lib.Ieee.{Float, nan, inf, fin, binary64, ofBits, isNan, nanBits, div}
 use lib.Ieee.Bits.{nanBits-above, nanBits-is}
 use borrow.Author.Needs.{needs}

@@ -1,11 +1,10 @@
 -- `complex::words::to_word` meets its contract: only nan differs from itself, and its pattern is the one written for it.
 -- Assumes nothing.
-use mathlib.Core.Path.{_≡_, refl, subst}
+use mathlib.Core.Path.{_≡_, subst}
 use mathlib.Core.Bool.{Bool, true, false, not}
 use lib.Dec.{T}
-use lib.Ieee.{Float, nan, inf, fin, binary64, toBits, ne, isNan}
-use lib.Ieee.Bits.{is-true}
-use lib.Ieee.Compare.{differs-from-itself, nan-differs}
+use lib.Ieee.{Float, nan, inf, fin, toBits, ne, isNan}
+use lib.Ieee.Compare.{differs-from-itself}
 use borrow.Author.Needs.{needs}
 use Rattle.complex.proofs.words.to_word.Statement.{statement}
 use Rattle.complex.proofs.words.to_word.Tie as tie

@@ -1,13 +1,13 @@
 -- `solver::blocks::place` meets its contract. The invariant: the rows before row i have the block, the others are as they were.
 -- Assumes nothing.
-use mathlib.Core.Path.{_≡_, refl, ap, sym, _∙_}
-use Prim.Native.Nat.{ℕ, _+_, _*_, _-_, _≤_, _<_}
+use mathlib.Core.Path.{_≡_, sym, _∙_}
+use Prim.Native.Nat.{ℕ, _*_, _-_, _≤_, _<_}
 use native.Mathlib.Omega.{arith}
 use borrow.Author.Needs.{needs}
 use lib.ListN.{length}
 use Rattle.complex.specs.Matrices.{entryAt}
 use Rattle.gauss_jordan.proofs.Passed.{RowsPassed, rows-none, rows-more}
-use Rattle.gauss_jordan.specs.Work.{Block, placed}
+use Rattle.gauss_jordan.specs.Work.{placed}
 use Rattle.gauss_jordan.proofs.BlockParts.{placed-same}
 use Rattle.gauss_jordan.proofs.blocks.place.Statement.{statement}
 use Rattle.gauss_jordan.proofs.blocks.place.Tie as tie

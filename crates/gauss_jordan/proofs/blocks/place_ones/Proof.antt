@@ -1,17 +1,15 @@
 -- `solver::blocks::place_ones` meets its contract. The invariant: the rows before row i have their one, the others are as they were.
 -- Assumes nothing.
-use mathlib.Core.Path.{_≡_, refl, ap, sym, _∙_}
+use mathlib.Core.Path.{_≡_, refl, sym, _∙_}
 use Prim.Native.Nat.{ℕ, _+_, _*_, _-_, _≤_, _<_}
 use native.Mathlib.Omega.{arith}
 use borrow.Author.Needs.{needs}
 use lib.ListN.{length}
 use Rattle.complex.specs.Matrices.{entryAt}
 use Rattle.gauss_jordan.proofs.Passed.{RowsPassed, rows-none, rows-more}
-use Rattle.complex.specs.declared.Complex.{Complex}
 use Rattle.complex.specs.Constants.{one, plus0}
 use Rattle.complex.specs.Arithmetic.{unit}
 use Rattle.complex.specs.Entries.{put}
-use Rattle.complex.proofs.Entries.{length-put}
 use Rattle.complex.proofs.Matrices.{entry-within}
 use mathlib.Core.Bool.{cond}
 use mathlib.Core.List.{List}

@@ -1,14 +1,14 @@
 -- `solver::blocks::take` meets its contract. The invariant: the rows before row i are copied, the others as they were.
 -- Assumes nothing.
-use mathlib.Core.Path.{_≡_, refl, ap, sym, _∙_}
-use Prim.Native.Nat.{ℕ, _+_, _*_, _-_, _≤_, _<_}
+use mathlib.Core.Path.{_≡_, refl, sym, _∙_}
+use Prim.Native.Nat.{ℕ, _*_, _-_, _≤_, _<_}
 use native.Mathlib.Omega.{arith}
 use borrow.Author.Needs.{needs}
 use lib.ListN.{length}
 use Rattle.complex.specs.Matrices.{entryAt}
 use Rattle.gauss_jordan.proofs.Passed.{RowsPassed, rows-none, rows-more}
 use Rattle.complex.proofs.Matrices.{grid-ext}
-use Rattle.gauss_jordan.specs.Work.{Block, beyond}
+use Rattle.gauss_jordan.specs.Work.{beyond}
 use Rattle.gauss_jordan.proofs.blocks.take.Statement.{statement}
 use Rattle.gauss_jordan.proofs.blocks.take.Tie as tie
 

@@ -1,6 +1,6 @@
 -- `solver::elimination::clear_column` meets its contract.
 -- Assumes nothing.
-use mathlib.Core.Path.{_≡_, _∙_}
+use mathlib.Core.Path.{_∙_}
 use Prim.Native.Nat.{ℕ, _≤_, _<_}
 use native.Mathlib.Omega.{arith}
 use borrow.Author.Needs.{needs}
@@ -8,7 +8,6 @@ use Rattle.complex.specs.Entries.{entry}
 use Rattle.complex.specs.Matrices.{entryAt}
 use Rattle.gauss_jordan.specs.GaussJordan.{scaled, cleared}
 use Rattle.gauss_jordan.specs.Solving.{operations}
-use Rattle.gauss_jordan.specs.Work.{Augmented}
 use Rattle.gauss_jordan.proofs.GaussJordan.{reduced-same}
 use Rattle.gauss_jordan.proofs.RowParts.{scaled-is, row-put}
 use Rattle.gauss_jordan.proofs.elimination.clear_column.Statement.{statement}

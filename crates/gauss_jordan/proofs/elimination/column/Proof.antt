@@ -1,6 +1,6 @@
 -- `solver::elimination::column` meets its contract.
 -- Assumes nothing.
-use mathlib.Core.Path.{_≡_, _∙_}
+use mathlib.Core.Path.{_∙_}
 use mathlib.Core.Bool.{true, false}
 use Prim.Native.Nat.{ℕ, _<_}
 use borrow.Author.Needs.{needs}
@@ -9,7 +9,6 @@ use Rattle.complex.specs.Entries.{entry}
 use Rattle.complex.specs.Matrices.{entryAt}
 use Rattle.gauss_jordan.specs.GaussJordan.{pivoted}
 use Rattle.gauss_jordan.specs.Solving.{operations}
-use Rattle.gauss_jordan.specs.Work.{Column}
 use Rattle.gauss_jordan.proofs.GaussJordan.{cleared-same}
 use Rattle.gauss_jordan.proofs.Columns.{placed, weighed}
 use Rattle.gauss_jordan.proofs.elimination.column.Statement.{statement}

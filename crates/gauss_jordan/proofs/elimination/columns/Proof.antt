@@ -1,16 +1,15 @@
 -- `solver::elimination::columns` meets its contract. The invariant: the run from column c on, over what the slice holds, ends as the whole run.
 -- Assumes nothing.
-use mathlib.Core.Path.{_≡_, refl, sym, ap, _∙_}
+use mathlib.Core.Path.{_≡_, sym, ap, _∙_}
 use mathlib.Core.Bool.{Bool, true, false, cond}
-use Prim.Native.Nat.{ℕ, _+_, _*_, _-_, _≤_, _<_}
+use Prim.Native.Nat.{ℕ, _*_, _-_, _≤_, _<_}
 use native.Mathlib.Omega.{arith}
 use lib.ListN.{length}
 use borrow.Author.Needs.{needs}
-use Rattle.complex.specs.Matrices.{entryAt, grid}
+use Rattle.complex.specs.Matrices.{entryAt}
 use Rattle.complex.proofs.Matrices.{grid-ext}
-use Rattle.gauss_jordan.specs.GaussJordan.{Run, pivoted, cleared, runFrom, run}
+use Rattle.gauss_jordan.specs.GaussJordan.{pivoted, cleared, runFrom, run}
 use Rattle.gauss_jordan.specs.Solving.{operations}
-use Rattle.gauss_jordan.specs.Work.{Augmented, Column}
 use Rattle.gauss_jordan.proofs.GaussJordan.{Same, run-first, run-stops, run-goes-on, run-ends}
 use Rattle.gauss_jordan.proofs.elimination.columns.Statement.{statement}
 use Rattle.gauss_jordan.proofs.elimination.columns.Tie as tie

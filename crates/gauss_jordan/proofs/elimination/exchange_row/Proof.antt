@@ -1,11 +1,10 @@
 -- `solver::elimination::exchange_row` meets its contract.
 -- Assumes nothing.
-use mathlib.Core.Path.{_≡_, ap, sym, _∙_}
+use mathlib.Core.Path.{ap, _∙_}
 use mathlib.Core.List.{List}
 use Prim.Native.Nat.{ℕ, _+_, _*_, _-_, _<_}
 use native.Mathlib.Omega.{arith}
 use borrow.Author.Needs.{needs}
-use lib.ListN.{length, take, drop}
 use lib.Ieee.{Float}
 use Rattle.complex.specs.Entries.{entry}
 use Rattle.complex.specs.Matrices.{entryAt}

@@ -1,16 +1,12 @@
 -- `solver::elimination::pivot_row` meets its contract. The invariant: what weighing the rows from `next` on would hold is the pivot's row.
 -- Assumes nothing.
-use mathlib.Core.Path.{_≡_, refl, ap, sym, _∙_}
-use Prim.Native.Nat.{ℕ, suc, _+_, _-_, _≤_, _<_}
-use native.Mathlib.Numerals.{add-one}
+use mathlib.Core.Path.{_≡_, _∙_}
+use Prim.Native.Nat.{_-_, _≤_, _<_}
 use native.Mathlib.Omega.{arith}
-use lib.ListN.{length}
 use borrow.Author.Needs.{needs}
-use Rattle.complex.specs.declared.Complex.{Complex}
 use Rattle.complex.specs.Matrices.{entryAt}
 use Rattle.gauss_jordan.specs.GaussJordan.{heldAfter, pivotRow}
 use Rattle.gauss_jordan.specs.Solving.{operations}
-use Rattle.gauss_jordan.specs.Work.{Augmented}
 use Rattle.gauss_jordan.proofs.GaussJordan.{held-first, held-next, held-last, kept-below}
 use Rattle.gauss_jordan.proofs.elimination.pivot_row.Statement.{statement}
 use Rattle.gauss_jordan.proofs.elimination.pivot_row.Tie as tie

@@ -1,16 +1,13 @@
 -- `solver::elimination::read_row` meets its contract.
 -- Assumes nothing.
-use mathlib.Core.Path.{_≡_, ap, sym, _∙_}
+use mathlib.Core.Path.{ap, _∙_}
 use mathlib.Core.List.{List}
 use Prim.Native.Nat.{ℕ, _+_, _*_, _-_, _<_}
 use native.Mathlib.Omega.{arith}
 use borrow.Author.Needs.{needs}
-use lib.ListN.{length, take, drop}
 use lib.Ieee.{Float}
 use Rattle.complex.specs.Entries.{entry}
-use Rattle.complex.specs.Matrices.{entryAt}
-use Rattle.complex.proofs.Parts.{back}
-use Rattle.gauss_jordan.proofs.RowParts.{row-end, row-read, row-written}
+use Rattle.gauss_jordan.proofs.RowParts.{row-end, row-read}
 use Rattle.gauss_jordan.proofs.elimination.read_row.Statement.{statement}
 use Rattle.gauss_jordan.proofs.elimination.read_row.Tie as tie
 

@@ -1,13 +1,13 @@
 -- `solver::elimination::reduce_others` meets its contract. The invariant: the rows before row i are reduced, the others as they were.
 -- Assumes nothing.
-use mathlib.Core.Path.{_≡_, refl, sym, _∙_}
-use Prim.Native.Nat.{ℕ, _+_, _*_, _-_, _≤_, _<_}
+use mathlib.Core.Path.{_≡_, sym, _∙_}
+use Prim.Native.Nat.{ℕ, _*_, _-_, _≤_, _<_}
 use native.Mathlib.Omega.{arith}
 use lib.ListN.{length}
 use borrow.Author.Needs.{needs}
 use Rattle.complex.specs.Entries.{entry}
 use Rattle.complex.specs.Matrices.{entryAt}
-use Rattle.gauss_jordan.specs.Work.{Augmented, reducedRow}
+use Rattle.gauss_jordan.specs.Work.{reducedRow}
 use Rattle.gauss_jordan.proofs.Passed.{RowsPassed, rows-none, rows-more}
 use Rattle.gauss_jordan.proofs.RowParts.{same-row, reduced-is}
 use Rattle.gauss_jordan.proofs.elimination.reduce_others.Statement.{statement}

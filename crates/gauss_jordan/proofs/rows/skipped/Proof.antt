@@ -1,6 +1,6 @@
 -- `solver::rows::skipped` meets its contract. Both parts are tested.
 -- Assumes nothing.
-use mathlib.Core.Path.{_≡_, refl, ap}
+use mathlib.Core.Path.{_≡_, ap}
 use mathlib.Core.Bool.{Bool, true, false, _&&_}
 use lib.Ieee.{Float, lt}
 use borrow.Author.Needs.{needs}

@@ -1,6 +1,6 @@
 -- `equivalents::impedance::between` meets its contract: the front of y is the matrix, and the work slice is cleared.
 -- Assumes nothing.
-use mathlib.Core.Path.{_≡_, refl, sym, ap, ap₂, _∙_}
+use mathlib.Core.Path.{_≡_, ap, ap₂, _∙_}
 use mathlib.Core.Bool.{Bool}
 use Prim.Native.Nat.{ℕ, _+_, _*_, _-_, _≤_, _<_}
 use native.Mathlib.Nat.{sub-zero, zero-add}
@@ -14,8 +14,8 @@ use Rattle.complex.specs.Matrices.{Matrix, entryAt, zeros}
 use Rattle.complex.proofs.Parts.{back, length-back}
 use Rattle.complex.proofs.Matrices.{entry-within}
 use Rattle.refusals.specs.Refusals.{limit, refuse, smallPivot}
-use Rattle.gauss_jordan.specs.Solving.{singular, inverse}
-use Rattle.kron_core.specs.Reading.{across, impedance}
+use Rattle.gauss_jordan.specs.Solving.{inverse}
+use Rattle.kron_core.specs.Reading.{impedance}
 use Rattle.kron_core.proofs.Calls.{entryAt-take}
 use Rattle.kron_core.proofs.Across.{singular-same, inverse-same, across-same}
 use Rattle.kron_core.proofs.thevenin.between.Statement.{statement}

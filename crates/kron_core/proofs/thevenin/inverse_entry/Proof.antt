@@ -1,8 +1,6 @@
 -- `equivalents::impedance::inverse_entry` meets its contract.
 -- Assumes nothing.
-use Prim.Native.Nat.{_+_, _*_}
 use native.Mathlib.Omega.{arith}
-use borrow.Author.Needs.{needs}
 use Rattle.complex.specs.Matrices.{entryAt}
 use Rattle.refusals.specs.Refusals.{limit}
 use Rattle.gauss_jordan.specs.Work.{beyond}

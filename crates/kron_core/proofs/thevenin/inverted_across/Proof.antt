@@ -1,7 +1,6 @@
 -- `equivalents::impedance::inverted_across` meets its contract: the columns beyond the matrix are its inverse's.
 -- Assumes nothing.
 use mathlib.Core.Path.{_≡_, refl, sym, ap, _∙_}
-use mathlib.Core.Bool.{true, false}
 use Prim.Native.Nat.{ℕ, _+_, _<_}
 use native.Mathlib.Omega.{arith}
 use borrow.Author.Needs.{needs}
@@ -11,7 +10,7 @@ use Rattle.gauss_jordan.specs.Solving.{singular, inverse, unitColumn}
 use Rattle.gauss_jordan.specs.Work.{beyond}
 use Rattle.gauss_jordan.proofs.Solutions.{singular-is, solution-is}
 use Rattle.kron_core.specs.declared.Impedance.the-variants.{Value}
-use Rattle.kron_core.specs.Reading.{across, impedance}
+use Rattle.kron_core.specs.Reading.{impedance}
 use Rattle.kron_core.proofs.Across.{across-same}
 use Rattle.kron_core.proofs.thevenin.inverted_across.Statement.{statement}
 use Rattle.kron_core.proofs.thevenin.inverted_across.Tie as tie

@@ -1,8 +1,8 @@
 -- `lines::print::print` meets its contract: one text for each end.
 -- Assumes nothing.
-use mathlib.Core.Path.{_≡_, sym, ap, subst}
+use mathlib.Core.Path.{subst}
 use Rattle.lines.specs.declared.read.End.{End}
-use Rattle.words.specs.Writing.{Room, Wrote}
+use Rattle.words.specs.Writing.{Room}
 use Rattle.lines.specs.Printing.{textOf, badText}
 use borrow.Author.Needs.{needs}
 use Rattle.lines.proofs.print.print.Statement.{statement}

@@ -5,7 +5,7 @@ use mathlib.Core.Path.{_≡_, refl, _∙_}
 use native.Mathlib.Omega.{arith}
 use lib.ListN.{length}
 use Rattle.words.specs.Writing.{Wrote}
-use Rattle.lines.specs.Printing.{entryLine, entryLines}
+use Rattle.lines.specs.Printing.{entryLines}
 use Rattle.words.proofs.Writing.{nothing}
 use Rattle.lines.proofs.PrintLaws.{entry-room, entry-more}
 use Rattle.lines.proofs.print.put_entries.Statement.{statement}

@@ -1,13 +1,8 @@
 -- `lines::print::put_entry` meets its contract: word, space, word and line feed, one behind the other.
 -- Assumes nothing.
-use Prim.Native.Nat.{ℕ, _+_}
-use mathlib.Core.Path.{_≡_, _∙_}
-use mathlib.Core.List.{_∷_, [], _++_}
 use native.Mathlib.Omega.{arith}
-use lib.ListN.{length, length-append}
 use borrow.Author.Needs.{needs}
-use Rattle.words.specs.Words.{hex}
-use Rattle.lines.specs.Printing.{toWord, entryLine}
+use Rattle.lines.specs.Printing.{entryLine}
 use Rattle.words.proofs.Writing.{then₄}
 use Rattle.words.proofs.WordLaws.{length-hex}
 use Rattle.lines.proofs.PrintLaws.{length-entry-line}

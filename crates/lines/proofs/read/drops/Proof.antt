@@ -5,7 +5,7 @@ use mathlib.Core.Path.{_≡_, refl, sym, ap, _∙_}
 use native.Mathlib.Omega.{arith}
 use lib.ListN.{length, drop, length-drop}
 use borrow.Author.Needs.{needs}
-use Rattle.lines.specs.Lines.{lines, span}
+use Rattle.lines.specs.Lines.{lines}
 use Rattle.lines.specs.Reading.{drops}
 use Rattle.lines.proofs.LineLaws.{span-le}
 use Rattle.lines.proofs.ReadLaws.{drops-end, drops-bad, drops-refused, drops-done, ran}

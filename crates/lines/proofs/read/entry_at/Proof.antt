@@ -1,11 +1,9 @@
 -- `lines::read::entry_at` meets its contract.
 -- Assumes nothing.
-use Prim.Native.Nat.{ℕ, _-_}
-use mathlib.Core.Path.{_≡_, sym, ap, _∙_}
+use mathlib.Core.Path.{sym, ap, _∙_}
 use native.Mathlib.Omega.{arith}
-use lib.ListN.{length, take, drop, length-drop, drop-of-length-le}
-use Rattle.words.specs.Bytes.{Bytes}
-use Rattle.lines.specs.Lines.{span, lineAt, entryOf}
+use lib.ListN.{drop, length-drop}
+use Rattle.lines.specs.Lines.{entryOf}
 use Rattle.lines.proofs.LineLaws.{span-le}
 use Rattle.lines.proofs.ReadLaws.{entry-over, part-is}
 use borrow.Author.Needs.{needs}

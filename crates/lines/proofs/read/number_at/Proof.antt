@@ -1,9 +1,9 @@
 -- `lines::read::number_at` meets its contract.
 -- Assumes nothing.
-use mathlib.Core.Path.{_≡_, ap, _∙_}
+use mathlib.Core.Path.{ap, _∙_}
 use native.Mathlib.Omega.{arith}
 use lib.ListN.{drop, length-drop}
-use Rattle.lines.specs.Lines.{span, numberAfter}
+use Rattle.lines.specs.Lines.{numberAfter}
 use Rattle.lines.proofs.LineLaws.{span-le}
 use Rattle.lines.proofs.ReadLaws.{part-is}
 use borrow.Author.Needs.{needs}

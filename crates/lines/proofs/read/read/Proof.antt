@@ -1,11 +1,11 @@
 -- `lines::read::read` meets its contract: the first line, then the rest.
 -- Assumes nothing.
 use Prim.Native.Nat.{ℕ, _+_, _*_}
-use mathlib.Core.Path.{_≡_, refl, sym, ap, _∙_}
+use mathlib.Core.Path.{refl, sym, ap, _∙_}
 use mathlib.Core.List.{[]}
 use native.Mathlib.Omega.{arith}
-use lib.ListN.{length, drop, length-drop}
-use Rattle.lines.specs.Lines.{lines, span}
+use lib.ListN.{drop, length-drop}
+use Rattle.lines.specs.Lines.{lines}
 use Rattle.lines.specs.Reading.{most, entries}
 use Rattle.lines.proofs.LineLaws.{span-le}
 use Rattle.lines.proofs.ReadLaws.{ran-in, ran-as, ran-same, run-none, run-bad, run-over, run-go}

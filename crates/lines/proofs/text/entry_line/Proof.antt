@@ -1,6 +1,5 @@
 -- `lines::text::entry_line` meets its contract: the length, the space, and the two words on both sides of it.
 -- Assumes nothing.
-use Prim.Native.Nat.{ℕ}
 use mathlib.Core.Path.{_≡_, sym, ap, _∙_}
 use native.Mathlib.Omega.{arith}
 use lib.ListN.{length, take, drop, length-drop}

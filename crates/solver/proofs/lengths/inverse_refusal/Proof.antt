@@ -1,9 +1,6 @@
 -- `solver::lengths::inverse_refusal` meets its contract. Each return has the tests that led there.
 -- Assumes nothing.
-use mathlib.Core.Path.{_≡_, refl}
-use Prim.Native.Nat.{_+_, _*_}
 use native.Mathlib.Omega.{arith}
-use borrow.Author.Needs.{needs}
 use borrow.Author.Tests.{lt-ltb, le-ltb, eq-eqb, ne-eqb}
 use Rattle.refusals.specs.Refusals.{limit}
 use Rattle.solver.specs.Calls.{inverseRefusal}

@@ -1,6 +1,6 @@
 -- `solver::solving::fill_system` meets its contract.
 -- Assumes nothing.
-use mathlib.Core.Path.{_≡_, _∙_}
+use mathlib.Core.Path.{_∙_}
 use Prim.Native.Nat.{ℕ, _+_, _<_}
 use borrow.Author.Needs.{needs}
 use Rattle.complex.specs.Matrices.{entryAt}

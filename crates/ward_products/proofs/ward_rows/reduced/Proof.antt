@@ -1,22 +1,13 @@
 -- `ward_products::ward_rows::reduced` meets its contract. The invariant: the rows before row p are reduced, the others as they were.
 -- Assumes nothing.
-use mathlib.Core.Path.{_≡_, refl, sym, ap, subst, _∙_}
-use mathlib.Core.Bool.{true, false}
-use mathlib.Core.List.{List}
-use Prim.Native.Nat.{ℕ, suc, _+_, _*_, _-_, _≤_, _<_}
+use mathlib.Core.Path.{_≡_, refl, sym, _∙_}
+use Prim.Native.Nat.{ℕ, _*_, _-_, _≤_, _<_}
 use native.Mathlib.Omega.{arith}
-use lib.ListN.{length, getD, take, drop, length-set}
-use lib.Ieee.{Float, nan}
+use lib.ListN.{length, getD}
 use borrow.Author.Needs.{needs}
-use Rattle.complex.specs.declared.Complex.{Complex}
-use Rattle.complex.specs.Arithmetic.{cadd, csub, cmul}
-use Rattle.complex.specs.Entries.{entry, put}
-use Rattle.complex.specs.Matrices.{entryAt, row}
-use Rattle.complex.proofs.Matrices.{length-zeros}
-use Rattle.gauss_jordan.proofs.RowParts.{row-end, length-part}
+use Rattle.complex.specs.Matrices.{entryAt}
 use Rattle.gauss_jordan.proofs.Passed.{RowsPassed, rows-none, rows-more}
-use Rattle.ward_products.specs.WardWork.{Listing, Rows, productTo, product, lessProduct}
-use Rattle.ward_products.proofs.WardPlaces.{listed-below, row-became, cleared-row}
+use Rattle.ward_products.specs.WardWork.{lessProduct}
 use Rattle.ward_products.proofs.ward_rows.reduced.Statement.{statement}
 use Rattle.ward_products.proofs.ward_rows.reduced.Tie as tie
 

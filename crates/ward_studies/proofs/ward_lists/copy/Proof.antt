@@ -1,10 +1,9 @@
 -- `equivalents::ward_lists::copy` meets its contract. The invariant: what stands before i is copied.
 -- Assumes nothing.
-use mathlib.Core.Path.{_≡_, refl, sym, ap, _∙_}
-use mathlib.Core.Bool.{true, false}
-use Prim.Native.Nat.{ℕ, _+_, _-_, _≤_, _<_}
+use mathlib.Core.Path.{_≡_, refl, _∙_}
+use Prim.Native.Nat.{_-_, _≤_}
 use native.Mathlib.Omega.{arith}
-use lib.ListN.{length, getD, take, drop, length-set}
+use lib.ListN.{length, getD, take, length-set}
 use borrow.Author.Needs.{needs}
 use Rattle.ward_studies.proofs.Scans.{copied-more, copied-all}
 use Rattle.ward_studies.proofs.ward_lists.copy.Statement.{statement}

@@ -1,16 +1,11 @@
 -- `equivalents::ward_lists::repeats` meets its contract. The invariant: whether a bus stands twice is whether one does from i on.
 -- Assumes nothing.
-use mathlib.Core.Path.{_≡_, refl, sym, ap, subst, _∙_}
-use mathlib.Core.Bool.{true, false}
-use mathlib.Core.List.{List}
-use Prim.Native.Nat.{ℕ, suc, _+_, _*_, _-_, _≤_, _<_}
+use mathlib.Core.Path.{sym, ap, _∙_}
+use mathlib.Core.Bool.{true}
+use Prim.Native.Nat.{_+_, _-_, _≤_}
 use native.Mathlib.Omega.{arith}
-use lib.ListN.{length, getD, take, drop, length-set}
-use lib.Ieee.{Float, nan}
+use lib.ListN.{length, getD, drop}
 use borrow.Author.Needs.{needs}
-use Rattle.complex.specs.declared.Complex.{Complex}
-use lib.ListN.{length-drop}
-use lib.Seq.{take-all}
 use Rattle.buses.specs.Buses.{mem}
 use Rattle.ward_studies.specs.Ward.{repeats}
 use Rattle.ward_studies.proofs.Scans.{Scan, scan-start, scan-more, scan-stop, scan-end, repeats-here, repeats-past, rest-is}

@@ -1,13 +1,13 @@
 -- `words::print::put` meets its contract: the bytes passed are written.
 -- Assumes nothing.
 use Prim.Native.Nat.{_+_, _-_, _≤_}
-use mathlib.Core.Path.{_≡_, refl, ap}
+use mathlib.Core.Path.{_≡_, refl}
 use native.Mathlib.Omega.{arith}
 use native.Mathlib.Nat.{add-zero}
-use lib.ListN.{length, take, set, length-set}
-use lib.Seq.{length-take-le, take-all}
+use lib.ListN.{length, take, length-set}
+use lib.Seq.{take-all}
 use Rattle.words.specs.Writing.{Wrote}
-use Rattle.words.proofs.Writing.{nothing, next-byte, wrote-length}
+use Rattle.words.proofs.Writing.{nothing, next-byte}
 use Rattle.words.proofs.print.put.Statement.{statement}
 use Rattle.words.proofs.print.put.Tie as tie
 

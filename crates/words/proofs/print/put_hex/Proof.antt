@@ -1,7 +1,7 @@
 -- `words::print::put_hex` meets its contract.
 -- Assumes nothing.
 use Prim.Native.Nat.{ℕ, _+_}
-use mathlib.Core.Path.{_≡_, sym, ap}
+use mathlib.Core.Path.{sym, ap}
 use native.Mathlib.Omega.{arith}
 use Rattle.words.specs.Words.{hex}
 use Rattle.words.proofs.WordLaws.{length-hex}

@@ -1,11 +1,10 @@
 -- `words::print::spell` meets its contract: with the digits of the rest in their places, the number would be written.
 -- Assumes nothing.
-use Prim.Native.Nat.{ℕ, suc, _+_, _-_, _≤_}
+use Prim.Native.Nat.{ℕ, suc, _-_, _≤_}
 use mathlib.Core.Path.{_≡_, refl, sym, ap, _∙_}
 use native.Mathlib.Omega.{arith}
 use native.Mathlib.Nat.{mod-lt}
-use lib.ListN.{length, set, length-set}
-use borrow.Author.Needs.{needs}
+use lib.ListN.{length, length-set}
 use Rattle.words.specs.Words.{digits}
 use Rattle.words.specs.Writing.{written}
 use Rattle.words.proofs.Writing.{written-nil, next-digit}
