@@ -1,12 +1,6 @@
 // The twelve cases, each run through the library. Outputs and work slices hold ones before a call.
 // Each answers 1 where what is seen is what the table says, else 0.
 use crate::table;
-use crate::words::put;
-use crate::words::put_complex;
-use crate::words::put_numbers;
-use crate::words::put_outcome;
-use crate::words::put_reducer;
-use crate::words::report;
 use complex::Complex;
 use complex::words::of_word;
 use complex::words::to_word;
@@ -15,6 +9,12 @@ use equivalents::kron::Impedance;
 use equivalents::kron::KronReducer;
 use equivalents::ward;
 use equivalents::ward::WardAnswer;
+use seen::put;
+use seen::put_complex;
+use seen::put_numbers;
+use seen::put_outcome;
+use seen::put_reducer;
+use seen::report;
 ghost use Prim.Native.Nat.{_≤_};
 
 // More words than any case has.

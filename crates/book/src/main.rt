@@ -3,7 +3,6 @@ use libc::STDOUT_FILENO;
 
 mod cases;
 mod table;
-mod words;
 
 fn main() {
     let agree = cases::case_1() + cases::case_2() + cases::case_3() + cases::case_4();

@@ -1,4 +1,4 @@
--- `book::words::report` meets its contract.
+-- `seen::report` meets its contract.
 -- Assumes nothing.
 use mathlib.Core.Path.{_≡_, subst}
 use Prim.Native.Nat.{ℕ}
@@ -7,8 +7,8 @@ use native.Mathlib.Nat.{sub-zero}
 use lib.ListN.{take}
 use native.Mathlib.Omega.{arith}
 use borrow.Author.Needs.{needs}
-use Rattle.book.proofs.words.report.Statement.{statement}
-use Rattle.book.proofs.words.report.Tie as tie
+use Rattle.seen.proofs.report.Statement.{statement}
+use Rattle.seen.proofs.report.Tie as tie
 
 unlike : {X : Type 0} → _≡_ {A = ℕ} 0 1 → X
 unlike e = absurd (subst (λ (n : ℕ). T (eqb n 0)) e tt)

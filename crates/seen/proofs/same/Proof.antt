@@ -1,4 +1,4 @@
--- `book::words::same` meets its contract: below i the two agree.
+-- `seen::same` meets its contract: below i the two agree.
 -- Assumes nothing.
 use mathlib.Core.Path.{_≡_, refl, sym, ap, subst}
 use mathlib.Core.Bool.{true, false}
@@ -11,8 +11,8 @@ use borrow.Author.Count.{below-none, below-more}
 use lib.Dec.{T}
 use lib.ListN.{length, getD}
 use lib.Seq.{ext-getD}
-use Rattle.book.proofs.words.same.Statement.{statement}
-use Rattle.book.proofs.words.same.Tie as tie
+use Rattle.seen.proofs.same.Statement.{statement}
+use Rattle.seen.proofs.same.Tie as tie
 
 abbrev Alike : List ℕ → List ℕ → ℕ → Type 0
 Alike a b k = getD a k 0 ≡ getD b k 0

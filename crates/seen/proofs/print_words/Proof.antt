@@ -1,12 +1,10 @@
--- `book::words::print_words` is safe and ends.
+-- `seen::print_words` is safe and ends.
 -- Assumes nothing.
-use mathlib.Core.Path.{_≡_, refl}
 use Prim.Native.Nat.{_-_, _≤_}
-use native.Mathlib.Omega.{arith}
 use borrow.Author.Needs.{needs}
 use lib.ListN.{length}
-use Rattle.book.proofs.words.print_words.Statement.{statement}
-use Rattle.book.proofs.words.print_words.Tie as tie
+use Rattle.seen.proofs.print_words.Statement.{statement}
+use Rattle.seen.proofs.print_words.Tie as tie
 
 abbrev Inv-loop : tie.InvT-loop
 Inv-loop ws i₀ i = i ≤ length ws

@@ -1,12 +1,12 @@
--- `book::words::verdict` meets its contract.
+-- `seen::verdict` meets its contract.
 -- Assumes nothing.
 use mathlib.Core.Path.{_≡_, subst}
 use Prim.Native.Nat.{ℕ}
 use lib.Dec.{T, eqb}
 use native.Mathlib.Omega.{arith}
 use borrow.Author.Needs.{needs}
-use Rattle.book.proofs.words.verdict.Statement.{statement}
-use Rattle.book.proofs.words.verdict.Tie as tie
+use Rattle.seen.proofs.verdict.Statement.{statement}
+use Rattle.seen.proofs.verdict.Tie as tie
 
 unlike : {X : Type 0} → _≡_ {A = ℕ} 0 1 → X
 unlike e = absurd (subst (λ (n : ℕ). T (eqb n 0)) e tt)

@@ -1,16 +1,23 @@
 // What is seen of a call, as words in a slice of u64: put there one after the other, compared, and printed.
 use complex::Complex;
 use complex::words::to_word;
+use entry_slices::outcomes::number;
 use equivalents::kron::KronReducer;
 use libc::STDOUT_FILENO;
 use refusals::Outcome;
 ghost use mathlib.Core.Path.{_≡_};
 ghost use mathlib.Core.Bool.{true};
+ghost use mathlib.Core.List.{[], _∷_};
 ghost use Prim.Native.Nat.{_≤_};
 ghost use lib.ListN.{take};
+ghost use lib.Ieee.{binary64, toBits};
+ghost use Rattle.refusals.specs.Refusals as refusals;
+ghost use Rattle.seen.specs.Seen as spec;
 
 // Each `put` writes from an index on, as far as there is room, and answers the next index.
-pub fn put(seen: &mut [u64], at: usize, w: u64) -> usize {
+pub fn put(seen: &mut [u64], at: usize, w: u64) -> usize
+    ensures { λ r. ⌜ spec.upTo (now (seen .exit)) r ≡ spec.put (spec.upTo (now (seen .entry)) at) w ⌝ }
+{
     if at < seen.len() {
         seen[at] = w;
         return at + 1;
@@ -18,7 +25,9 @@ pub fn put(seen: &mut [u64], at: usize, w: u64) -> usize {
     at
 }
 
-pub fn put_numbers(seen: &mut [u64], at: usize, xs: &[f64]) -> usize {
+pub fn put_numbers(seen: &mut [u64], at: usize, xs: &[f64]) -> usize
+    ensures { λ r. ⌜ spec.upTo (now (seen .exit)) r ≡ spec.putAll (spec.upTo (now (seen .entry)) at) (spec.bitsOf (now (xs .entry))) ⌝ }
+{
     let mut next = at;
     let mut i = 0;
     while i < xs.len() {
@@ -28,20 +37,23 @@ pub fn put_numbers(seen: &mut [u64], at: usize, xs: &[f64]) -> usize {
     next
 }
 
-pub fn put_complex(seen: &mut [u64], at: usize, z: Complex) -> usize {
+pub fn put_complex(seen: &mut [u64], at: usize, z: Complex) -> usize
+    ensures { λ r. ⌜ spec.upTo (now (seen .exit)) r ≡ spec.putAll (spec.upTo (now (seen .entry)) at) (toBits binary64 (z .re) ∷ toBits binary64 (z .im) ∷ []) ⌝ }
+{
     let next = put(seen, at, to_word(z.re));
     put(seen, next, to_word(z.im))
 }
 
-pub fn put_outcome(seen: &mut [u64], at: usize, o: Outcome) -> usize {
-    match o {
-        Outcome::Done => put(seen, at, 0),
-        Outcome::Refused(k) => put(seen, at, k as u64),
-    }
+pub fn put_outcome(seen: &mut [u64], at: usize, o: Outcome) -> usize
+    ensures { λ r. ⌜ spec.upTo (now (seen .exit)) r ≡ spec.put (spec.upTo (now (seen .entry)) at) (refusals.number o) ⌝ }
+{
+    put(seen, at, number(o) as u64)
 }
 
-// The first n of the buses.
-fn put_buses(seen: &mut [u64], at: usize, buses: &[usize], n: usize) -> usize {
+// The first n of the buses, all where n is more than they are.
+fn put_buses(seen: &mut [u64], at: usize, buses: &[usize], n: usize) -> usize
+    ensures { λ r. ⌜ spec.upTo (now (seen .exit)) r ≡ spec.putAll (spec.upTo (now (seen .entry)) at) (take n (now (buses .entry))) ⌝ }
+{
     let mut next = at;
     let mut i = 0;
     while i < n {
@@ -55,7 +67,9 @@ fn put_buses(seen: &mut [u64], at: usize, buses: &[usize], n: usize) -> usize {
 }
 
 // The size at making, the present size, the active buses.
-pub fn put_reducer(seen: &mut [u64], at: usize, r: KronReducer) -> usize {
+pub fn put_reducer(seen: &mut [u64], at: usize, r: KronReducer) -> usize
+    ensures { λ i. ⌜ spec.upTo (now (seen .exit)) i ≡ spec.putAll (spec.upTo (now (seen .entry)) at) (spec.reducerWords r) ⌝ }
+{
     let n = r.n_buses;
     let active = r.active_buses;
     let next = put(seen, at, r.made as u64);
