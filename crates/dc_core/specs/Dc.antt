@@ -37,6 +37,11 @@ unfoldable pub counted : ℕ → ℕ → Retained
 counted zero count = Count count
 counted (suc f) count = Refused (suc f)
 
+-- the number of an answer
+unfoldable pub number : Retained → ℕ
+number (Count n) = 0
+number (Refused k) = k
+
 -- what `retained_buses` answers, and what its output slice holds, `held` at entry
 unfoldable pub retainedAnswer : ℕ → List ℕ → List ℕ → Retained
 retainedAnswer n interior held = counted (retainedRefusal n interior (length held)) (length (kept n interior))

@@ -24,6 +24,16 @@ pub enum Retained {
     Refused(u32),
 }
 
+// The refusal's number, 0 where there is none.
+pub fn number_of(answer: Retained) -> u32
+    ensures { λ r. ⌜ r ≡ spec.number answer ⌝ }
+{
+    match answer {
+        Retained::Count(_) => 0,
+        Retained::Refused(k) => k,
+    }
+}
+
 // The buses below n that `interior` does not name, rising, with 0 behind them.
 pub fn retained_buses(n: usize, interior: &[usize], retained: &mut [usize]) -> Retained
     ensures answer { λ r. ⌜ r ≡ spec.retainedAnswer n (now (interior .entry)) (now (retained .entry)) ⌝ }

@@ -6,24 +6,21 @@ use lib.ListN.{length}
 use lib.Ieee.{Float}
 use Rattle.dc_core.specs.declared.Retained.{Retained}
 use Rattle.dc_core.specs.declared.Retained.the-variants.{Count, Refused}
+use Rattle.dc_core.specs.Dc as dc
 use Rattle.dc_core.specs.Dc.{retainedAnswer, retainedOutput, buildRefusal, builtOutput, lodfRefusal, lodfOutput}
 use Rattle.entry_slices.specs.Rooms.{listRoom, squareRoom}
 use Rattle.entry_slices.specs.Slices.{floatsIn, wordsIn, spare, misfit, told, storedFloats, storedWords}
 
 -- ---- retained_buses
 
--- the number of an answer, and its count
-unfoldable pub refusalOf : Retained → ℕ
-refusalOf (Count n) = 0
-refusalOf (Refused k) = k
-
+-- the count of an answer
 unfoldable pub countOf : Retained → ℕ
 countOf (Count n) = n
 countOf (Refused k) = 0
 
 -- The lists as the library is handed them, with over spare bytes beside; retained and count at entry, f is returned, and at the end.
 pub record KeptBy (n : ℕ) (interior held : List ℕ) (over : ℕ) (retained count : List ℕ) (f : ℕ) (retained′ count′ : List ℕ) : Type 0 where
-  pub number : f ≡ told over (refusalOf (retainedAnswer n interior held))
+  pub number : f ≡ told over (dc.number (retainedAnswer n interior held))
   pub buses : retained′ ≡ storedWords f (retainedOutput n interior held) retained
   pub counted : count′ ≡ storedWords f (countOf (retainedAnswer n interior held) ∷ []) count
 

@@ -2,6 +2,7 @@
 use dc_core::Retained;
 use dc_core::build_b_bus;
 use dc_core::lodf_matrix;
+use dc_core::number_of;
 use dc_core::retained_buses;
 use entry_slices::outcomes::number;
 use entry_slices::slices::load_floats;
@@ -14,15 +15,6 @@ ghost use mathlib.Core.Path.{_≡_};
 ghost use lib.ListN.{length};
 ghost use Rattle.dc_entries.specs.Dc as spec;
 ghost use Rattle.entry_slices.specs.Rooms.{listRoom, squareRoom};
-
-fn refusal_of(answer: Retained) -> u32
-    ensures { λ r. ⌜ r ≡ spec.refusalOf answer ⌝ }
-{
-    match answer {
-        Retained::Count(_) => 0,
-        Retained::Refused(k) => k,
-    }
-}
 
 fn count_of(answer: Retained) -> usize
     ensures { λ r. ⌜ r ≡ spec.countOf answer ⌝ }
@@ -44,7 +36,7 @@ fn keep(
     ensures { λ r. ⌜ spec.KeptBy n (now (interior .entry)) (now (kept .entry)) spare (now (retained .entry)) (now (count .entry)) r (now (retained .exit)) (now (count .exit)) ⌝ }
 {
     let answer = retained_buses(n, interior, kept);
-    let refusal = told(spare, refusal_of(answer));
+    let refusal = told(spare, number_of(answer));
     store_words(retained, kept, refusal);
     let counts = [count_of(answer)];
     store_words(count, &counts, refusal);

@@ -53,6 +53,11 @@ unfoldable pub impedance : ℕ → Complex → Impedance
 impedance zero z = Value z
 impedance (suc k) z = Refused (suc k)
 
+-- the number of an answer
+unfoldable pub number : Impedance → ℕ
+number (Value z) = 0
+number (Refused k) = k
+
 -- after an accepted input: 11 (the first bus, then the second), 13 or 0
 unfoldable pub impedanceRefusal : ℕ → List ℕ → Matrix → ℕ → ℕ → ℕ
 impedanceRefusal n xs Y i j =

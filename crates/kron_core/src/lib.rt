@@ -20,7 +20,7 @@ ghost use Rattle.complex.specs.Entries.{entry};
 ghost use Rattle.complex.specs.Matrices.{upTo, zeros};
 ghost use Rattle.refusals.specs.Refusals.{limit, outcome};
 ghost use Rattle.kron_rows.specs.Removal.{padded};
-ghost use Rattle.kron_core.specs.Reading.{readingRefusal, afterMatrix, afterImpedance};
+ghost use Rattle.kron_core.specs.Reading.{number, readingRefusal, afterMatrix, afterImpedance};
 ghost use Rattle.kron_core.specs.Reducer.{makingOf, recordOf, afterNew, sound, inputRefusal, afterBus, afterBuses};
 
 mod thevenin;
@@ -60,6 +60,16 @@ pub struct TakenAll {
 pub enum Impedance {
     Value(Complex),
     Refused(u32),
+}
+
+// The refusal's number, 0 where there is none.
+pub fn number_of(answer: Impedance) -> u32
+    ensures { λ r. ⌜ r ≡ number answer ⌝ }
+{
+    match answer {
+        Impedance::Value(_) => 0,
+        Impedance::Refused(k) => k,
+    }
 }
 
 // ---- making

@@ -8,6 +8,7 @@ use Rattle.complex.specs.Constants.{plus0}
 use Rattle.refusals.specs.Refusals.{number}
 use Rattle.kron_core.specs.declared.Impedance.{Impedance}
 use Rattle.kron_core.specs.declared.Impedance.the-variants.{Value, Refused}
+use Rattle.kron_core.specs.Reading as reading
 use Rattle.kron_core.specs.Reading.{AfterMatrix, afterMatrix, AfterImpedance, afterImpedance}
 use Rattle.entry_slices.specs.Rooms.{matrixRoom, pairRoom}
 use Rattle.entry_slices.specs.Slices.{floatsIn, spare, misfit, told, storedFloats, workAfter}
@@ -29,11 +30,7 @@ Shown rec y out =
 
 -- ---- thevenin_impedance
 
--- the number of an answer, and the two numbers of its value
-unfoldable pub refusalOf : Impedance → ℕ
-refusalOf (Value z) = 0
-refusalOf (Refused k) = k
-
+-- the two numbers of an answer's value
 unfoldable pub partsOf : Impedance → List Float
 unfolding plus0
 partsOf (Value z) = z .re ∷ z .im ∷ []
@@ -41,7 +38,7 @@ partsOf (Refused k) = plus0 ∷ plus0 ∷ []
 
 -- What the library leaves, with over spare bytes beside; work and z at entry, f is returned, and both at the end.
 pub record SeenBy (left : AfterImpedance) (over : ℕ) (work z : List ℕ) (f : ℕ) (work′ z′ : List ℕ) : Type 0 where
-  pub refused : f ≡ told over (refusalOf (left .answer))
+  pub refused : f ≡ told over (reading.number (left .answer))
   pub cleared : work′ ≡ workAfter f work
   pub value : z′ ≡ storedFloats f (partsOf (left .answer)) z
 

@@ -10,6 +10,7 @@ use entry_slices::slices::store_floats;
 use entry_slices::slices::told;
 use equivalents::kron::Impedance;
 use equivalents::kron::KronReducer;
+use equivalents::kron::number_of;
 use equivalents::kron::reduced_matrix;
 use equivalents::kron::thevenin_impedance;
 ghost use mathlib.Core.Path.{_≡_};
@@ -38,15 +39,6 @@ pub fn show_in(rec: &[u8], y: &[u8], out: &mut [u8], matrix: &mut [f64], rows: &
     show(r, &matrix[0..k], &mut rows[0..m], spare, out)
 }
 
-fn refusal_of(answer: Impedance) -> u32
-    ensures { λ r. ⌜ r ≡ spec.refusalOf answer ⌝ }
-{
-    match answer {
-        Impedance::Value(_) => 0,
-        Impedance::Refused(k) => k,
-    }
-}
-
 fn value_of(answer: Impedance) -> Complex
     ensures { λ r. ⌜ (r .re ∷ r .im ∷ []) ≡ spec.partsOf answer ⌝ }
 {
@@ -69,7 +61,7 @@ fn see(
     ensures { λ f. ⌜ spec.SeenBy (afterImpedance r (now (ys .entry)) «bus_i» «bus_j» (now (rows .entry))) spare (now (work .entry)) (now (z .entry)) f (now (work .exit)) (now (z .exit)) ⌝ }
 {
     let answer = thevenin_impedance(r, ys, bus_i, bus_j, rows);
-    let refusal = told(spare, refusal_of(answer));
+    let refusal = told(spare, number_of(answer));
     clear_work(work, refusal);
     let value = value_of(answer);
     let parts = [value.re, value.im];

@@ -1,4 +1,4 @@
--- What `rei::compute` answers and leaves where it is refused, and where it is not; and what no refusal tells of the lengths.
+-- What `rei::compute` answers and leaves where it is refused, and where it is not; the number of its answer; and what no refusal tells of the lengths.
 -- Assumes nothing.
 use mathlib.Core.Path.{_≡_, refl, sym, ap, _∙_}
 use mathlib.Core.Bool.{not, _&&_}
@@ -9,16 +9,26 @@ use lib.Ieee.{Float}
 use Rattle.complex.specs.Constants.{one}
 use Rattle.refusals.specs.Refusals.{limit}
 use Rattle.rei_core.specs.declared.ReiEquivalent.{ReiEquivalent}
+use Rattle.rei_core.specs.declared.ReiAnswer.{ReiAnswer}
 use Rattle.rei_core.specs.declared.ReiAnswer.the-variants.{Done, Refused}
 use Rattle.buses.specs.Limits.{over}
 use Rattle.rei_core.specs.ReiWriting.{TiesWritten}
-use Rattle.rei_core.specs.Rei.{Given, After, total, spokesOf, busesOf, sizeOf, tiesOf, tieRoom, sized, studyRefusal, refusalOf, equivalentOf, answered, unused}
+use Rattle.rei_core.specs.Rei.{Given, After, total, spokesOf, busesOf, sizeOf, tiesOf, tieRoom, sized, studyRefusal, refusalOf, equivalentOf, answered, number, unused}
 use Rattle.dc_core.proofs.Refusing.{passed, not-passed, both, over-none, held-refused}
 
 answered-refused : (f : ℕ) (e : ReiEquivalent) → (f ≡ 0 → ⊥) → answered f e ≡ Refused f
 unfolding answered
 answered-refused zero e h = absurd (h refl)
 answered-refused (suc f) e h = refl
+
+number-answered : (f : ℕ) (e : ReiEquivalent) → number (answered f e) ≡ f
+unfolding number answered
+number-answered zero e = refl
+number-answered (suc f) e = refl
+
+-- the number of the answer that carries a refusal is that refusal
+pub numbered : (f : ℕ) (e : ReiEquivalent) {r : ReiAnswer} → r ≡ answered f e → number r ≡ f
+numbered f e p = ap number p ∙ number-answered f e
 
 pub after-refused : (g : Given) (f : ℕ) → f ≡ refusalOf g → (f ≡ 0 → ⊥) → After g (Refused f) (g .spokeBuses) (g .spokes) (g .tieBuses) (g .ties)
 after-refused g f e h =

@@ -133,6 +133,11 @@ unfoldable pub answered : ℕ → ReiEquivalent → ReiAnswer
 answered zero e = Done e
 answered (suc f) e = Refused (suc f)
 
+-- the number of an answer
+unfoldable pub number : ReiAnswer → ℕ
+number (Done e) = 0
+number (Refused k) = k
+
 -- what an output slice holds at exit: as it was where the call is refused
 abbrev pub written : {A : Type 0} → Given → A → A → A
 written g new held = cond (eqb (refusalOf g) 0) new held

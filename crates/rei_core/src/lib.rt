@@ -38,6 +38,16 @@ pub enum ReiAnswer {
     Refused(u32),
 }
 
+// The refusal's number, 0 where there is none.
+pub fn number_of(answer: ReiAnswer) -> u32
+    ensures { λ r. ⌜ r ≡ spec.number answer ⌝ }
+{
+    match answer {
+        ReiAnswer::Done(_) => 0,
+        ReiAnswer::Refused(k) => k,
+    }
+}
+
 // The spokes stand in the order of the buses, generators first; the ties row by row, with zeros behind them, and their two buses beside.
 pub fn compute(
     generator_buses: &[usize],

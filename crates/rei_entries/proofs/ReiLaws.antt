@@ -1,6 +1,6 @@
--- The answer of a call with refusal k: its number, and its summary in bytes. And sums of spare bytes stay small.
+-- The answer of a call with refusal k: its summary in bytes. And sums of spare bytes stay small.
 -- Assumes nothing.
-use mathlib.Core.Path.{_≡_, refl, ap, _∙_}
+use mathlib.Core.Path.{_≡_, refl}
 use mathlib.Core.List.{List}
 use Prim.Native.Nat.{ℕ, zero, suc, _+_, _%_, _<_}
 use native.Mathlib.Omega.{arith}
@@ -9,15 +9,7 @@ use Rattle.rei_core.specs.declared.ReiAnswer.{ReiAnswer}
 use Rattle.rei_core.specs.Rei.{answered}
 use Rattle.entry_slices.specs.Slices.{told, storedWords}
 use Rattle.entry_slices.proofs.StoredLaws.{words-refused}
-use Rattle.rei_entries.specs.ReiCall.{numberOf, summaryWords, storedSummary}
-
-number-answered : (k : ℕ) (e : ReiEquivalent) → numberOf (answered k e) ≡ k
-unfolding numberOf answered
-number-answered zero e = refl
-number-answered (suc k) e = refl
-
-pub number-told : (k : ℕ) (e : ReiEquivalent) {r : ReiAnswer} → r ≡ answered k e → numberOf r ≡ k
-number-told k e p = ap numberOf p ∙ number-answered k e
+use Rattle.rei_entries.specs.ReiCall.{summaryWords, storedSummary}
 
 summary-of : (over k : ℕ) (e : ReiEquivalent) (bs : List ℕ) → storedSummary (told over k) (answered k e) bs ≡ storedWords (told over k) (summaryWords e) bs
 unfolding storedSummary answered

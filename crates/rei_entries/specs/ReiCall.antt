@@ -12,11 +12,6 @@ use Rattle.rei_core.specs.Rei.{Given, refusalOf, busesOf, spokesOf, tiesOf, tie
 use Rattle.entry_slices.specs.Rooms.{listRoom, vectorRoom, matrixRoom, tiesRoom}
 use Rattle.entry_slices.specs.Slices.{floatsIn, wordsIn, spare, misfit, told, storedFloats, storedWords}
 
--- the number of an answer
-unfoldable pub numberOf : ReiAnswer → ℕ
-numberOf (Done e) = 0
-numberOf (Refused k) = k
-
 -- the bus id, the voltage, P, Q and the count of ties, each in 8 bytes
 unfoldable pub summaryWords : ReiEquivalent → List ℕ
 summaryWords e =

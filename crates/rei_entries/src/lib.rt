@@ -9,21 +9,13 @@ use entry_slices::slices::told;
 use rei_core::ReiAnswer;
 use rei_core::ReiEquivalent;
 use rei_core::compute;
+use rei_core::number_of;
 ghost use mathlib.Core.Path.{_≡_};
 ghost use Prim.Native.Nat.{_<_};
 ghost use lib.ListN.{length};
 ghost use Rattle.rei_entries.specs.ReiCall as spec;
 ghost use Rattle.entry_slices.specs.Slices.{storedWords};
 ghost use Rattle.entry_slices.specs.Rooms.{listRoom, vectorRoom, matrixRoom, tiesRoom};
-
-fn number_of(answer: ReiAnswer) -> u32
-    ensures { λ r. ⌜ r ≡ spec.numberOf answer ⌝ }
-{
-    match answer {
-        ReiAnswer::Done(_) => 0,
-        ReiAnswer::Refused(k) => k,
-    }
-}
 
 fn store_equivalent(s: &mut [u8], e: ReiEquivalent, refusal: u32)
     ensures { λ _. ⌜ now (s .exit) ≡ storedWords refusal (spec.summaryWords e) (now (s .entry)) ⌝ }

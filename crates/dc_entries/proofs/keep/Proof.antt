@@ -7,8 +7,8 @@ use Rattle.dc_entries.proofs.keep.Tie as tie
 retained-buses-requires : tie.Need-retained-buses-requires
 retained-buses-requires c κs = search needs
 
-refusal-of-requires : tie.Need-refusal-of-requires
-refusal-of-requires c κs = search needs
+number-of-requires : tie.Need-number-of-requires
+number-of-requires c κs = search needs
 
 told-requires : tie.Need-told-requires
 told-requires c κs = search needs
@@ -37,7 +37,7 @@ same-length-3 c = search needs
 returns : tie.Need-returns
 returns c =
     let a = c .before .before .before .before .before .before .before .before .before .before .before .before .before .before .before .retained-buses .ensures in
-    let f = c .before .before .before .before .before .before .before .before .before .before .before .before .refusal-of .ensures in
+    let f = c .before .before .before .before .before .before .before .before .before .before .before .before .number-of .ensures in
     let t = c .before .before .before .before .before .before .before .before .before .before .before .told .ensures in
     let s = c .before .before .before .before .before .before .before .before .store-words .ensures in
     let n = c .before .before .before .before .before .count-of .ensures in
@@ -49,7 +49,7 @@ keep-spec =
     tie.close
     (tie.spec
     retained-buses-requires
-    refusal-of-requires
+    number-of-requires
     told-requires
     store-words-requires
     count-of-requires

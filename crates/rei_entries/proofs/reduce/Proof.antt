@@ -4,7 +4,8 @@ use mathlib.Core.Path.{ap, _∙_}
 use denote.Ref.{now}
 use Rattle.entry_slices.specs.Slices.{told}
 use Rattle.entry_slices.proofs.StoredLaws.{words-stored, floats-stored}
-use Rattle.rei_entries.proofs.ReiLaws.{number-told, summary-stored}
+use Rattle.rei_entries.proofs.ReiLaws.{summary-stored}
+use Rattle.rei_core.proofs.ReiAnswers.{numbered}
 use mathlib.Core.List.{_++_}
 use lib.ListN.{replicate}
 use Rattle.complex.specs.Matrices.{zeros}
@@ -17,7 +18,7 @@ use Rattle.entry_slices.proofs.slices.store_floats.Reads as store-floats-reads
 use Rattle.entry_slices.proofs.slices.store_words.Reads as store-words-reads
 use Rattle.entry_slices.proofs.slices.told.Reads as told-reads
 use Rattle.rei_core.proofs.compute.Reads as compute-reads
-use Rattle.rei_entries.proofs.number_of.Reads as number-of-reads
+use Rattle.rei_core.proofs.number_of.Reads as number-of-reads
 use Rattle.rei_entries.proofs.store_summary.Reads as store-summary-reads
 
 compute-requires : tie.Need-compute-requires
@@ -78,7 +79,7 @@ returns c =
     let e = c .before .before .before .before .before .before .before .before .before .before .before .before .before .before .before .before .before .before .before .before .before .before .before .before .before .before .before .before .before .before .before .before .before .before .compute .ensures in
     let k = refusalOf g in
     let o = a .spare in
-    let f = c .before .before .before .before .before .before .before .before .before .before .before .before .before .before .before .before .before .before .before .before .before .before .before .before .told .ensures ∙ ap (told o) (c .before .before .before .before .before .before .before .before .before .before .before .before .before .before .before .before .before .before .before .before .before .before .before .before .before .number-of .ensures ∙ number-told k (equivalentOf g) (e .answer)) in
+    let f = c .before .before .before .before .before .before .before .before .before .before .before .before .before .before .before .before .before .before .before .before .before .before .before .before .told .ensures ∙ ap (told o) (c .before .before .before .before .before .before .before .before .before .before .before .before .before .before .before .before .before .before .before .before .before .before .before .before .before .number-of .ensures ∙ numbered k (equivalentOf g) (e .answer)) in
     record {
       number = f;
       spokeBusesAre = c .before .before .before .before .before .before .before .before .before .before .before .before .before .before .before .before .before .before .before .before .before .store-words .ensures ∙ words-stored o k (busesOf g) (now (a .starts)) (now (a .spoke-buses)) f (e .spokeBusesAre);

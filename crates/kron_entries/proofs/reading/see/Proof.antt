@@ -7,8 +7,8 @@ use Rattle.kron_entries.proofs.reading.see.Tie as tie
 thevenin-impedance-requires : tie.Need-thevenin-impedance-requires
 thevenin-impedance-requires c κs = search needs
 
-refusal-of-requires : tie.Need-refusal-of-requires
-refusal-of-requires c κs = search needs
+number-of-requires : tie.Need-number-of-requires
+number-of-requires c κs = search needs
 
 told-requires : tie.Need-told-requires
 told-requires c κs = search needs
@@ -37,7 +37,7 @@ same-length-3 c = search needs
 returns : tie.Need-returns
 returns c =
     let a = c .before .before .before .before .before .before .before .before .before .before .before .before .before .before .thevenin-impedance .ensures in
-    let e = c .before .before .before .before .before .before .before .before .before .before .before .refusal-of .ensures in
+    let e = c .before .before .before .before .before .before .before .before .before .before .before .number-of .ensures in
     let t = c .before .before .before .before .before .before .before .before .before .before .told .ensures in
     let w = c .before .before .before .before .before .before .before .before .clear-work .ensures in
     let v = c .before .before .before .before .before .value-of .ensures in
@@ -49,7 +49,7 @@ see-spec =
     tie.close
     (tie.spec
     thevenin-impedance-requires
-    refusal-of-requires
+    number-of-requires
     told-requires
     clear-work-requires
     value-of-requires

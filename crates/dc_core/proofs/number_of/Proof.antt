@@ -1,9 +1,9 @@
--- `rei_entries::number_of` meets its contract.
+-- `dc_core::number_of` meets its contract.
 -- Assumes nothing.
-use Rattle.rei_entries.specs.ReiCall.{numberOf}
+use Rattle.dc_core.specs.Dc.{number}
 use borrow.Author.Needs.{needs}
-use Rattle.rei_entries.proofs.number_of.Statement.{statement}
-use Rattle.rei_entries.proofs.number_of.Tie as tie
+use Rattle.dc_core.proofs.number_of.Statement.{statement}
+use Rattle.dc_core.proofs.number_of.Tie as tie
 
 enum-told : tie.Need-enum-told
 enum-told c = search needs
@@ -12,14 +12,12 @@ enum-known-answer : tie.Need-enum-known-answer
 enum-known-answer c = search needs
 
 returns : tie.Need-returns
-unfolding numberOf
-returns c =
-    cc
+unfolding number
+returns c = cc
 
 returns-2 : tie.Need-returns-2
-unfolding numberOf
-returns-2 c =
-    cc
+unfolding number
+returns-2 c = cc
 
 pub number-of-spec : {M : Type 1} → statement M
 number-of-spec = tie.close (tie.spec enum-told enum-known-answer returns returns-2)
