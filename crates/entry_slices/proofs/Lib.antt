@@ -2,3 +2,4 @@ pub mod BytesLaws
 pub mod SlicesLaws
 pub mod OutcomesLaws
 pub mod StoredLaws
+pub mod RoomLaws

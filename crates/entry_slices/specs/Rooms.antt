@@ -1,5 +1,5 @@
--- Rooms for the numbers of a slice: one place more than its exact length can be.
-use Prim.Native.Nat.{ℕ, _+_, _*_}
+-- Rooms for the numbers of a slice: one place more than its exact length can be. As formulas of the limit: proofs/RoomLaws.antt.
+use Prim.Native.Nat.{ℕ}
 
 -- a list of buses or branches, and one of complex numbers
 abbrev pub listRoom : ℕ

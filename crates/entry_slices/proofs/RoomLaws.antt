@@ -1,0 +1,181 @@
+-- A room's cut changes no answer. A slice has an exact length in its room exactly where it has that length uncut, it is longer than a
+-- limit exactly where it is so uncut, and at its exact length nothing is cut. And each room is the formula of the limit that it stands
+-- for, above every exact length within the limit.
+-- Assumes nothing.
+use mathlib.Core.Path.{_≡_, refl, sym, ap, _∙_}
+use mathlib.Core.Bool.{Bool, true, false, cond}
+use mathlib.Core.List.{List}
+use Prim.Native.Nat.{ℕ, _+_, _*_, _-_, _/_, _≤_, _<_}
+use native.Mathlib.Nat.{mul-le-mul}
+use native.Mathlib.Omega.{arith}
+use lib.Dec.{ltb}
+use lib.ListN.{length}
+use borrow.Author.Tests.{ltb-true, ltb-false}
+use Rattle.refusals.specs.Refusals.{limit}
+use Rattle.entry_slices.specs.Bytes.{words, floats}
+use Rattle.entry_slices.specs.Slices.{held, floatsIn, wordsIn}
+use Rattle.entry_slices.specs.Rooms.{listRoom, vectorRoom, squareRoom, matrixRoom, systemRoom, pairRoom, wardMatrixRoom, wardWorkRoom, tiesRoom}
+use Rattle.entry_slices.proofs.BytesLaws.{length-words, length-floats}
+
+-- ---- the cut
+
+module _ (room exact : ℕ) (small : exact < room) where
+  -- n elements in the room
+  exact-of-held : (n : ℕ) → held room n ≡ exact → n ≡ exact
+  unfolding held
+  exact-of-held n = pick (ltb n room) refl
+    where
+      pick : (b : Bool) → ltb n room ≡ b → cond b n room ≡ exact → n ≡ exact
+      pick true p e = e
+      pick false p e = omega arith
+
+  held-of-exact : (n : ℕ) → n ≡ exact → held room n ≡ exact
+  unfolding held
+  held-of-exact n = pick (ltb n room) refl
+    where
+      pick : (b : Bool) → ltb n room ≡ b → n ≡ exact → cond b n room ≡ exact
+      pick true p e = e
+      pick false p e = let h = ltb-false n room p in omega arith
+
+  longer-of-held : (n : ℕ) → exact < held room n → exact < n
+  unfolding held
+  longer-of-held n = pick (ltb n room) refl
+    where
+      pick : (b : Bool) → ltb n room ≡ b → exact < cond b n room → exact < n
+      pick true p l = l
+      pick false p l = let h = ltb-false n room p in omega arith
+
+  held-of-longer : (n : ℕ) → exact < n → exact < held room n
+  unfolding held
+  held-of-longer n = pick (ltb n room) refl
+    where
+      pick : (b : Bool) → ltb n room ≡ b → exact < n → exact < cond b n room
+      pick true p l = l
+      pick false p l = small
+
+  module _ (bs : List ℕ) where
+    in-room-floats : length (floatsIn room bs) ≡ held room (length bs / 8)
+    unfolding floatsIn
+    in-room-floats = length-floats (held room (length bs / 8)) bs
+
+    in-room-words : length (wordsIn room bs) ≡ held room (length bs / 8)
+    unfolding wordsIn
+    in-room-words = length-words (held room (length bs / 8)) bs
+
+    pub floats-exact-uncut : length (floatsIn room bs) ≡ exact → length bs / 8 ≡ exact
+    floats-exact-uncut e = exact-of-held (length bs / 8) (sym in-room-floats ∙ e)
+
+    pub floats-exact-cut : length bs / 8 ≡ exact → length (floatsIn room bs) ≡ exact
+    floats-exact-cut e = in-room-floats ∙ held-of-exact (length bs / 8) e
+
+    pub floats-whole : length bs / 8 ≡ exact → floatsIn room bs ≡ floats exact bs
+    unfolding floatsIn
+    floats-whole e = ap (λ (n : ℕ). floats n bs) (held-of-exact (length bs / 8) e)
+
+    pub floats-longer-uncut : exact < length (floatsIn room bs) → exact < length bs / 8
+    floats-longer-uncut l = longer-of-held (length bs / 8) (rw in-room-floats at l)
+
+    pub floats-longer-cut : exact < length bs / 8 → exact < length (floatsIn room bs)
+    floats-longer-cut l = rw in-room-floats (held-of-longer (length bs / 8) l)
+
+    pub words-exact-uncut : length (wordsIn room bs) ≡ exact → length bs / 8 ≡ exact
+    words-exact-uncut e = exact-of-held (length bs / 8) (sym in-room-words ∙ e)
+
+    pub words-exact-cut : length bs / 8 ≡ exact → length (wordsIn room bs) ≡ exact
+    words-exact-cut e = in-room-words ∙ held-of-exact (length bs / 8) e
+
+    pub words-whole : length bs / 8 ≡ exact → wordsIn room bs ≡ words exact bs
+    unfolding wordsIn
+    words-whole e = ap (λ (n : ℕ). words n bs) (held-of-exact (length bs / 8) e)
+
+    pub words-longer-uncut : exact < length (wordsIn room bs) → exact < length bs / 8
+    words-longer-uncut l = longer-of-held (length bs / 8) (rw in-room-words at l)
+
+    pub words-longer-cut : exact < length bs / 8 → exact < length (wordsIn room bs)
+    words-longer-cut l = rw in-room-words (held-of-longer (length bs / 8) l)
+
+-- ---- the rooms, by the limit
+
+pub list-room : listRoom ≡ limit + 1
+unfolding limit
+list-room = refl
+
+pub vector-room : vectorRoom ≡ 2 * limit + 1
+unfolding limit
+vector-room = refl
+
+pub square-room : squareRoom ≡ limit * limit + 1
+unfolding limit
+square-room = refl
+
+pub matrix-room : matrixRoom ≡ 2 * (limit * limit) + 1
+unfolding limit
+matrix-room = refl
+
+pub system-room : systemRoom ≡ 2 * (limit * (limit + 1)) + 1
+unfolding limit
+system-room = refl
+
+pub pair-room : pairRoom ≡ 4 * (limit * limit) + 1
+unfolding limit
+pair-room = refl
+
+-- of up to twice the limit of retained buses: internal and boundary lists of the limit each
+pub ward-matrix-room : wardMatrixRoom ≡ 2 * ((limit + limit) * (limit + limit)) + 1
+unfolding limit
+ward-matrix-room = refl
+
+pub ward-work-room : wardWorkRoom ≡ 2 * (limit * (limit + (limit + limit) + 1)) + 1
+unfolding limit
+ward-work-room = refl
+
+pub ties-room : tiesRoom ≡ limit * (limit - 1) + 1
+unfolding limit
+ties-room = refl
+
+-- ---- every exact length within the limit is below its room
+
+pub list-fits : (n : ℕ) → n ≤ limit → n < listRoom
+unfolding limit
+list-fits n h = omega arith
+
+pub vector-fits : (n : ℕ) → n ≤ limit → 2 * n < vectorRoom
+unfolding limit
+vector-fits n h = omega arith
+
+-- of m rows and n columns
+pub square-fits : (m n : ℕ) → m ≤ limit → n ≤ limit → m * n < squareRoom
+unfolding limit
+square-fits m n g h = omega (arith, mul-le-mul g h)
+
+pub matrix-fits : (n : ℕ) → n ≤ limit → 2 * (n * n) < matrixRoom
+unfolding limit
+matrix-fits n h = omega (arith, mul-le-mul h h)
+
+pub system-fits : (n : ℕ) → n ≤ limit → 2 * (n * (n + 1)) < systemRoom
+unfolding limit
+system-fits n h =
+    let next : n + 1 ≤ limit + 1 = omega arith in
+    omega (arith, mul-le-mul h next)
+
+pub pair-fits : (n : ℕ) → n ≤ limit → 4 * (n * n) < pairRoom
+unfolding limit
+pair-fits n h = omega (arith, mul-le-mul h h)
+
+-- r retained buses
+pub ward-matrix-fits : (r : ℕ) → r ≤ limit + limit → 2 * (r * r) < wardMatrixRoom
+unfolding limit
+ward-matrix-fits r h = omega (arith, mul-le-mul h h)
+
+-- e external and r retained buses
+pub ward-work-fits : (e r : ℕ) → e ≤ limit → r ≤ limit + limit → 2 * (e * (e + r + 1)) < wardWorkRoom
+unfolding limit
+ward-work-fits e r g h =
+    let wide : e + r + 1 ≤ limit + (limit + limit) + 1 = omega arith in
+    omega (arith, mul-le-mul g wide)
+
+pub ties-fits : (n : ℕ) → n ≤ limit → n * (n - 1) < tiesRoom
+unfolding limit
+ties-fits n h =
+    let less : n - 1 ≤ limit - 1 = omega arith in
+    omega (arith, mul-le-mul h less)
