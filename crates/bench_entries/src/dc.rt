@@ -1,8 +1,8 @@
 // The DC parts.
-use entry_slices::outcomes::number;
-use equivalents::dc::Retained;
+use refusals::number;
 ghost use mathlib.Core.Path.{_≡_};
 ghost use lib.ListN.{length};
+ghost use Rattle.refusals.specs.Refusals as refusals;
 ghost use Rattle.dc_core.specs.Dc as spec;
 
 #[no_mangle]
@@ -10,14 +10,14 @@ pub extern "C" fn jeturipe_f64_retained_buses(
     n: usize,
     interior: &[usize],
     retained: &mut [usize],
-    _count: &mut [usize],
+    count: &mut [usize],
 ) -> u32
-    ensures { λ _. ⌜ now (retained .exit) ≡ spec.retainedOutput n (now (interior .entry)) (now (retained .entry)) ⌝ }
+    ensures { λ f. ⌜ (f ≡ spec.number (spec.retainedAnswer n (now (interior .entry)) (now (retained .entry))))
+        × (now (retained .exit) ≡ spec.retainedOutput n (now (interior .entry)) (now (retained .entry)))
+        × (now (count .exit) ≡ now (count .entry)) ⌝ }
 {
-    match equivalents::dc::retained_buses(n, interior, retained) {
-        Retained::Count(_) => 0,
-        Retained::Refused(f) => f,
-    }
+    let answer = equivalents::dc::retained_buses(n, interior, retained);
+    equivalents::dc::number_of(answer)
 }
 
 #[no_mangle]
@@ -28,7 +28,8 @@ pub extern "C" fn jeturipe_f64_build_b_bus(
     branch_x: &[f64],
     b: &mut [f64],
 ) -> u32
-    ensures { λ _. ⌜ now (b .exit) ≡ spec.builtOutput n (now («branch_from» .entry)) (now («branch_to» .entry)) (now («branch_x» .entry)) (now (b .entry)) ⌝ }
+    ensures { λ f. ⌜ (f ≡ refusals.number (refusals.outcome (spec.buildRefusal n (now («branch_from» .entry)) (now («branch_to» .entry)) (now («branch_x» .entry)) (length (now (b .entry))))))
+        × (now (b .exit) ≡ spec.builtOutput n (now («branch_from» .entry)) (now («branch_to» .entry)) (now («branch_x» .entry)) (now (b .entry))) ⌝ }
 {
     number(equivalents::dc::build_b_bus(n, branch_from, branch_to, branch_x, b))
 }
@@ -41,7 +42,8 @@ pub extern "C" fn jeturipe_f64_lodf_matrix(
     branch_to: &[usize],
     lodf: &mut [f64],
 ) -> u32
-    ensures { λ _. ⌜ now (lodf .exit) ≡ spec.lodfOutput n (now (ptdf .entry)) (now («branch_from» .entry)) (now («branch_to» .entry)) (now (lodf .entry)) ⌝ }
+    ensures { λ f. ⌜ (f ≡ refusals.number (refusals.outcome (spec.lodfRefusal n (length (now (ptdf .entry))) (now («branch_from» .entry)) (now («branch_to» .entry)) (length (now (lodf .entry))))))
+        × (now (lodf .exit) ≡ spec.lodfOutput n (now (ptdf .entry)) (now («branch_from» .entry)) (now («branch_to» .entry)) (now (lodf .entry))) ⌝ }
 {
     number(equivalents::dc::lodf_matrix(n, ptdf, branch_from, branch_to, lodf))
 }

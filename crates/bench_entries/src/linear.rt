@@ -1,6 +1,7 @@
 // The linear systems.
-use entry_slices::outcomes::number;
+use refusals::number;
 ghost use mathlib.Core.Path.{_≡_};
+ghost use Rattle.refusals.specs.Refusals as refusals;
 ghost use Rattle.solver.specs.Calls as spec;
 
 #[no_mangle]
@@ -11,7 +12,7 @@ pub extern "C" fn jeturipe_f64_solve_linear(
     x: &mut [f64],
     work: &mut [f64],
 ) -> u32
-    ensures { λ _. ⌜ (now (x .exit) ≡ spec.afterSolve n (now (a .entry)) (now (b .entry)) (now (x .entry)) (now (work .entry)) .output) × (now (work .exit) ≡ spec.afterSolve n (now (a .entry)) (now (b .entry)) (now (x .entry)) (now (work .entry)) .work) ⌝ }
+    ensures { λ f. ⌜ (f ≡ refusals.number (spec.afterSolve n (now (a .entry)) (now (b .entry)) (now (x .entry)) (now (work .entry)) .answer)) × (now (x .exit) ≡ spec.afterSolve n (now (a .entry)) (now (b .entry)) (now (x .entry)) (now (work .entry)) .output) × (now (work .exit) ≡ spec.afterSolve n (now (a .entry)) (now (b .entry)) (now (x .entry)) (now (work .entry)) .work) ⌝ }
 {
     number(solver::solve_linear(n, a, b, x, work))
 }
@@ -23,7 +24,7 @@ pub extern "C" fn jeturipe_f64_complex_matrix_inverse(
     inverse: &mut [f64],
     work: &mut [f64],
 ) -> u32
-    ensures { λ _. ⌜ (now (inverse .exit) ≡ spec.afterInverse n (now (mat .entry)) (now (inverse .entry)) (now (work .entry)) .output) × (now (work .exit) ≡ spec.afterInverse n (now (mat .entry)) (now (inverse .entry)) (now (work .entry)) .work) ⌝ }
+    ensures { λ f. ⌜ (f ≡ refusals.number (spec.afterInverse n (now (mat .entry)) (now (inverse .entry)) (now (work .entry)) .answer)) × (now (inverse .exit) ≡ spec.afterInverse n (now (mat .entry)) (now (inverse .entry)) (now (work .entry)) .output) × (now (work .exit) ≡ spec.afterInverse n (now (mat .entry)) (now (inverse .entry)) (now (work .entry)) .work) ⌝ }
 {
     number(solver::complex_matrix_inverse(n, mat, inverse, work))
 }

@@ -1,5 +1,6 @@
 // The REI equivalent.
-use equivalents::rei::ReiAnswer;
+ghost use mathlib.Core.Path.{_≡_};
+ghost use Rattle.bench_entries.specs.Studies as spec;
 
 #[no_mangle]
 pub extern "C" fn jeturipe_f64_rei_compute(
@@ -13,9 +14,25 @@ pub extern "C" fn jeturipe_f64_rei_compute(
     spokes: &mut [f64],
     tie_buses: &mut [usize],
     ties: &mut [f64],
-    _summary: &mut [f64],
-) -> u32 {
-    match equivalents::rei::compute(
+    summary: &mut [f64],
+) -> u32
+    ensures { λ f. ⌜ spec.Reduced
+        (record {
+          generators = now («generator_buses» .entry);
+          loads = now («load_buses» .entry);
+          entries = now («y_sub» .entry);
+          p = now («p_inj» .entry);
+          q = now («q_inj» .entry);
+          busId = «next_bus_id»;
+          spokeBuses = now («spoke_buses» .entry);
+          spokes = now (spokes .entry);
+          tieBuses = now («tie_buses» .entry);
+          ties = now (ties .entry);
+        })
+        f (now («spoke_buses» .exit)) (now (spokes .exit)) (now («tie_buses» .exit)) (now (ties .exit))
+        × (now (summary .exit) ≡ now (summary .entry)) ⌝ }
+{
+    let answer = equivalents::rei::compute(
         generator_buses,
         load_buses,
         y_sub,
@@ -26,8 +43,6 @@ pub extern "C" fn jeturipe_f64_rei_compute(
         spokes,
         tie_buses,
         ties,
-    ) {
-        ReiAnswer::Done(_) => 0,
-        ReiAnswer::Refused(f) => f,
-    }
+    );
+    equivalents::rei::number_of(answer)
 }

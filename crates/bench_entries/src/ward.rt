@@ -1,5 +1,10 @@
 // Ward and extended Ward.
-use equivalents::ward::WardAnswer;
+use equivalents::ward::number_of;
+ghost use mathlib.Core.Path.{_≡_};
+ghost use Rattle.ward_studies.specs.Ward as ward;
+ghost use Rattle.ward_studies.specs.WardCalls as calls;
+ghost use Rattle.ward_studies.specs.WardExtended as extended;
+ghost use Rattle.bench_entries.specs.Studies as spec;
 
 #[no_mangle]
 pub extern "C" fn jeturipe_f64_ward_compute(
@@ -15,9 +20,16 @@ pub extern "C" fn jeturipe_f64_ward_compute(
     p_ward: &mut [f64],
     q_ward: &mut [f64],
     work: &mut [f64],
-    _summary: &mut [f64],
-) -> u32 {
-    match equivalents::ward::compute(
+    summary: &mut [f64],
+) -> u32
+    ensures { λ f. ⌜ spec.Studied
+        (ward.afterWard (calls.studyOf n (now (y .entry)) (now (internal .entry)) (now (external .entry)) (now (boundary .entry)) «base_mva» (now («p_ext» .entry)) (now («q_ext» .entry)))
+        (calls.roomOf (now («y_ward» .entry)) (now («p_ward» .entry)) (now («q_ward» .entry)) (now (work .entry))))
+        f
+        (calls.roomOf (now («y_ward» .exit)) (now («p_ward» .exit)) (now («q_ward» .exit)) (now (work .exit)))
+        × (now (summary .exit) ≡ now (summary .entry)) ⌝ }
+{
+    let answer = equivalents::ward::compute(
         n,
         y,
         internal,
@@ -30,10 +42,8 @@ pub extern "C" fn jeturipe_f64_ward_compute(
         p_ward,
         q_ward,
         work,
-    ) {
-        WardAnswer::Done(_) => 0,
-        WardAnswer::Refused(f) => f,
-    }
+    );
+    number_of(answer)
 }
 
 #[no_mangle]
@@ -53,9 +63,16 @@ pub extern "C" fn jeturipe_f64_ward_compute_extended(
     voltage_correction: &mut [f64],
     q_compensation: &mut [f64],
     work: &mut [f64],
-    _summary: &mut [f64],
-) -> u32 {
-    match equivalents::ward::compute_extended(
+    summary: &mut [f64],
+) -> u32
+    ensures { λ f. ⌜ spec.Corrected
+        (extended.afterExtended (calls.extendedOf (calls.studyOf n (now (y .entry)) (now (internal .entry)) (now (external .entry)) (now (boundary .entry)) «base_mva» (now («p_ext» .entry)) (now («q_ext» .entry))) (now («v_ext» .entry)))
+        (calls.extendedRoomOf (calls.roomOf (now («y_ward» .entry)) (now («p_ward» .entry)) (now («q_ward» .entry)) (now (work .entry))) (now («voltage_correction» .entry)) (now («q_compensation» .entry))))
+        f
+        (calls.extendedRoomOf (calls.roomOf (now («y_ward» .exit)) (now («p_ward» .exit)) (now («q_ward» .exit)) (now (work .exit))) (now («voltage_correction» .exit)) (now («q_compensation» .exit)))
+        × (now (summary .exit) ≡ now (summary .entry)) ⌝ }
+{
+    let answer = equivalents::ward::compute_extended(
         n,
         y,
         internal,
@@ -71,8 +88,6 @@ pub extern "C" fn jeturipe_f64_ward_compute_extended(
         voltage_correction,
         q_compensation,
         work,
-    ) {
-        WardAnswer::Done(_) => 0,
-        WardAnswer::Refused(f) => f,
-    }
+    );
+    number_of(answer)
 }

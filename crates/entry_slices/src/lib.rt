@@ -1,5 +1,4 @@
 // Numbers in byte slices, for the C-callable entries.
 pub mod bytes;
-pub mod outcomes;
 pub mod rooms;
 pub mod slices;

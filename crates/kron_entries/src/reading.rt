@@ -2,7 +2,6 @@
 use crate::records::RECORD;
 use crate::records::record_in;
 use complex::Complex;
-use entry_slices::outcomes::number;
 use entry_slices::slices::clear_work;
 use entry_slices::slices::load_floats;
 use entry_slices::slices::misfit;
@@ -13,6 +12,7 @@ use equivalents::kron::KronReducer;
 use equivalents::kron::number_of;
 use equivalents::kron::reduced_matrix;
 use equivalents::kron::thevenin_impedance;
+use refusals::number;
 ghost use mathlib.Core.Path.{_≡_};
 ghost use mathlib.Core.List.{[], _∷_};
 ghost use lib.ListN.{length};

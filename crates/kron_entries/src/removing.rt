@@ -2,7 +2,6 @@
 use crate::records::RECORD;
 use crate::records::record_in;
 use crate::records::store_record;
-use entry_slices::outcomes::number;
 use entry_slices::slices::load_floats;
 use entry_slices::slices::load_words;
 use entry_slices::slices::misfit;
@@ -12,6 +11,7 @@ use entry_slices::slices::told;
 use equivalents::kron::KronReducer;
 use equivalents::kron::eliminated_bus;
 use equivalents::kron::eliminated_buses;
+use refusals::number;
 ghost use mathlib.Core.Path.{_≡_};
 ghost use lib.ListN.{length};
 ghost use Rattle.kron_core.specs.Reducer.{afterBus, afterBuses};

@@ -1,10 +1,10 @@
 // What is seen of a call, as words in a slice of u64: put there one after the other, compared, and printed.
 use complex::Complex;
 use complex::words::to_word;
-use entry_slices::outcomes::number;
 use equivalents::kron::KronReducer;
 use libc::STDOUT_FILENO;
 use refusals::Outcome;
+use refusals::number;
 ghost use mathlib.Core.Path.{_≡_};
 ghost use mathlib.Core.Bool.{true};
 ghost use mathlib.Core.List.{[], _∷_};

@@ -1,9 +1,9 @@
 // The entries of the solver: byte slices read into rooms for the library, the call, the output written, and the work slice cleared.
-use entry_slices::outcomes::number;
 use entry_slices::slices::clear_work;
 use entry_slices::slices::load_floats;
 use entry_slices::slices::store_floats;
 use entry_slices::slices::told;
+use refusals::number;
 use solver::complex_matrix_inverse;
 use solver::solve_linear;
 ghost use mathlib.Core.Path.{_≡_};

@@ -6,18 +6,8 @@ use entry_slices::slices::store_words;
 use ward_studies::WardAnswer;
 use ward_studies::WardSummary;
 ghost use mathlib.Core.Path.{_≡_};
-ghost use Rattle.ward_studies.specs.Ward as ward;
 ghost use Rattle.entry_slices.specs.Slices.{storedWords};
 ghost use Rattle.ward_entries.specs.WardEntry as spec;
-
-pub fn number_of(answer: WardAnswer) -> u32
-    ensures { λ r. ⌜ r ≡ ward.number answer ⌝ }
-{
-    match answer {
-        WardAnswer::Done(_) => 0,
-        WardAnswer::Refused(k) => k,
-    }
-}
 
 fn store_sizes(s: &mut [u8], e: WardSummary, refusal: u32)
     ensures { λ _. ⌜ now (s .exit) ≡ storedWords refusal (spec.summaryWords e) (now (s .entry)) ⌝ }

@@ -1,11 +1,11 @@
 // Ward's study: its lists are read first, then its matrix and injections, then rooms are made for what is written.
-use crate::stored::number_of;
 use crate::stored::store_study;
 use entry_slices::slices::load_floats;
 use entry_slices::slices::load_words;
 use entry_slices::slices::misfit;
 use entry_slices::slices::told;
 use ward_core::compute;
+use ward_studies::number_of;
 ghost use mathlib.Core.Path.{_≡_};
 ghost use Prim.Native.Nat.{_<_};
 ghost use lib.ListN.{length};

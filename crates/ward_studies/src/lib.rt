@@ -1,4 +1,7 @@
 // A Ward study on slices of the right lengths: its lists looked through, and one elimination for all columns.
+ghost use mathlib.Core.Path.{_≡_};
+ghost use Rattle.ward_studies.specs.Ward as ward;
+
 pub mod ward_lists;
 pub mod ward_study;
 
@@ -12,4 +15,14 @@ pub struct WardSummary {
 pub enum WardAnswer {
     Done(WardSummary),
     Refused(u32),
+}
+
+// The refusal's number, 0 where there is none.
+pub fn number_of(answer: WardAnswer) -> u32
+    ensures { λ r. ⌜ r ≡ ward.number answer ⌝ }
+{
+    match answer {
+        WardAnswer::Done(_) => 0,
+        WardAnswer::Refused(k) => k,
+    }
 }

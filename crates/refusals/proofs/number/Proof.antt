@@ -1,9 +1,9 @@
--- `entry_slices::outcomes::number` meets its contract.
+-- `refusals::number` meets its contract.
 -- Assumes nothing.
 use Rattle.refusals.specs.Refusals.{number}
 use borrow.Author.Needs.{needs}
-use Rattle.entry_slices.proofs.outcomes.number.Statement.{statement}
-use Rattle.entry_slices.proofs.outcomes.number.Tie as tie
+use Rattle.refusals.proofs.number.Statement.{statement}
+use Rattle.refusals.proofs.number.Tie as tie
 
 enum-told : tie.Need-enum-told
 enum-told c = search needs

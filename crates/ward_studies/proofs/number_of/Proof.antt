@@ -1,9 +1,9 @@
--- `ward_entries::stored::number_of` meets its contract.
+-- `ward_studies::number_of` meets its contract.
 -- Assumes nothing.
 use Rattle.ward_studies.specs.Ward.{number}
 use borrow.Author.Needs.{needs}
-use Rattle.ward_entries.proofs.stored.number_of.Statement.{statement}
-use Rattle.ward_entries.proofs.stored.number_of.Tie as tie
+use Rattle.ward_studies.proofs.number_of.Statement.{statement}
+use Rattle.ward_studies.proofs.number_of.Tie as tie
 
 enum-told : tie.Need-enum-told
 enum-told c = search needs
