@@ -1,5 +1,4 @@
 pub mod BlockParts
-pub mod Columns
 pub mod GaussJordan
 pub mod Passed
 pub mod RowParts

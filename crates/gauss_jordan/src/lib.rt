@@ -1,5 +1,4 @@
-// Gauss-Jordan elimination over complex numbers in a lent slice, for any number of right sides. The functions here are for the layers
-// above, which prove what each requires.
+// What Gauss-Jordan elimination does to the rows of a lent slice, and blocks of entries put into one and taken out. The functions here are
+// for the layers above, which prove what each requires.
 pub mod blocks;
-pub mod elimination;
 pub mod rows;

@@ -5,7 +5,7 @@ use complex::cadd;
 use complex::cmul;
 use complex::csub;
 use complex::entry::get;
-use gauss_jordan::elimination::gauss_jordan;
+use elimination::gauss_jordan;
 use gauss_jordan::rows::clear;
 use solver::solving::fill_identity;
 ghost use mathlib.Core.Path.{_≡_};

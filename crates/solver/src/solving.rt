@@ -1,7 +1,6 @@
 // The work of `solve_linear` and `complex_matrix_inverse` once the input is accepted: the slice is filled, eliminated, read, and cleared.
 // The functions here have a `requires`, which their callers prove.
 use gauss_jordan::blocks;
-use gauss_jordan::elimination;
 use gauss_jordan::rows;
 ghost use mathlib.Core.Path.{_≡_};
 ghost use mathlib.Core.Bool.{cond};

@@ -3,7 +3,7 @@ use crate::WardAnswer;
 use crate::WardSummary;
 use crate::ward_lists;
 use buses::lists::all_below;
-use gauss_jordan::elimination::gauss_jordan;
+use elimination::gauss_jordan;
 use gauss_jordan::rows;
 use refusals::LIMIT;
 use ward_products::ward_rows;

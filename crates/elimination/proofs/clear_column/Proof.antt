@@ -1,0 +1,78 @@
+-- `elimination::clear_column` meets its contract.
+-- Assumes nothing.
+use mathlib.Core.Path.{_∙_}
+use Prim.Native.Nat.{ℕ, _≤_, _<_}
+use native.Mathlib.Omega.{arith}
+use borrow.Author.Needs.{needs}
+use Rattle.complex.specs.Entries.{entry}
+use Rattle.complex.specs.Matrices.{entryAt}
+use Rattle.gauss_jordan.specs.GaussJordan.{scaled, cleared}
+use Rattle.gauss_jordan.specs.Solving.{operations}
+use Rattle.gauss_jordan.proofs.GaussJordan.{reduced-same}
+use Rattle.gauss_jordan.proofs.RowParts.{scaled-is, row-put}
+use Rattle.elimination.proofs.clear_column.Statement.{statement}
+use Rattle.elimination.proofs.clear_column.Tie as tie
+
+get-requires : tie.Need-get-requires
+get-requires c κs = search needs
+
+complex-inv-requires : tie.Need-complex-inv-requires
+complex-inv-requires c κs = search needs
+
+scale-requires : tie.Need-scale-requires
+scale-requires c κs = search needs
+
+write-row-requires : tie.Need-write-row-requires
+write-row-requires c κs = search needs
+
+reduce-others-requires : tie.Need-reduce-others-requires
+reduce-others-requires c κs =
+    let p = c .before .before .before .before .write-row in
+    let x = c .before .before .before .before .before .before .before .before .before .scale in
+    let s = c .before .before .before .before .before .before .before .before .before .before .before .before .before .before .before .before in
+    let a = s .args in (
+      record { wide = s .pre .0 .wide; full = p .kept .0 ∙ s .pre .0 .full },
+      s .pre .1,
+      x .kept .0 ∙ s .pre .2,
+      row-put (a .w) (a .c) (entry (x .last .0)) (entryAt (a .w) (a .work .now)) (entryAt (a .w) (p .last .0)) (p .ensures),
+    )
+
+same-length : tie.Need-same-length
+same-length c = search needs
+
+same-length-2 : tie.Need-same-length-2
+same-length-2 c = search needs
+
+returns : tie.Need-returns
+unfolding cleared
+returns c =
+    let o = c .before .before .reduce-others in
+    let p = c .before .before .before .before .before .before .before .write-row in
+    let x = c .before .before .before .before .before .before .before .before .before .before .before .before .scale in
+    let v = c .before .before .before .before .before .before .before .before .before .before .before .before .before .complex-inv in
+    let g = c .before .before .before .before .before .before .before .before .before .before .before .before .before .before .get in
+    let s = c .before .before .before .before .before .before .before .before .before .before .before .before .before .before .before .before .before .before .before in
+    let a = s .args in
+    let A = entryAt (a .w) (a .work .now) in
+    let A₁ = entryAt (a .w) (p .last .0) in
+    let wide : a .n ≤ a .w = s .pre .0 .wide in
+    let here : a .c < a .n = s .pre .1 in
+    λ (i j : ℕ) (h : i < a .n) (k : j < a .w).
+    o .ensures i j h k
+    ∙ reduced-same operations (a .n) (a .w) wide A₁ (scaled operations (a .c) A)
+    (λ (r q : ℕ) (y : r < a .n) (z : q < a .w).
+    scaled-is (a .w) (a .c) (entry (a .row .now)) (entry (x .last .0)) A A₁ (g .result) (v .result) (omega arith) (s .pre .3) (g .ensures) (v .ensures) (x .ensures) (p .ensures) r q z)
+    (a .c) here i j h k
+
+pub clear-column-spec : {M : Type 1} → statement M
+clear-column-spec =
+    tie.close
+    (tie.spec
+    get-requires
+    complex-inv-requires
+    scale-requires
+    write-row-requires
+    reduce-others-requires
+    same-length
+    same-length-2
+    returns)
