@@ -1,3 +1,2 @@
 pub mod Buses
 pub mod Ends
-pub mod Fronts

@@ -1,8 +1,7 @@
-// Inner functions of the equivalents: counts against the limit, lists of buses, and slices cleared. Callers of the library have no use for them.
+// Inner functions of the equivalents: counts against the limit, and lists of buses. Callers of the library have no use for them.
 use refusals::LIMIT;
 ghost use mathlib.Core.Path.{_≡_};
 ghost use lib.ListN.{length, replicate};
-ghost use Rattle.complex.specs.Matrices as matrices;
 ghost use Rattle.buses.specs.Buses as buses;
 ghost use Rattle.buses.specs.Limits as limits;
 
@@ -55,16 +54,6 @@ pub fn no_buses(list: &mut [usize])
     let mut i = 0;
     while i < list.len() {
         list[i] = 0;
-        i += 1;
-    }
-}
-
-pub fn clear(s: &mut [f64])
-    ensures { λ _. ⌜ now (s .exit) ≡ matrices.zeros (length (now (s .entry))) ⌝ }
-{
-    let mut i = 0;
-    while i < s.len() {
-        s[i] = 0.0;
         i += 1;
     }
 }

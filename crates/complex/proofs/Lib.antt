@@ -6,3 +6,5 @@ pub mod Finite
 pub mod SameValue
 pub mod Squares
 mod RootCases
+pub mod Fronts
+pub mod Bits

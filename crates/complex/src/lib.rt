@@ -5,6 +5,7 @@ ghost use Rattle.complex.specs.Arithmetic as spec;
 pub mod constants;
 pub mod entry;
 pub mod magnitude;
+pub mod slices;
 pub mod words;
 
 pub struct Complex {

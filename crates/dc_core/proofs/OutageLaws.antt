@@ -13,7 +13,7 @@ use lib.Seq.{getD-take, getD-drop, getD-at, length-take-le}
 use lib.Ieee.{Float, nan}
 use Rattle.buses.specs.Buses.{allBelow}
 use Rattle.buses.proofs.Ends.{below-at}
-use Rattle.buses.proofs.Fronts.{front-next, front-end}
+use Rattle.complex.proofs.Fronts.{front-next, front-end}
 use Rattle.dc_core.specs.Dc.{numbers, numberRows, transfer, between, denominator, outage}
 use Rattle.dc_core.specs.DcRows.{across, rowOutage}
 

@@ -1,11 +1,11 @@
 // The DC parts: the buses kept, the susceptance matrix, and the line outage factors.
 // Buses and branches count from 0; matrices are of f64, row after row.
 use buses::lists::all_below;
-use buses::lists::clear;
 use buses::lists::no_buses;
 use buses::lists::over;
 use complex::constants::WEAK;
 use complex::magnitude::abs;
+use complex::slices::clear;
 use refusals::LIMIT;
 use refusals::Outcome;
 ghost use mathlib.Core.Path.{_≡_};

@@ -8,7 +8,6 @@ ghost use Prim.Native.Nat.{ℕ, _*_, _<_};
 ghost use lib.ListN.{length};
 ghost use Rattle.complex.specs.Arithmetic as arithmetic;
 ghost use Rattle.complex.specs.Entries.{entry};
-ghost use Rattle.complex.specs.Matrices.{zeros};
 ghost use Rattle.gauss_jordan.specs.Solving as spec;
 ghost use Rattle.gauss_jordan.specs.Work.{reducedEntry};
 
@@ -32,17 +31,6 @@ pub fn exchange(a: &mut [f64], b: &mut [f64])
         let x = a[i];
         a[i] = b[i];
         b[i] = x;
-        i += 1;
-    }
-}
-
-// All +0.
-pub fn clear(s: &mut [f64])
-    ensures { λ _. ⌜ now (s .exit) ≡ zeros (length (now (s .entry))) ⌝ }
-{
-    let mut i = 0;
-    while i < s.len() {
-        s[i] = 0.0;
         i += 1;
     }
 }

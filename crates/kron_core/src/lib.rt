@@ -1,7 +1,7 @@
 // Kron reduction of a bus matrix that stands in a lent slice.
 use crate::thevenin::between;
 use complex::Complex;
-use gauss_jordan::rows::clear;
+use complex::slices::clear;
 use gauss_jordan::rows::copy;
 use kron_rows::Found;
 use kron_rows::all_zero;

@@ -10,7 +10,7 @@ use lib.Ieee.{Float}
 use borrow.Author.Tests.{eq-eqb, ne-eqb}
 use Rattle.complex.specs.Matrices.{zeros}
 use Rattle.refusals.specs.Refusals.{wrongLength}
-use Rattle.buses.proofs.Fronts.{drop-replicate}
+use Rattle.complex.proofs.Fronts.{drop-replicate}
 use Rattle.lines.specs.declared.Answer.the-variants.{Written, Refused}
 use Rattle.lines.specs.declared.read.Reading.{Reading}
 use Rattle.words.specs.Bytes.{Bytes}

@@ -45,6 +45,6 @@ pub fn reduce(input: &[u8], output: &mut [u8], matrix: &mut [f64]) -> Answer
     let reading = read(input, matrix);
     clear::bytes(output);
     let n = print(output, reading, matrix);
-    clear::numbers(matrix);
+    complex::slices::clear(matrix);
     Answer::Written(n)
 }

@@ -4,12 +4,12 @@ use crate::read::End;
 use crate::read::Reading;
 use complex::Complex;
 use complex::entry::get;
+use complex::words::to_word;
 use kron_core::KronReducer;
 use words::print::put;
 use words::print::put_byte;
 use words::print::put_decimal;
 use words::print::put_hex;
-use words::word_of;
 ghost use Prim.Native.Nat.{_*_, _<_, _≤_};
 ghost use lib.ListN.{length};
 ghost use Rattle.words.specs.Writing.{Room, Wrote};
@@ -38,8 +38,8 @@ fn put_entry(out: &mut [u8], at: usize, c: Complex) -> usize
     requires { ⌜ Room (now out) at (spec.entryLine c) ⌝ }
     ensures { λ r. ⌜ Wrote (now (out .entry)) at (spec.entryLine c) r (now (out .exit)) ⌝ }
 {
-    let re = word_of(c.re);
-    let im = word_of(c.im);
+    let re = to_word(c.re);
+    let im = to_word(c.im);
     let a = put_hex(out, at, re);
     let b = put_byte(out, a, b' ');
     let d = put_hex(out, b, im);

@@ -6,12 +6,12 @@ use crate::text::line_end;
 use crate::text::number_after;
 use complex::Complex;
 use complex::entry::put;
+use complex::words::of_word;
 use kron_core::KronReducer;
 use kron_core::take_bus;
 use refusals::LIMIT;
 use refusals::Outcome;
 use words::Number;
-use words::number_of;
 ghost use mathlib.Core.Path.{_≡_};
 ghost use mathlib.Core.List.{[]};
 ghost use Prim.Native.Nat.{_+_, _*_, _≤_, _<_, _^_};
@@ -115,8 +115,8 @@ fn entries(input: &[u8], from: usize, n: usize, matrix: &mut [f64]) -> Reading
             matrix,
             i,
             Complex {
-                re: number_of(re),
-                im: number_of(im),
+                re: of_word(re),
+                im: of_word(im),
             },
         );
         at += 34;

@@ -16,7 +16,7 @@ use Rattle.complex.specs.Matrices.{Matrix, upTo, entryAt}
 use Rattle.complex.specs.Arithmetic.{cneg}
 use Rattle.complex.proofs.Matrices.{length-upTo, getD-upTo, entry-part}
 use Rattle.rei_core.specs.Rei.{Tie, spoke, spokeParts, isTie, rowTies, upperTies, tieEnds, tieParts, tieRoom, allTies}
-use Rattle.buses.proofs.Fronts.{drop-replicate, front-end}
+use Rattle.complex.proofs.Fronts.{drop-replicate, front-end}
 
 -- ---- the buses that are left
 

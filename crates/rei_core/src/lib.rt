@@ -1,5 +1,4 @@
 // The REI equivalent of a set of generator and load buses.
-use buses::lists::clear;
 use buses::lists::no_buses;
 use buses::lists::over;
 use complex::Complex;
@@ -10,6 +9,7 @@ use complex::entry::get;
 use complex::entry::put;
 use complex::magnitude::abs;
 use complex::magnitude::magnitude;
+use complex::slices::clear;
 ghost use mathlib.Core.Path.{_≡_};
 ghost use mathlib.Core.Bool.{cond};
 ghost use mathlib.Core.List.{_++_};

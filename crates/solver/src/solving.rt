@@ -1,7 +1,7 @@
 // The work of `solve_linear` and `complex_matrix_inverse` once the input is accepted: the slice is filled, eliminated, read, and cleared.
 // The functions here have a `requires`, which their callers prove.
+use complex::slices::clear;
 use gauss_jordan::blocks;
-use gauss_jordan::rows;
 ghost use mathlib.Core.Path.{_≡_};
 ghost use mathlib.Core.Bool.{cond};
 ghost use Prim.Native.Nat.{ℕ, _+_, _*_, _<_, _≤_};
@@ -30,11 +30,11 @@ pub fn solved(n: usize, a: &[f64], b: &[f64], x: &mut [f64], work: &mut [f64]) -
     let w = n + 1;
     fill_system(work, n, a, b);
     if elimination::gauss_jordan(work, n, w) {
-        rows::clear(work);
+        clear(work);
         return true;
     }
     blocks::take(work, n, w, n, 1, x);
-    rows::clear(work);
+    clear(work);
     false
 }
 
@@ -44,7 +44,7 @@ pub fn fill_identity(work: &mut [f64], n: usize, mat: &[f64])
     ensures { λ _. ⌜ ((i j : ℕ) → i < n → j < n + n → entryAt (n + n) (now (work .exit)) i j ≡ beside spec.operations n (entryAt n (now (mat .entry))) (λ (r k : ℕ). spec.unitColumn k r) i j) ⌝ }
 {
     let w = n + n;
-    rows::clear(work);
+    clear(work);
     blocks::place(work, n, w, 0, n, mat);
     blocks::place_ones(work, n, w, n);
 }
@@ -57,10 +57,10 @@ pub fn inverted(n: usize, mat: &[f64], inverse: &mut [f64], work: &mut [f64]) ->
     let w = n + n;
     fill_identity(work, n, mat);
     if elimination::gauss_jordan(work, n, w) {
-        rows::clear(work);
+        clear(work);
         return true;
     }
     blocks::take(work, n, w, n, n, inverse);
-    rows::clear(work);
+    clear(work);
     false
 }

@@ -3,7 +3,7 @@
 use complex::Complex;
 use complex::entry::get;
 use complex::entry::put;
-use gauss_jordan::rows;
+use complex::slices::clear;
 ghost use mathlib.Core.Path.{_≡_};
 ghost use mathlib.Core.List.{map};
 ghost use Prim.Native.Nat.{ℕ, _+_, _*_, _<_, _≤_};
@@ -165,7 +165,7 @@ fn reduce_row(
     requires { ⌜ (spec.Listing n (now y) (now outer)) × (spec.Listing n (now y) (now kept)) × (bus < n) × (spec.Rows (now outer) w (now work)) × (length (now outer) + length (now kept) ≤ w) × (length (now to) ≡ 2 * length (now kept)) ⌝ }
     ensures { λ _. ⌜ ((q : ℕ) → q < length (now (kept .entry)) → entry (now (to .exit)) q ≡ spec.lessProduct n (now (y .entry)) (now (outer .entry)) (now (kept .entry)) w (now (work .entry)) bus q) ⌝ }
 {
-    rows::clear(to);
+    clear(to);
     add_products(y, n, bus, outer, work, w, kept.len(), to);
     take_from(y, n, bus, kept, to);
 }

@@ -3,8 +3,8 @@ use crate::WardAnswer;
 use crate::WardSummary;
 use crate::ward_lists;
 use buses::lists::all_below;
+use complex::slices::clear;
 use elimination::gauss_jordan;
-use gauss_jordan::rows;
 use refusals::LIMIT;
 use ward_products::ward_rows;
 ghost use mathlib.Core.Path.{_≡_};
@@ -31,8 +31,8 @@ pub fn unreduced(
     ensures { λ r. ⌜ spec.after r (now (to .exit)) (now (active .exit)) (now (reactive .exit)) (now (work .exit)) ≡ spec.studied (spec.cut n (now (y .entry)) (now (buses .entry)) 0 f base (now (p .entry)) (now (q .entry))) (spec.roomOf (now (to .entry)) (now (active .entry)) (now (reactive .entry)) (now (work .entry))) 0 ⌝ }
 {
     ward_rows::submatrix(y, n, buses, to);
-    rows::clear(active);
-    rows::clear(reactive);
+    clear(active);
+    clear(reactive);
     WardAnswer::Done(WardSummary {
         n_buses_reduced: n,
         n_buses_equivalent: buses.len(),
@@ -79,7 +79,7 @@ fn filled(
         active,
         reactive,
     );
-    rows::clear(work);
+    clear(work);
     WardAnswer::Done(WardSummary {
         n_buses_reduced: n,
         n_buses_equivalent: k - e,
@@ -109,7 +109,7 @@ pub fn eliminated(
     let w = buses.len() + 1;
     ward_rows::fill(y, n, buses, e, base, p, q, work);
     if gauss_jordan(work, e, w) {
-        rows::clear(work);
+        clear(work);
         return WardAnswer::Refused(13);
     }
     filled(n, y, buses, e, f, base, to, active, reactive, work)

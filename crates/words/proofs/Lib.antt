@@ -1,4 +1,3 @@
 pub mod Writing
 pub mod WordLaws
 pub mod WordSizes
-pub mod Bits

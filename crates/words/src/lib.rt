@@ -1,6 +1,5 @@
 // Words: decimal numbers and hexadecimal words, read here and written in `print`.
 ghost use mathlib.Core.Path.{_≡_};
-ghost use lib.Ieee.{binary64, ofBits, toBits};
 ghost use Rattle.words.specs.Words as spec;
 
 pub mod print;
@@ -88,24 +87,4 @@ pub fn hexadecimal(word: &[u8]) -> Number
         i += 1;
     }
     Number::Is(v)
-}
-
-// The f64 with these bits. from_bits is not defined at a NaN's bits, so those are told apart first.
-pub fn number_of(w: u64) -> f64
-    ensures { λ r. ⌜ r ≡ ofBits binary64 w ⌝ }
-{
-    if w % 0x8000_0000_0000_0000 > 0x7ff0_0000_0000_0000 {
-        return 0.0 / 0.0;
-    }
-    f64::from_bits(w)
-}
-
-// The bits of an f64, of a NaN 7ff8000000000000.
-pub fn word_of(x: f64) -> u64
-    ensures { λ r. ⌜ r ≡ toBits binary64 x ⌝ }
-{
-    if x != x {
-        return 0x7ff8_0000_0000_0000;
-    }
-    f64::to_bits(x)
 }

@@ -10,7 +10,7 @@ use lib.ListN.{length, drop, set, replicate, length-replicate, length-append, le
 use Rattle.complex.specs.Matrices.{upTo}
 use Rattle.buses.specs.Buses.{others}
 use Rattle.dc_core.specs.Dc.{kept, keptSlice}
-use Rattle.buses.proofs.Fronts.{front-next, drop-replicate}
+use Rattle.complex.proofs.Fronts.{front-next, drop-replicate}
 use Rattle.dc_core.proofs.Kept.{kept-skip, kept-more}
 use Rattle.dc_core.proofs.Marks.{named, not-named}
 use Rattle.dc_core.proofs.keep.Statement.{statement}

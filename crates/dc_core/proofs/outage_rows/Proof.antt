@@ -13,7 +13,7 @@ use lib.ListN.{length, drop}
 use Rattle.complex.proofs.Matrices.{row-within}
 use Rattle.dc_core.specs.Dc.{numberRows, outage}
 use Rattle.dc_core.proofs.OutageLaws.{length-part, length-numbers, length-numberRows, numberRows-next, numbers-same, row-outage}
-use Rattle.buses.proofs.Fronts.{front-row, front-end}
+use Rattle.complex.proofs.Fronts.{front-row, front-end}
 use Rattle.dc_core.proofs.outage_rows.Statement.{statement}
 use Rattle.dc_core.proofs.outage_rows.Tie as tie
 

@@ -10,7 +10,7 @@ use Rattle.complex.specs.Matrices.{entryAt}
 use Rattle.gauss_jordan.specs.GaussJordan.{pivoted}
 use Rattle.gauss_jordan.specs.Solving.{operations}
 use Rattle.gauss_jordan.proofs.GaussJordan.{cleared-same}
-use Rattle.elimination.proofs.Columns.{placed, weighed}
+use Rattle.elimination.proofs.ColumnSteps.{placed, weighed}
 use Rattle.elimination.proofs.column.Statement.{statement}
 use Rattle.elimination.proofs.column.Tie as tie
 

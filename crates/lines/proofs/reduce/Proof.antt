@@ -51,8 +51,8 @@ print-requires c κs =
           (omega (arith, printed-room input, b .bytes .kept .0, g .before .if1 .left)),
     )
 
-numbers-requires : tie.Need-numbers-requires
-numbers-requires c κs = search needs
+clear-requires : tie.Need-clear-requires
+clear-requires c κs = search needs
 
 same-length : tie.Need-same-length
 same-length c = search needs
@@ -78,7 +78,7 @@ returns-3 c =
           ∙ ap (λ (o : Bytes). written o 0 (printed input)) (b .bytes .ensures ∙ ap (λ (k : ℕ). replicate k 0) (g .before .if1 .left))
           ∙ on-cleared outputLength (printed input)
           ∙ sym (ap (λ (a : AfterReduce). a .output) e),
-      n .numbers .ensures ∙ ap zeros (r .read .kept .1 .0 ∙ g .if2 .left) ∙ sym (ap (λ (a : AfterReduce). a .matrix) e),
+      n .clear .ensures ∙ ap zeros (r .read .kept .1 .0 ∙ g .if2 .left) ∙ sym (ap (λ (a : AfterReduce). a .matrix) e),
     )
 
 pub reduce-spec : {M : Type 1} → statement M
@@ -90,7 +90,7 @@ reduce-spec =
     read-requires
     bytes-requires
     print-requires
-    numbers-requires
+    clear-requires
     same-length
     same-length-2
     returns-3)

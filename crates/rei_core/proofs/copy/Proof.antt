@@ -8,7 +8,7 @@ use native.Mathlib.Omega.{arith}
 use borrow.Author.Needs.{needs}
 use lib.ListN.{length, getD, set, take, drop, length-set}
 use lib.Seq.{length-take-le, take-suc, take-all}
-use Rattle.buses.proofs.Fronts.{front-next, front-end}
+use Rattle.complex.proofs.Fronts.{front-next, front-end}
 use Rattle.rei_core.proofs.copy.Statement.{statement}
 use Rattle.rei_core.proofs.copy.Tie as tie
 

@@ -6,7 +6,7 @@ use Prim.Native.Nat.{_≤_, _-_}
 use native.Mathlib.Omega.{arith}
 use borrow.Author.Needs.{needs}
 use lib.ListN.{length, drop, replicate, length-set}
-use Rattle.buses.proofs.Fronts.{fill-next, fill-all}
+use Rattle.complex.proofs.Fronts.{fill-next, fill-all}
 use Rattle.buses.proofs.lists.no_buses.Statement.{statement}
 use Rattle.buses.proofs.lists.no_buses.Tie as tie
 

@@ -6,7 +6,7 @@ use mathlib.Core.List.{_++_}
 use native.Mathlib.Omega.{arith}
 use lib.ListN.{length, drop, replicate, length-set}
 use Prim.Native.Nat.{ℕ}
-use Rattle.buses.proofs.Fronts.{fill-next, fill-all}
+use Rattle.complex.proofs.Fronts.{fill-next, fill-all}
 use Rattle.lines.proofs.clear.bytes.Statement.{statement}
 use Rattle.lines.proofs.clear.bytes.Tie as tie
 

@@ -80,11 +80,11 @@ returns c =
     ∙ entries-bad (s .args .input .now) (l .at) n (n * n - l .i - 1) (l .i + 2) (take (2 * l .i) (l .matrix)) (sym (v .entry-at .ensures) ∙ c .before .enum-told .given .1))
     (at-front (2 * l .i) (l .matrix) (s .args .matrix .now) k (l .inv .3)))
 
-number-of-requires : tie.Need-number-of-requires Inv-loop μ-loop
-number-of-requires c κs = search needs
+of-word-requires : tie.Need-of-word-requires Inv-loop μ-loop
+of-word-requires c κs = search needs
 
-number-of-requires-2 : tie.Need-number-of-requires-2 Inv-loop μ-loop
-number-of-requires-2 c κs = search needs
+of-word-requires-2 : tie.Need-of-word-requires-2 Inv-loop μ-loop
+of-word-requires-2 c κs = search needs
 
 put-requires : tie.Need-put-requires Inv-loop μ-loop
 put-requires c κs =
@@ -130,7 +130,7 @@ loop-again c =
     let b = r .re .given .0 .1 .0 in
     let z : Complex = record { re = ofWord a; im = ofWord b } in
     let m : w .put .last .0 ≡ put (l .matrix) (l .i) z =
-    w .put .ensures ∙ rw (o .before .number-of .ensures, o .number-of2 .ensures) in (
+    w .put .ensures ∙ rw (o .before .of-word .ensures, o .of-word2 .ensures) in (
       omega (arith, t .loop-test .taken),
       entry-fits (s .args .input .now) (l .at) a b f,
       w .put .kept .0 ∙ l .inv .2,
@@ -227,8 +227,8 @@ entries-spec =
     bad-requires
     same-length
     returns
-    number-of-requires
-    number-of-requires-2
+    of-word-requires
+    of-word-requires-2
     put-requires
     add-at
     add-i

@@ -1,4 +1,4 @@
--- `equivalents::lists::clear` meets its contract: so many times +0 stand before what was there.
+-- `complex::slices::clear` meets its contract: so many times +0 stand before what was there.
 -- Assumes nothing.
 use mathlib.Core.Path.{_≡_, refl, _∙_}
 use mathlib.Core.List.{_++_}
@@ -6,11 +6,11 @@ use Prim.Native.Nat.{_≤_, _-_}
 use native.Mathlib.Omega.{arith}
 use borrow.Author.Needs.{needs}
 use lib.ListN.{length, drop, replicate, length-set}
 use Rattle.complex.specs.Constants.{plus0}
 use Rattle.complex.specs.Matrices.{zeros}
-use Rattle.buses.proofs.Fronts.{fill-next, fill-all}
-use Rattle.buses.proofs.lists.clear.Statement.{statement}
-use Rattle.buses.proofs.lists.clear.Tie as tie
+use Rattle.complex.proofs.Fronts.{fill-next, fill-all}
+use Rattle.complex.proofs.slices.clear.Statement.{statement}
+use Rattle.complex.proofs.slices.clear.Tie as tie
 
 abbrev Inv-loop : tie.InvT-loop
 Inv-loop s₀ i₀ s i = (i ≤ length s₀) × (length s ≡ length s₀) × (s ≡ replicate i plus0 ++ drop i s₀)
