@@ -166,8 +166,8 @@ given-finite S f = search f
 computed-finite : (S : Study) → FiniteStudy S → T (allFinite (ofStudy S))
 computed-finite S f = search f
 
-pub zero-row : (S : Study) (o : Room) → Accepted S o → FiniteStudy S → (p : ℕ) → p < length (rowBuses S) → ZeroRow S p → KeepsRow S (afterWard S o .room) p
+pub zero-row : (S : Study) (o : Room) → F64s (S .given) → Accepted S o → FiniteStudy S → (p : ℕ) → p < length (rowBuses S) → ZeroRow S p → KeepsRow S (afterWard S o .room) p
 unfolding givenOf
-zero-row S o h f p at none =
+zero-row S o f64s h f p at none =
     subst (λ (room : Room). KeepsRow S room p) (sym (left-accepted S o h))
-    (keeps-row S (sound S o h) (f .f64s) (all-left (S .given) (S .base ∷ (S .p-ext ++ S .q-ext)) (given-finite S f)) (computed-finite S f) p at none (zeros (length (o .work))))
+    (keeps-row S (sound S o h) f64s (all-left (S .given) (S .base ∷ (S .p-ext ++ S .q-ext)) (given-finite S f)) (computed-finite S f) p at none (zeros (length (o .work))))

@@ -110,16 +110,24 @@ module _ (S : Extended) (computed : T (allFinite (ofExtended S))) (p : ℕ) (non
       rw (getD-map (qCompensation S) (S .study .boundary) t l)
       (F.zero-eq (qCompensation S (getD (S .study .boundary) t 0)) (no-compensation S (getD (S .study .boundary) t 0) (none-at t q) (ties-computed S t l computed)))
 
-pub zero-rowX : (S : Extended) (o : ExtendedRoom) → AcceptedX S o → FiniteExtended S → (p : ℕ) → p < length (rowBuses (S .study)) → ZeroRow (S .study) p → KeepsRowX S (afterExtended S o .room) p
+-- the parts of the premise that the claim rests on: one that says more has them too
+given-finite : (S : Extended) → FiniteExtended S → T (allFinite (givenOf (S .study) ++ S .v-ext))
+given-finite S f = search f
+
+computed-finite : (S : Extended) → FiniteExtended S → T (allFinite (ofExtended S))
+computed-finite S f = search f
+
+pub zero-rowX : (S : Extended) (o : ExtendedRoom) → F64s (S .study .given) → AcceptedX S o → FiniteExtended S → (p : ℕ) → p < length (rowBuses (S .study)) → ZeroRow (S .study) p → KeepsRowX S (afterExtended S o .room) p
 unfolding givenOf ofExtended
-zero-rowX S o h f p at none =
+zero-rowX S o f64s h f p at none =
     let T = S .study in
-    let given = all-left (T .given) (T .base ∷ (T .p-ext ++ T .q-ext)) (all-left (T .given ++ (T .base ∷ (T .p-ext ++ T .q-ext))) (S .v-ext) (f .given)) in
-    let study = all-left (ofStudy T) (ofEach (ofCorrection S) (T .boundary)) (f .computed) in
+    let given = all-left (T .given) (T .base ∷ (T .p-ext ++ T .q-ext)) (all-left (T .given ++ (T .base ∷ (T .p-ext ++ T .q-ext))) (S .v-ext) (given-finite S f)) in
+    let computed = computed-finite S f in
+    let study = all-left (ofStudy T) (ofEach (ofCorrection S) (T .boundary)) computed in
     record {
-      row = subst (λ (room : Room). KeepsRow T room p) (sym (left-acceptedX S o h)) (keeps-row T (soundX S o h) (f .f64s) given study p at none (zeros (length (o .room .work))));
-      correction = subst (ZeroAt T p) (sym (correction-accepted S o h)) (correction-zero S (f .computed) p none);
-      compensation = subst (ZeroAt T p) (sym (compensation-accepted S o h)) (compensation-zero S (f .computed) p none);
+      row = subst (λ (room : Room). KeepsRow T room p) (sym (left-acceptedX S o h)) (keeps-row T (soundX S o h) f64s given study p at none (zeros (length (o .room .work))));
+      correction = subst (ZeroAt T p) (sym (correction-accepted S o h)) (correction-zero S computed p none);
+      compensation = subst (ZeroAt T p) (sym (compensation-accepted S o h)) (compensation-zero S computed p none);
     }
 
 pub wardRows : WardRows

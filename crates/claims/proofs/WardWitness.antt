@@ -85,7 +85,7 @@ unfolding retained listed admittance sumUp system response rowTimes equivalent c
 computed = tt
 
 finite-study : FiniteStudy S
-finite-study = record { f64s = f64s; given = search given; computed = search computed }
+finite-study = record { given = search given; computed = search computed }
 
 zero-towards : ZeroRow S 1
 unfolding ZeroRow old busOfRow rowBuses entryAt entry ofBits ofFields odd eq
@@ -94,7 +94,7 @@ zero-towards e h = elim (in-cases e 0 [] h) [ inl q ↦ rw q tt | inr n ↦ absu
 -- row 1, of bus 2, is the boundary's first
 keeps : KeepsRow S (afterWard S o .room) 1
 unfolding rowBuses
-keeps = zero-row S o accepted finite-study 1 (lit< tt) zero-towards
+keeps = zero-row S o f64s accepted finite-study 1 (lit< tt) zero-towards
 
 -- row 2, of bus 1: its own entry was 2 and is 1.5, and P was 0 and is 0.5
 changes : T (not (eq (entryAt 3 (afterWard S o .room .y-ward) 2 2 .re) (old S 1 1 .re))) × T (not (isZero (getD (afterWard S o .room .p-ward) 1 nan)))
@@ -123,11 +123,12 @@ unfolding retained listed admittance sumUp system response rowTimes equivalent c
 computed-x = tt
 
 finite-extended : FiniteExtended X
-finite-extended = record { f64s = f64s; given = search given-x; computed = search computed-x }
+unfolding one ofBits ofFields odd eq
+finite-extended = record { given = search given-x; computed = search computed-x }
 
 keeps-x : KeepsRowX X (afterExtended X wide .room) 1
 unfolding rowBuses
-keeps-x = zero-rowX X wide accepted-x finite-extended 1 (lit< tt) zero-towards
+keeps-x = zero-rowX X wide f64s accepted-x finite-extended 1 (lit< tt) zero-towards
 
 -- row 2, of bus 1, gets a correction
 changes-x : T (not (isZero (getD (afterExtended X wide .room .correction) 1 nan)))

@@ -18,14 +18,12 @@ use Rattle.ward_studies.specs.WardComputed.{ofStudy, ofExtended}
 unfoldable pub givenOf : Study → List Float
 givenOf S = S .given ++ (S .base ∷ (S .p-ext ++ S .q-ext))
 
--- all given and all computed in the study are finite; f64s is no restriction: the matrix is a slice of f64
+-- all given and all computed in the study are finite
 pub record FiniteStudy (S : Study) : Type 0 where
-  pub f64s : F64s (S .given)
   pub given : T (allFinite (givenOf S))
   pub computed : T (allFinite (ofStudy S))
 
 pub record FiniteExtended (S : Extended) : Type 0 where
-  pub f64s : F64s (S .study .given)
   pub given : T (allFinite (givenOf (S .study) ++ S .v-ext))
   pub computed : T (allFinite (ofExtended S))
 
@@ -71,8 +69,9 @@ pub record KeepsRowX (S : Extended) (o : ExtendedRoom) (p : ℕ) : Type 0 where
 
 -- ---- the claim
 
+-- for every accepted study, of either kind; the matrix is a slice of f64 (F64s), which is no restriction
 pub record WardRows : Type 0 where
-  pub study : (S : Study) (o : Room) → Accepted S o → FiniteStudy S
+  pub study : (S : Study) (o : Room) → F64s (S .given) → Accepted S o → FiniteStudy S
       → (p : ℕ) → p < length (rowBuses S) → ZeroRow S p → KeepsRow S (afterWard S o .room) p
-  pub extended : (S : Extended) (o : ExtendedRoom) → AcceptedX S o → FiniteExtended S
+  pub extended : (S : Extended) (o : ExtendedRoom) → F64s (S .study .given) → AcceptedX S o → FiniteExtended S
       → (p : ℕ) → p < length (rowBuses (S .study)) → ZeroRow (S .study) p → KeepsRowX S (afterExtended S o .room) p
