@@ -1,15 +1,13 @@
--- Demand 3, whole; on lists of calls both claims, their positive forms, and both for any bit patterns.
+-- Demand 3, whole; on lists of calls both claims and their positive forms.
 -- Assumes nothing.
 use mathlib.Core.Path.{_≡_, refl, sym, subst, subst₂}
 use mathlib.Core.Logic.{_⊎_, inl, inr, ⊎-elim}
-use mathlib.Core.List.{List, [], _∷_}
-use Prim.Native.Nat.{ℕ, zero, suc, _+_, _*_, _<_}
+use mathlib.Core.List.{List}
+use Prim.Native.Nat.{ℕ, _+_, _*_, _<_}
 use native.Mathlib.Omega.{arith}
 use lib.Dec.{T}
 use lib.ListN.{length, getD}
-use lib.Ieee.{Float, binary64}
-use lib.Ieee.Fits.{nan-fits}
-use lib.Ieee.Bits.{ofBits-fits}
+use lib.Ieee.{Float}
 use Rattle.complex.specs.declared.Complex.{Complex}
 use Rattle.complex.specs.Entries.{entry as entryOf}
 use Rattle.complex.specs.Matrices.{Matrix, upTo, entryAt}
@@ -18,12 +16,12 @@ use Rattle.complex.proofs.Matrices.{entry-within}
 use Rattle.complex.proofs.SameValue.{Number}
 use Rattle.buses.specs.Buses.{_∈_, others}
 use Rattle.kron_rows.specs.Kron.{start}
-use Rattle.kron_core.specs.Reducer.{Making, makingOf, Made}
+use Rattle.kron_core.specs.Reducer.{Making, Made}
 use Rattle.buses.proofs.Buses.{getD-in}
 use Rattle.kron_rows.proofs.States.{eliminate-active}
 use Rattle.claims.specs.Accounts.{Call, left, entry, Account, fresh, stateOf, account, kept, busAt}
 use Rattle.claims.specs.Chains.{Chain, Into, Out, SameOutside}
-use Rattle.claims.specs.Finite.{ofAccount, Finite, words}
+use Rattle.claims.specs.Finite.{ofAccount, Finite}
 use Rattle.claims.specs.Removals.{Unchanged, Alike, Independent, RemovalClaims}
 use Rattle.claims.specs.Demand3.{Demand3}
 use Rattle.claims.proofs.WardRows.{wardRows}
@@ -135,18 +133,3 @@ removals = record { unchanged = unchanged; independent = independent }
 
 pub demand3 : Demand3
 demand3 = record { removals = removals; ward = wardRows }
-
--- ---- any bit patterns: no premise on how numbers are written is left
-
-pub words-f64s : (ws : List ℕ) → F64s (words ws)
-unfolding words
-words-f64s [] i = nan-fits binary64
-words-f64s (w ∷ ws) zero = ofBits-fits binary64 w
-words-f64s (w ∷ ws) (suc i) = words-f64s ws i
-
-pub unchanged-words : (n : ℕ) (ws : List ℕ) (calls : List Call) → let M = makingOf n (words ws) in Finite M calls → Unchanged (account M calls) (left M calls)
-unchanged-words n ws calls h = unchanged (makingOf n (words ws)) calls (words-f64s ws) h
-
-pub independent-words : (n n' : ℕ) (ws ws' : List ℕ) (calls calls' : List Call) → let M = makingOf n (words ws) in let M' = makingOf n' (words ws') in Finite M calls → Finite M' calls'
-    → Independent (account M calls) (left M calls) (account M' calls') (left M' calls')
-independent-words n n' ws ws' calls calls' h h' = independent (makingOf n (words ws)) (makingOf n' (words ws')) calls calls' (words-f64s ws) (words-f64s ws') h h'

@@ -27,110 +27,95 @@ use Rattle.ward_studies.specs.Ward.{Study, Room, retained, listed, externals, a
 use Rattle.ward_studies.specs.WardComputed.{ofEach, ofProducts, ofRowTimes, ofResponse, ofEntry, ofCurrents, ofDriven, ofInjection, ofReduction, ofEquivalent, ofInjections, ofStudy, ofSums, ofTies, ofCorrection, ofExtended}
 use Rattle.buses.proofs.Buses.{in-cases}
 use Rattle.ward_studies.specs.WardExtended.{Extended, ExtendedRoom, addUp, deviation, weight, weightSum, weightedSum, voltageCorrection, reactive, qCompensation, inputRefusalX, refusalX, AcceptedX, roomAfterX, afterExtended}
+use Rattle.claims.specs.Finite.{words}
 use Rattle.claims.specs.WardRows.{givenOf, FiniteStudy, FiniteExtended, old, rowBuses, busOfRow, ZeroRow, KeepsRow, KeepsRowX}
-use Rattle.claims.proofs.WardKeeps.{zero-row}
-use Rattle.claims.proofs.WardRows.{zero-rowX}
+use Rattle.claims.proofs.Demand3.{demand3}
+use Rattle.claims.proofs.BitPatterns.{words-f64s, study, extended}
 
-abbrev z : Float
-z = ofBits binary64 0
+-- the bit patterns of 1, -1 and 2
+abbrev I : ℕ
+I = 0x3ff0000000000000
 
-abbrev I : Float
-I = ofBits binary64 0x3ff0000000000000
+abbrev -I : ℕ
+-I = 0xbff0000000000000
 
-abbrev -I : Float
--I = ofBits binary64 0xbff0000000000000
-
-abbrev II : Float
-II = ofBits binary64 0x4000000000000000
+abbrev II : ℕ
+II = 0x4000000000000000
 
 -- buses 0 - 1 - 2 - 3 in a row; bus 0 is external, with a shunt
-abbrev line : List Float
+abbrev line : List ℕ
 line =
-    II ∷ z ∷ -I ∷ z ∷ z ∷ z ∷ z ∷ z
-    ∷ -I ∷ z ∷ II ∷ z ∷ -I ∷ z ∷ z ∷ z
-    ∷ z ∷ z ∷ -I ∷ z ∷ II ∷ z ∷ -I ∷ z
-    ∷ z ∷ z ∷ z ∷ z ∷ -I ∷ z ∷ I ∷ z ∷ []
+    II ∷ 0 ∷ -I ∷ 0 ∷ 0 ∷ 0 ∷ 0 ∷ 0
+    ∷ -I ∷ 0 ∷ II ∷ 0 ∷ -I ∷ 0 ∷ 0 ∷ 0
+    ∷ 0 ∷ 0 ∷ -I ∷ 0 ∷ II ∷ 0 ∷ -I ∷ 0
+    ∷ 0 ∷ 0 ∷ 0 ∷ 0 ∷ -I ∷ 0 ∷ I ∷ 0 ∷ []
 
 abbrev S : Study
-S = record { size = 4; given = line; internal = 3 ∷ []; external = 0 ∷ []; boundary = 2 ∷ 1 ∷ []; base = II; p-ext = I ∷ []; q-ext = I ∷ [] }
+S = study 4 line (3 ∷ []) (0 ∷ []) (2 ∷ 1 ∷ []) II (I ∷ []) (I ∷ [])
 
 abbrev o : Room
 unfolding zeros
 o = record { y-ward = zeros 18; p-ward = zeros 2; q-ward = zeros 2; work = zeros 10 }
 
 accepted : Accepted S o
-unfolding retained listed admittance sumUp system response rowTimes equivalent current injectedP injectedQ driven transferred injectionP injectionQ repeats tooLong misfit unmatched busRefusal inputRefusal thenPivots refusal reduction summary answered filled workAfter roomAfter afterWard allBelow limit stays tooSmall heldAfter pivotRow swapped scaled reduced pivoted cleared runFrom run beside solution singularSystem skipped cadd csub cmul sqmag cdiv complexInv plus0 one tiny entry abs upTo entryAt row rows zeros ofBits span climb size odd units round neg sum add sub mul div lt eq ofInt ofFields
+unfolding words retained listed admittance sumUp system response rowTimes equivalent current injectedP injectedQ driven transferred injectionP injectionQ repeats tooLong misfit unmatched busRefusal inputRefusal thenPivots refusal reduction summary answered filled workAfter roomAfter afterWard allBelow limit stays tooSmall heldAfter pivotRow swapped scaled reduced pivoted cleared runFrom run beside solution singularSystem skipped cadd csub cmul sqmag cdiv complexInv plus0 one tiny entry abs upTo entryAt row rows zeros ofBits span climb size odd units round neg sum add sub mul div lt eq ofInt ofFields
 accepted = tt
 
-allFit : List Float → Bool
-allFit [] = true
-allFit (x ∷ xs) = fits binary64 x && allFit xs
-
-f64s-of : (xs : List Float) → T (allFit xs) → F64s xs
-unfolding allFit
-f64s-of [] h i = nan-fits binary64
-f64s-of (x ∷ xs) h zero = and-l (fits binary64 x) (allFit xs) h
-f64s-of (x ∷ xs) h (suc i) = f64s-of xs (and-r (fits binary64 x) (allFit xs) h) i
-
-f64s : F64s line
-unfolding allFit fits ofBits ofFields odd
-f64s = f64s-of line tt
-
 given : T (allFinite (givenOf S))
-unfolding givenOf allFinite ofBits ofFields odd
+unfolding words givenOf allFinite ofBits ofFields odd
 given = tt
 
 computed : T (allFinite (ofStudy S))
-unfolding retained listed admittance sumUp system response rowTimes equivalent current injectedP injectedQ driven transferred injectionP injectionQ repeats tooLong misfit unmatched busRefusal inputRefusal thenPivots refusal reduction summary answered filled workAfter roomAfter afterWard allBelow limit stays tooSmall heldAfter pivotRow swapped scaled reduced pivoted cleared runFrom run beside solution singularSystem skipped cadd csub cmul sqmag cdiv complexInv plus0 one tiny entry abs upTo entryAt row rows zeros ofBits span climb size odd units round neg sum add sub mul div lt eq ofInt ofFields ofSearch ofScaling ofReducing ofReductions ofRunFrom ofRun ofSolve ofEach ofProducts ofRowTimes ofResponse ofEntry ofCurrents ofDriven ofInjection ofReduction ofEquivalent ofInjections ofStudy allFinite
+unfolding words retained listed admittance sumUp system response rowTimes equivalent current injectedP injectedQ driven transferred injectionP injectionQ repeats tooLong misfit unmatched busRefusal inputRefusal thenPivots refusal reduction summary answered filled workAfter roomAfter afterWard allBelow limit stays tooSmall heldAfter pivotRow swapped scaled reduced pivoted cleared runFrom run beside solution singularSystem skipped cadd csub cmul sqmag cdiv complexInv plus0 one tiny entry abs upTo entryAt row rows zeros ofBits span climb size odd units round neg sum add sub mul div lt eq ofInt ofFields ofSearch ofScaling ofReducing ofReductions ofRunFrom ofRun ofSolve ofEach ofProducts ofRowTimes ofResponse ofEntry ofCurrents ofDriven ofInjection ofReduction ofEquivalent ofInjections ofStudy allFinite
 computed = tt
 
 finite-study : FiniteStudy S
 finite-study = record { given = search given; computed = search computed }
 
 zero-towards : ZeroRow S 1
-unfolding ZeroRow old busOfRow rowBuses entryAt entry ofBits ofFields odd eq
+unfolding words ZeroRow old busOfRow rowBuses entryAt entry ofBits ofFields odd eq
 zero-towards e h = elim (in-cases e 0 [] h) [ inl q ↦ rw q tt | inr n ↦ absurd n ]
 
 -- row 1, of bus 2, is the boundary's first
 keeps : KeepsRow S (afterWard S o .room) 1
 unfolding rowBuses
-keeps = zero-row S o f64s accepted finite-study 1 (lit< tt) zero-towards
+keeps = demand3 .ward .study S o (words-f64s line) accepted finite-study 1 (lit< tt) zero-towards
 
 -- row 2, of bus 1: its own entry was 2 and is 1.5, and P was 0 and is 0.5
 changes : T (not (eq (entryAt 3 (afterWard S o .room .y-ward) 2 2 .re) (old S 1 1 .re))) × T (not (isZero (getD (afterWard S o .room .p-ward) 1 nan)))
-unfolding old retained listed admittance sumUp system response rowTimes equivalent current injectedP injectedQ driven transferred injectionP injectionQ repeats tooLong misfit unmatched busRefusal inputRefusal thenPivots refusal reduction summary answered filled workAfter roomAfter afterWard allBelow limit stays tooSmall heldAfter pivotRow swapped scaled reduced pivoted cleared runFrom run beside solution singularSystem skipped cadd csub cmul sqmag cdiv complexInv plus0 one tiny entry abs upTo entryAt row rows zeros ofBits span climb size odd units round neg sum add sub mul div lt eq ofInt ofFields
+unfolding words old retained listed admittance sumUp system response rowTimes equivalent current injectedP injectedQ driven transferred injectionP injectionQ repeats tooLong misfit unmatched busRefusal inputRefusal thenPivots refusal reduction summary answered filled workAfter roomAfter afterWard allBelow limit stays tooSmall heldAfter pivotRow swapped scaled reduced pivoted cleared runFrom run beside solution singularSystem skipped cadd csub cmul sqmag cdiv complexInv plus0 one tiny entry abs upTo entryAt row rows zeros ofBits span climb size odd units round neg sum add sub mul div lt eq ofInt ofFields
 changes = (tt, tt)
 
 -- ---- the same study, extended: the external bus at 2 per unit
 
 abbrev X : Extended
-X = record { study = S; v-ext = II ∷ [] }
+X = extended 4 line (3 ∷ []) (0 ∷ []) (2 ∷ 1 ∷ []) II (I ∷ []) (I ∷ []) (II ∷ [])
 
 abbrev wide : ExtendedRoom
 unfolding zeros
 wide = record { room = o; correction = zeros 2; compensation = zeros 2 }
 
 accepted-x : AcceptedX X wide
-unfolding retained listed admittance sumUp system response rowTimes equivalent current injectedP injectedQ driven transferred injectionP injectionQ repeats tooLong misfit unmatched busRefusal inputRefusal thenPivots refusal reduction summary answered filled workAfter roomAfter afterWard allBelow limit stays tooSmall heldAfter pivotRow swapped scaled reduced pivoted cleared runFrom run beside solution singularSystem skipped cadd csub cmul sqmag cdiv complexInv plus0 one tiny entry abs upTo entryAt row rows zeros ofBits span climb size odd units round neg sum add sub mul div lt eq ofInt ofFields magnitude root rootOf wholeRoot half radicand weak addUp deviation weight weightSum weightedSum voltageCorrection reactive qCompensation inputRefusalX refusalX roomAfterX afterExtended
+unfolding words retained listed admittance sumUp system response rowTimes equivalent current injectedP injectedQ driven transferred injectionP injectionQ repeats tooLong misfit unmatched busRefusal inputRefusal thenPivots refusal reduction summary answered filled workAfter roomAfter afterWard allBelow limit stays tooSmall heldAfter pivotRow swapped scaled reduced pivoted cleared runFrom run beside solution singularSystem skipped cadd csub cmul sqmag cdiv complexInv plus0 one tiny entry abs upTo entryAt row rows zeros ofBits span climb size odd units round neg sum add sub mul div lt eq ofInt ofFields magnitude root rootOf wholeRoot half radicand weak addUp deviation weight weightSum weightedSum voltageCorrection reactive qCompensation inputRefusalX refusalX roomAfterX afterExtended
 accepted-x = tt
 
 given-x : T (allFinite (givenOf S ++ X .v-ext))
-unfolding givenOf allFinite ofBits ofFields odd
+unfolding words givenOf allFinite ofBits ofFields odd
 given-x = tt
 
 computed-x : T (allFinite (ofExtended X))
-unfolding retained listed admittance sumUp system response rowTimes equivalent current injectedP injectedQ driven transferred injectionP injectionQ repeats tooLong misfit unmatched busRefusal inputRefusal thenPivots refusal reduction summary answered filled workAfter roomAfter afterWard allBelow limit stays tooSmall heldAfter pivotRow swapped scaled reduced pivoted cleared runFrom run beside solution singularSystem skipped cadd csub cmul sqmag cdiv complexInv plus0 one tiny entry abs upTo entryAt row rows zeros ofBits span climb size odd units round neg sum add sub mul div lt eq ofInt ofFields magnitude root rootOf wholeRoot half radicand weak addUp deviation weight weightSum weightedSum voltageCorrection reactive qCompensation inputRefusalX refusalX roomAfterX afterExtended ofSearch ofScaling ofReducing ofReductions ofRunFrom ofRun ofSolve ofEach ofProducts ofRowTimes ofResponse ofEntry ofCurrents ofDriven ofInjection ofReduction ofEquivalent ofInjections ofStudy ofSums ofTies ofCorrection ofExtended allFinite
+unfolding words retained listed admittance sumUp system response rowTimes equivalent current injectedP injectedQ driven transferred injectionP injectionQ repeats tooLong misfit unmatched busRefusal inputRefusal thenPivots refusal reduction summary answered filled workAfter roomAfter afterWard allBelow limit stays tooSmall heldAfter pivotRow swapped scaled reduced pivoted cleared runFrom run beside solution singularSystem skipped cadd csub cmul sqmag cdiv complexInv plus0 one tiny entry abs upTo entryAt row rows zeros ofBits span climb size odd units round neg sum add sub mul div lt eq ofInt ofFields magnitude root rootOf wholeRoot half radicand weak addUp deviation weight weightSum weightedSum voltageCorrection reactive qCompensation inputRefusalX refusalX roomAfterX afterExtended ofSearch ofScaling ofReducing ofReductions ofRunFrom ofRun ofSolve ofEach ofProducts ofRowTimes ofResponse ofEntry ofCurrents ofDriven ofInjection ofReduction ofEquivalent ofInjections ofStudy ofSums ofTies ofCorrection ofExtended allFinite
 computed-x = tt
 
 finite-extended : FiniteExtended X
-unfolding one ofBits ofFields odd eq
+unfolding words one ofBits ofFields odd eq
 finite-extended = record { given = search given-x; computed = search computed-x }
 
 keeps-x : KeepsRowX X (afterExtended X wide .room) 1
 unfolding rowBuses
-keeps-x = zero-rowX X wide f64s accepted-x finite-extended 1 (lit< tt) zero-towards
+keeps-x = demand3 .ward .extended X wide (words-f64s line) accepted-x finite-extended 1 (lit< tt) zero-towards
 
 -- row 2, of bus 1, gets a correction
 changes-x : T (not (isZero (getD (afterExtended X wide .room .correction) 1 nan)))
-unfolding retained listed admittance sumUp system response rowTimes equivalent current injectedP injectedQ driven transferred injectionP injectionQ repeats tooLong misfit unmatched busRefusal inputRefusal thenPivots refusal reduction summary answered filled workAfter roomAfter afterWard allBelow limit stays tooSmall heldAfter pivotRow swapped scaled reduced pivoted cleared runFrom run beside solution singularSystem skipped cadd csub cmul sqmag cdiv complexInv plus0 one tiny entry abs upTo entryAt row rows zeros ofBits span climb size odd units round neg sum add sub mul div lt eq ofInt ofFields magnitude root rootOf wholeRoot half radicand weak addUp deviation weight weightSum weightedSum voltageCorrection reactive qCompensation inputRefusalX refusalX roomAfterX afterExtended
+unfolding words retained listed admittance sumUp system response rowTimes equivalent current injectedP injectedQ driven transferred injectionP injectionQ repeats tooLong misfit unmatched busRefusal inputRefusal thenPivots refusal reduction summary answered filled workAfter roomAfter afterWard allBelow limit stays tooSmall heldAfter pivotRow swapped scaled reduced pivoted cleared runFrom run beside solution singularSystem skipped cadd csub cmul sqmag cdiv complexInv plus0 one tiny entry abs upTo entryAt row rows zeros ofBits span climb size odd units round neg sum add sub mul div lt eq ofInt ofFields magnitude root rootOf wholeRoot half radicand weak addUp deviation weight weightSum weightedSum voltageCorrection reactive qCompensation inputRefusalX refusalX roomAfterX afterExtended
 changes-x = tt

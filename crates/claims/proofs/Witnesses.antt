@@ -22,7 +22,8 @@ use Rattle.claims.specs.Accounts.{Call, bus, buses, stepHeld, leftFrom, 
 use Rattle.claims.specs.Chains.{Linked, Steps, Within, Chain, Into, Out, SameOutside}
 use Rattle.claims.specs.Finite.{ofAccount, Finite, words}
 use Rattle.claims.specs.Removals.{Alike, NoInto}
-use Rattle.claims.proofs.Demand3.{demand3, words-f64s}
+use Rattle.claims.proofs.Demand3.{demand3}
+use Rattle.claims.proofs.BitPatterns.{words-f64s}
 
 -- M of the two-bus book: 1, -1 / -1, 2
 unfoldable pub book-words : List ℕ
