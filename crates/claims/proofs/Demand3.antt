@@ -129,7 +129,10 @@ independent M M' calls calls' f f' h h' G alike p q x y apart = elim (same-or-jo
 -- ---- the demand
 
 pub removals : RemovalClaims
-removals = record { unchanged = unchanged; independent = independent }
+removals = record {
+  unchanged = unchanged;
+  independent = λ M M' calls calls' f f' h h'. independent M M' calls calls' f f' (search h) (search h');
+}
 
 pub demand3 : Demand3
 demand3 = record { removals = removals; ward = wardRows }

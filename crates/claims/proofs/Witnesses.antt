@@ -99,6 +99,10 @@ second = makingOf 3 (words second-words)
 second-calls : List Call
 second-calls = bus 9 ∷ bus 2 ∷ buses (2 ∷ 0 ∷ []) ∷ []
 
+calls-differ : second-calls ≡ first-calls → ⊥
+unfolding first-calls second-calls
+calls-differ e = let z : _≡_ {A = ℕ} 0 1 = cc in omega arith
+
 second-finite : Finite second second-calls
 unfolding second-words second-calls words csub cmul cdiv sqmag tiny plus0 upTo others place entryOf entryAt newEntry kron tooSmall refusal eliminate taken limit fresh stateOf removes step accountFrom add sub mul div lt ofBits makingRefusal allFinite ofAccount ofRemovals ofRow ofRows
 second-finite = record { made = search tt; given = search tt; computed = tt }
@@ -159,9 +163,9 @@ an-out = (2, [], tt, tt, tt)
 
 -- so row 0 is the same in both, while the entry at bus 1, which has chains into the group and out of it, is not
 row-same : (q : ℕ) → q < 2 → entry (left first first-calls) 0 q ≈ entry (left second second-calls) 0 q
-unfolding first-words first-calls words csub cmul cdiv sqmag tiny plus0 upTo others place entryOf entryAt newEntry kron tooSmall refusal eliminate taken limit fresh stateOf removes step accountFrom add sub mul div lt ofBits
+unfolding first-words first-calls second-calls words csub cmul cdiv sqmag tiny plus0 upTo others place entryOf entryAt newEntry kron tooSmall refusal eliminate taken limit fresh stateOf removes step accountFrom add sub mul div lt ofBits
 row-same q h =
-    demand3 .removals .independent first second first-calls second-calls (words-f64s first-words) (words-f64s second-words) first-finite second-finite (2 ∷ []) alike 0 q (lit< tt) h (inl no-into)
+    demand3 .removals .independent first second first-calls second-calls (words-f64s first-words) (words-f64s second-words) (search first-finite) (search second-finite) (2 ∷ []) alike 0 q (lit< tt) h (inl no-into)
 
 entries-differ : entry (left first first-calls) 1 1 ≈ entry (left second second-calls) 1 1 → ⊥
 unfolding first-words first-calls second-words second-calls words csub cmul cdiv sqmag tiny plus0 upTo others place entryOf entryAt newEntry kron tooSmall refusal eliminate taken limit fresh stateOf removes step accountFrom add sub mul div lt ofBits row rows zeros laidOut laid outcome stop makingRefusal afterNew rising allBelow allZero sound inputRefusal view leaves removable refusalOf afterBus afterBuses stepHeld leftFrom left eq
