@@ -1,6 +1,6 @@
 -- Case 8 of the two-bus book holds: impedances.
 -- Assumes nothing.
-use mathlib.Core.Path.{_≡_, refl}
+use mathlib.Core.Path.{refl}
 use lib.Ieee.{add, sub, mul, div, lt, ofBits}
 use Rattle.complex.specs.Constants.{plus0, one, tiny}
 use Rattle.complex.specs.Arithmetic.{cadd, csub, cmul, cdiv, sqmag, complexInv}

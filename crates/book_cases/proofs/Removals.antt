@@ -1,6 +1,6 @@
 -- Cases 5 to 7 of the two-bus book hold: removals.
 -- Assumes nothing.
-use mathlib.Core.Path.{_≡_, refl}
+use mathlib.Core.Path.{refl}
 use lib.Ieee.{add, sub, mul, div, lt, ofBits}
 use Rattle.complex.specs.Constants.{plus0, tiny}
 use Rattle.complex.specs.Arithmetic.{csub, cmul, cdiv, sqmag}

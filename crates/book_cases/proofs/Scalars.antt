@@ -1,6 +1,6 @@
 -- Cases 1 to 4 of the two-bus book hold: complex numbers.
 -- Assumes nothing.
-use mathlib.Core.Path.{_≡_, refl}
+use mathlib.Core.Path.{refl}
 use lib.Ieee.{add, sub, mul, div, lt, ofBits}
 use Rattle.complex.specs.Constants.{plus0, one, tiny}
 use Rattle.complex.specs.Arithmetic.{cmul, cdiv, sqmag, complexInv}

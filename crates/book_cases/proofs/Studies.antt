@@ -1,6 +1,6 @@
 -- Cases 9 to 11 of the two-bus book hold: Ward's studies.
 -- Assumes nothing.
-use mathlib.Core.Path.{_≡_, refl}
+use mathlib.Core.Path.{refl}
 use lib.Ieee.{ofBits, ofInt, neg, add, sub, mul, div, lt}
 use Rattle.binary64.specs.Root.{root, rootOf, wholeRoot, half, radicand}
 use Rattle.complex.specs.Constants.{plus0, one, tiny, weak}

@@ -8,8 +8,6 @@ use lib.Ieee.{Float}
 use Rattle.complex.specs.declared.Complex.{Complex}
 use Rattle.refusals.specs.Refusals.{notActive, smallEntry}
 use Rattle.kron_core.specs.Reducer.{Making, makingOf, recordOf}
-use Rattle.ward_studies.specs.Ward.{Study, Room}
-use Rattle.ward_studies.specs.WardExtended.{Extended, ExtendedRoom}
 use Rattle.ward_studies.specs.WardCalls.{studyOf, roomOf}
 use Rattle.book_cases.specs.Numbers.{+0, -0, 1/4, 1/2, -1/2, 3/4, +1, -1, 5/4, 3/2, +2, -2, +3, -3, +4, -4, -5, +6, -8, +10, +25, +50, +100, -100, 2^-499, 2^-498, 2^498, infinity}
 use Rattle.book_cases.specs.Calls.{Call, product, inverse, removal, removals, impedance, study, extended, solution, Seen, seen, ofReducer, after}

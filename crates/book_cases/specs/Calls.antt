@@ -11,8 +11,7 @@ use Rattle.kron_core.specs.declared.KronReducer.{KronReducer}
 use Rattle.kron_core.specs.declared.Impedance.{Impedance}
 use Rattle.kron_core.specs.declared.Impedance.the-variants as impedances
 use Rattle.kron_core.specs.Reducer.{Making, afterNew, AfterBus, afterBus, AfterBuses, afterBuses}
-use Rattle.kron_core.specs.Reading.{AfterImpedance, afterImpedance}
-use Rattle.ward_studies.specs.declared.WardSummary.{WardSummary}
+use Rattle.kron_core.specs.Reading.{afterImpedance}
 use Rattle.ward_studies.specs.declared.WardAnswer.{WardAnswer}
 use Rattle.ward_studies.specs.declared.WardAnswer.the-variants as studies
 use Rattle.ward_studies.specs.Ward.{Study, Room, AfterWard, afterWard}

@@ -1,32 +1,32 @@
 -- Ward's own study: a retained row with zeros towards all external buses keeps its values and gets zero injection (`zero-row`).
 -- Assumes nothing.
-use mathlib.Core.Path.{_≡_, refl, sym, ap, subst, _∙_}
-use mathlib.Core.Logic.{_⊎_, inl, inr, ⊎-elim}
-use mathlib.Core.Bool.{Bool, true, false, _&&_, cond}
-use mathlib.Core.List.{List, [], _∷_, _++_, map}
-use Prim.Native.Nat.{ℕ, zero, suc, _+_, _*_, _<_}
+use mathlib.Core.Path.{_≡_, refl, sym, subst}
+use mathlib.Core.Logic.{inr}
+use mathlib.Core.Bool.{Bool, true, false, cond}
+use mathlib.Core.List.{List, [], _∷_, _++_}
+use Prim.Native.Nat.{ℕ, _+_, _*_, _<_}
 use native.Mathlib.Omega.{arith}
 use lib.Dec.{T, eqb}
-use lib.ListN.{length, getD, length-append}
+use lib.ListN.{length, getD}
 use lib.Seq.{getD-append-add}
-use lib.Ieee.{Float, nan, binary64, fits, neg}
-use lib.Ieee.Fits.{and-l, and-r, mul-fits}
+use lib.Ieee.{Float, binary64, fits, neg}
+use lib.Ieee.Fits.{and-l, and-r}
 use lib.Ieee.Scale.{finite}
 use Rattle.complex.specs.declared.Complex.{Complex}
 use Rattle.complex.specs.Constants.{plus0}
-use Rattle.complex.specs.Arithmetic.{_⊖_, _⊗_, cmul, csub}
-use Rattle.complex.specs.Computed.{ofDifference, ofSqmag}
+use Rattle.complex.specs.Arithmetic.{csub}
+use Rattle.complex.specs.Computed.{ofDifference}
 use Rattle.complex.specs.Entries.{entry}
-use Rattle.complex.specs.Matrices.{entryAt, rows, zeros}
+use Rattle.complex.specs.Matrices.{entryAt, zeros}
 use Rattle.complex.specs.Values.{_≈_, isZero, Zero, allFinite, F64s}
 use Rattle.binary64.proofs.Floats as F
 use Rattle.complex.proofs.Matrices.{entry-within, entry-rows}
 use Rattle.complex.proofs.Finite.{all-left, all-right, all-at, zero-times}
 use Rattle.buses.specs.Buses.{_∈_}
-use Rattle.ward_products.specs.WardArithmetic.{sumUp, injectedP, injectedQ}
+use Rattle.ward_products.specs.WardArithmetic.{injectedP, injectedQ}
 use Rattle.ward_studies.specs.Ward.{Study, Room, Accepted, retained, listed, externals, externalAt, admittance, response, rowTimes, equivalent, driven, transferred, injectionP, injectionQ, filled, afterWard}
-use Rattle.ward_studies.specs.WardComputed.{ofEach, ofProducts, ofRowTimes, ofResponse, ofEntry, ofCurrents, ofDriven, ofInjection, ofReduction, ofEquivalent, ofInjections, ofStudy, ofExtended}
-use Rattle.buses.proofs.Buses.{getD-in, append-cases, in-append, below-all}
+use Rattle.ward_studies.specs.WardComputed.{ofEach, ofRowTimes, ofResponse, ofEntry, ofCurrents, ofDriven, ofInjection, ofReduction, ofEquivalent, ofInjections, ofStudy}
+use Rattle.buses.proofs.Buses.{getD-in, in-append, below-all}
 use Rattle.ward_studies.proofs.WardLaws.{Sound, sound, left-accepted}
 use Rattle.ward_products.proofs.WardPlaces.{getD-map}
 use Rattle.ward_studies.proofs.WardSums.{Null, plus0-zero, products-null, each-at}

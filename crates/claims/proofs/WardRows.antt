@@ -1,27 +1,27 @@
 -- Demand 3 of Ward's study, whole (`wardRows`): Ward's own by WardKeeps, and the extended study's correction and compensation.
 -- Assumes nothing.
-use mathlib.Core.Path.{_≡_, refl, sym, ap, subst, _∙_}
+use mathlib.Core.Path.{_≡_, refl, sym, ap, subst}
 use mathlib.Core.Logic.{_⊎_, inl, inr}
-use mathlib.Core.List.{List, [], _∷_, _++_, map}
+use mathlib.Core.List.{[], _∷_, _++_, map}
 use Prim.Native.Nat.{ℕ, zero, suc, _+_, _<_}
 use native.Mathlib.Omega.{arith}
 use lib.Dec.{T}
 use lib.ListN.{length, getD}
-use lib.Ieee.{Float, nan, binary64, fits, neg, lt}
+use lib.Ieee.{binary64, neg}
 use lib.Ieee.Fits.{mul-fits}
 use lib.Ieee.Scale.{finite}
-use Rattle.complex.specs.Constants.{plus0, weak}
+use Rattle.complex.specs.Constants.{plus0}
 use Rattle.complex.specs.Arithmetic.{_⊗_}
 use Rattle.complex.specs.Computed.{ofSqmag}
 use Rattle.complex.specs.Matrices.{zeros}
-use Rattle.complex.specs.Values.{isZero, Zero, allFinite, F64s}
+use Rattle.complex.specs.Values.{Zero, allFinite, F64s}
 use Rattle.binary64.proofs.Floats as F
 use Rattle.complex.proofs.Finite.{all-left, all-right, all-at, zero-times}
 use Rattle.buses.specs.Buses.{_∈_}
-use Rattle.ward_studies.specs.Ward.{Study, Room, retained, externals, externalAt, admittance}
-use Rattle.ward_studies.specs.WardExtended.{Extended, ExtendedRoom, AcceptedX, addUp, deviation, tie, weight, weightSum, weightedSum, voltageCorrection, reactive, qCompensation, afterExtended}
+use Rattle.ward_studies.specs.Ward.{Room, retained, externals, admittance}
+use Rattle.ward_studies.specs.WardExtended.{Extended, ExtendedRoom, AcceptedX, deviation, tie, weight, weightSum, voltageCorrection, reactive, qCompensation, afterExtended}
 use Rattle.ward_studies.specs.WardComputed.{ofEach, ofStudy, ofTies, ofSums, ofCorrection, ofExtended}
-use Rattle.ward_studies.proofs.WardLaws.{Sound, soundX, left-acceptedX, correction-accepted, compensation-accepted}
+use Rattle.ward_studies.proofs.WardLaws.{soundX, left-acceptedX, correction-accepted, compensation-accepted}
 use Rattle.ward_products.proofs.WardPlaces.{getD-map}
 use Rattle.ward_studies.proofs.WardSums.{Null, plus0-zero, sum-zero, magnitude-zero, weak-above, each-at}
 use Rattle.claims.specs.WardRows.{givenOf, FiniteExtended, old, rowBuses, busOfRow, ZeroRow, ZeroAt, KeepsRow, KeepsRowX, WardRows}

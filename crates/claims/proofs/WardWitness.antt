@@ -1,29 +1,26 @@
 -- Studies that meet the premises of `wardRows`, one of each kind: the row of bus 2 has zeros towards the one external bus and keeps its values,
 -- the row of bus 1 changes and gets an injection. Assumes nothing.
-use mathlib.Core.Path.{_≡_, refl}
 use mathlib.Core.Logic.{inl, inr}
-use mathlib.Core.Bool.{Bool, true, false, not, _||_, _&&_}
+use mathlib.Core.Bool.{not}
 use mathlib.Core.List.{List, [], _∷_, _++_}
-use Prim.Native.Nat.{ℕ, zero, suc, _<_}
-use native.Mathlib.Omega.{arith}
-use lib.Dec.{T, eqb, lit<, eqb→eq}
-use lib.ListN.{length, getD}
-use lib.Ieee.{Float, nan, binary64, fits, ofBits, span, climb, size, odd, units, round, neg, sum, add, sub, mul, div, lt, eq, ofInt, ofFields}
-use lib.Ieee.Fits.{nan-fits, and-l, and-r}
+use Prim.Native.Nat.{ℕ}
+use lib.Dec.{T, lit<}
+use lib.ListN.{getD}
+use lib.Ieee.{nan, ofBits, span, climb, size, odd, units, round, neg, sum, add, sub, mul, div, lt, eq, ofInt, ofFields}
 use Rattle.complex.specs.Arithmetic.{cadd, csub, cmul, sqmag, cdiv, complexInv}
 use Rattle.complex.specs.Constants.{plus0, one, tiny, weak}
 use Rattle.complex.specs.Entries.{entry}
 use Rattle.complex.specs.Magnitude.{abs, magnitude}
 use Rattle.binary64.specs.Root.{root, rootOf, wholeRoot, half, radicand}
 use Rattle.complex.specs.Matrices.{upTo, entryAt, row, rows, zeros}
-use Rattle.complex.specs.Values.{_≈_, Zero, isZero, allFinite, F64s}
+use Rattle.complex.specs.Values.{isZero, allFinite}
 use Rattle.refusals.specs.Refusals.{limit}
 use Rattle.gauss_jordan.specs.GaussJordan.{stays, tooSmall, heldAfter, pivotRow, swapped, scaled, reduced, pivoted, cleared, runFrom, run, beside, solution, singularSystem}
 use Rattle.gauss_jordan.specs.Solving.{skipped}
 use Rattle.gauss_jordan.specs.Computed.{ofSearch, ofScaling, ofReducing, ofReductions, ofRunFrom, ofRun, ofSolve}
-use Rattle.buses.specs.Buses.{_∈_, allBelow}
+use Rattle.buses.specs.Buses.{allBelow}
 use Rattle.ward_products.specs.WardArithmetic.{sumUp, current, injectedP, injectedQ}
-use Rattle.ward_studies.specs.Ward.{Study, Room, retained, listed, externals, admittance, system, response, rowTimes, equivalent, driven, transferred, injectionP, injectionQ, repeats, tooLong, misfit, unmatched, busRefusal, inputRefusal, thenPivots, refusal, Accepted, reduction, summary, answered, filled, workAfter, roomAfter, afterWard}
+use Rattle.ward_studies.specs.Ward.{Study, Room, retained, listed, admittance, system, response, rowTimes, equivalent, driven, transferred, injectionP, injectionQ, repeats, tooLong, misfit, unmatched, busRefusal, inputRefusal, thenPivots, refusal, Accepted, reduction, summary, answered, filled, workAfter, roomAfter, afterWard}
 use Rattle.ward_studies.specs.WardComputed.{ofEach, ofProducts, ofRowTimes, ofResponse, ofEntry, ofCurrents, ofDriven, ofInjection, ofReduction, ofEquivalent, ofInjections, ofStudy, ofSums, ofTies, ofCorrection, ofExtended}
 use Rattle.buses.proofs.Buses.{in-cases}
 use Rattle.ward_studies.specs.WardExtended.{Extended, ExtendedRoom, addUp, deviation, weight, weightSum, weightedSum, voltageCorrection, reactive, qCompensation, inputRefusalX, refusalX, AcceptedX, roomAfterX, afterExtended}
