@@ -6,26 +6,24 @@ use mathlib.Core.List.{List, [], _∷_, _++_}
 use Prim.Native.Nat.{ℕ}
 use lib.Dec.{T, lit<}
 use lib.ListN.{getD}
-use lib.Ieee.{nan, ofBits, span, climb, size, odd, units, round, neg, sum, add, sub, mul, div, lt, eq, ofInt, ofFields}
-use Rattle.complex.specs.Arithmetic.{cadd, csub, cmul, sqmag, cdiv, complexInv}
-use Rattle.complex.specs.Constants.{plus0, one, tiny, weak}
+use lib.Ieee.{nan, ofBits, sub, mul, div, lt, eq, ofInt}
+use Rattle.complex.specs.Arithmetic.{cadd, csub, cmul, cdiv, complexInv}
+use Rattle.complex.specs.Constants.{one}
 use Rattle.complex.specs.Entries.{entry}
-use Rattle.complex.specs.Magnitude.{abs, magnitude}
-use Rattle.binary64.specs.Root.{root, rootOf, wholeRoot, half, radicand}
-use Rattle.complex.specs.Matrices.{upTo, entryAt, row, rows, zeros}
+use Rattle.complex.specs.Magnitude.{magnitude}
+use Rattle.binary64.specs.Root.{root}
+use Rattle.complex.specs.Matrices.{upTo, entryAt, zeros}
 use Rattle.complex.specs.Values.{isZero, allFinite}
 use Rattle.refusals.specs.Refusals.{limit}
-use Rattle.gauss_jordan.specs.GaussJordan.{stays, tooSmall, heldAfter, pivotRow, swapped, scaled, reduced, pivoted, cleared, runFrom, run, beside, solution, singularSystem}
-use Rattle.gauss_jordan.specs.Solving.{skipped}
-use Rattle.gauss_jordan.specs.Computed.{ofSearch, ofScaling, ofReducing, ofReductions, ofRunFrom, ofRun, ofSolve}
+use Rattle.gauss_jordan.specs.GaussJordan.{solution, singularSystem}
+use Rattle.gauss_jordan.specs.Computed.{ofSearch, ofScaling, ofReductions, ofRunFrom, ofRun, ofSolve}
 use Rattle.buses.specs.Buses.{allBelow}
-use Rattle.ward_products.specs.WardArithmetic.{sumUp, current, injectedP, injectedQ}
-use Rattle.ward_studies.specs.Ward.{Study, Room, retained, listed, admittance, system, response, rowTimes, equivalent, driven, transferred, injectionP, injectionQ, repeats, tooLong, misfit, unmatched, busRefusal, inputRefusal, thenPivots, refusal, Accepted, reduction, summary, answered, filled, workAfter, roomAfter, afterWard}
-use Rattle.ward_studies.specs.WardComputed.{ofEach, ofProducts, ofRowTimes, ofResponse, ofEntry, ofCurrents, ofDriven, ofInjection, ofReduction, ofEquivalent, ofInjections, ofStudy, ofSums, ofTies, ofCorrection, ofExtended}
+use Rattle.ward_studies.specs.Ward.{Study, Room, Accepted, afterWard}
+use Rattle.ward_studies.specs.WardComputed.{ofStudy, ofExtended}
 use Rattle.buses.proofs.Buses.{in-cases}
-use Rattle.ward_studies.specs.WardExtended.{Extended, ExtendedRoom, addUp, deviation, weight, weightSum, weightedSum, voltageCorrection, reactive, qCompensation, inputRefusalX, refusalX, AcceptedX, roomAfterX, afterExtended}
+use Rattle.ward_studies.specs.WardExtended.{Extended, ExtendedRoom, AcceptedX, afterExtended}
 use Rattle.claims.specs.Finite.{words}
-use Rattle.claims.specs.WardRows.{givenOf, FiniteStudy, FiniteExtended, old, rowBuses, busOfRow, ZeroRow, KeepsRow, KeepsRowX}
+use Rattle.claims.specs.WardRows.{givenOf, FiniteStudy, FiniteExtended, old, rowBuses, ZeroRow, KeepsRow, KeepsRowX}
 use Rattle.claims.proofs.Demand3.{demand3}
 use Rattle.claims.proofs.BitPatterns.{words-f64s, study, extended}
 
@@ -51,26 +49,25 @@ abbrev S : Study
 S = study 4 line (3 ∷ []) (0 ∷ []) (2 ∷ 1 ∷ []) II (I ∷ []) (I ∷ [])
 
 abbrev o : Room
-unfolding zeros
 o = record { y-ward = zeros 18; p-ward = zeros 2; q-ward = zeros 2; work = zeros 10 }
 
 accepted : Accepted S o
-unfolding words retained listed admittance sumUp system response rowTimes equivalent current injectedP injectedQ driven transferred injectionP injectionQ repeats tooLong misfit unmatched busRefusal inputRefusal thenPivots refusal reduction summary answered filled workAfter roomAfter afterWard allBelow limit stays tooSmall heldAfter pivotRow swapped scaled reduced pivoted cleared runFrom run beside solution singularSystem skipped cadd csub cmul sqmag cdiv complexInv plus0 one tiny entry abs upTo entryAt row rows zeros ofBits span climb size odd units round neg sum add sub mul div lt eq ofInt ofFields
+unfolding words afterWard allBelow limit singularSystem cdiv entry entryAt ofBits sub mul lt
 accepted = tt
 
 given : T (allFinite (givenOf S))
-unfolding words givenOf allFinite ofBits ofFields odd
+unfolding words givenOf allFinite ofBits
 given = tt
 
 computed : T (allFinite (ofStudy S))
-unfolding words retained listed admittance sumUp system response rowTimes equivalent current injectedP injectedQ driven transferred injectionP injectionQ repeats tooLong misfit unmatched busRefusal inputRefusal thenPivots refusal reduction summary answered filled workAfter roomAfter afterWard allBelow limit stays tooSmall heldAfter pivotRow swapped scaled reduced pivoted cleared runFrom run beside solution singularSystem skipped cadd csub cmul sqmag cdiv complexInv plus0 one tiny entry abs upTo entryAt row rows zeros ofBits span climb size odd units round neg sum add sub mul div lt eq ofInt ofFields ofSearch ofScaling ofReducing ofReductions ofRunFrom ofRun ofSolve ofEach ofProducts ofRowTimes ofResponse ofEntry ofCurrents ofDriven ofInjection ofReduction ofEquivalent ofInjections ofStudy allFinite
+unfolding words solution cadd csub cmul cdiv complexInv entry upTo entryAt ofBits sub mul div lt ofInt ofSearch ofScaling ofReductions ofRunFrom ofRun ofSolve ofStudy allFinite
 computed = tt
 
 finite-study : FiniteStudy S
 finite-study = record { given = search given; computed = search computed }
 
 zero-towards : ZeroRow S 1
-unfolding words ZeroRow old busOfRow rowBuses entryAt entry ofBits ofFields odd eq
+unfolding words ZeroRow entryAt entry ofBits eq
 zero-towards e h = elim (in-cases e 0 [] h) [ inl q ↦ rw q tt | inr n ↦ absurd n ]
 
 -- row 1, of bus 2, is the boundary's first
@@ -80,7 +77,7 @@ keeps = demand3 .ward .study S o (words-f64s line) accepted finite-study 1 (lit<
 
 -- row 2, of bus 1: its own entry was 2 and is 1.5, and P was 0 and is 0.5
 changes : T (not (eq (entryAt 3 (afterWard S o .room .y-ward) 2 2 .re) (old S 1 1 .re))) × T (not (isZero (getD (afterWard S o .room .p-ward) 1 nan)))
-unfolding words old retained listed admittance sumUp system response rowTimes equivalent current injectedP injectedQ driven transferred injectionP injectionQ repeats tooLong misfit unmatched busRefusal inputRefusal thenPivots refusal reduction summary answered filled workAfter roomAfter afterWard allBelow limit stays tooSmall heldAfter pivotRow swapped scaled reduced pivoted cleared runFrom run beside solution singularSystem skipped cadd csub cmul sqmag cdiv complexInv plus0 one tiny entry abs upTo entryAt row rows zeros ofBits span climb size odd units round neg sum add sub mul div lt eq ofInt ofFields
+unfolding words old afterWard allBelow limit solution singularSystem cadd csub cmul cdiv complexInv entry entryAt ofBits sub mul div lt eq
 changes = (tt, tt)
 
 -- ---- the same study, extended: the external bus at 2 per unit
@@ -89,23 +86,22 @@ abbrev X : Extended
 X = extended 4 line (3 ∷ []) (0 ∷ []) (2 ∷ 1 ∷ []) II (I ∷ []) (I ∷ []) (II ∷ [])
 
 abbrev wide : ExtendedRoom
-unfolding zeros
 wide = record { room = o; correction = zeros 2; compensation = zeros 2 }
 
 accepted-x : AcceptedX X wide
-unfolding words retained listed admittance sumUp system response rowTimes equivalent current injectedP injectedQ driven transferred injectionP injectionQ repeats tooLong misfit unmatched busRefusal inputRefusal thenPivots refusal reduction summary answered filled workAfter roomAfter afterWard allBelow limit stays tooSmall heldAfter pivotRow swapped scaled reduced pivoted cleared runFrom run beside solution singularSystem skipped cadd csub cmul sqmag cdiv complexInv plus0 one tiny entry abs upTo entryAt row rows zeros ofBits span climb size odd units round neg sum add sub mul div lt eq ofInt ofFields magnitude root rootOf wholeRoot half radicand weak addUp deviation weight weightSum weightedSum voltageCorrection reactive qCompensation inputRefusalX refusalX roomAfterX afterExtended
+unfolding words allBelow limit singularSystem cdiv entry entryAt ofBits sub mul lt afterExtended
 accepted-x = tt
 
 given-x : T (allFinite (givenOf S ++ X .v-ext))
-unfolding words givenOf allFinite ofBits ofFields odd
+unfolding words givenOf allFinite ofBits
 given-x = tt
 
 computed-x : T (allFinite (ofExtended X))
-unfolding words retained listed admittance sumUp system response rowTimes equivalent current injectedP injectedQ driven transferred injectionP injectionQ repeats tooLong misfit unmatched busRefusal inputRefusal thenPivots refusal reduction summary answered filled workAfter roomAfter afterWard allBelow limit stays tooSmall heldAfter pivotRow swapped scaled reduced pivoted cleared runFrom run beside solution singularSystem skipped cadd csub cmul sqmag cdiv complexInv plus0 one tiny entry abs upTo entryAt row rows zeros ofBits span climb size odd units round neg sum add sub mul div lt eq ofInt ofFields magnitude root rootOf wholeRoot half radicand weak addUp deviation weight weightSum weightedSum voltageCorrection reactive qCompensation inputRefusalX refusalX roomAfterX afterExtended ofSearch ofScaling ofReducing ofReductions ofRunFrom ofRun ofSolve ofEach ofProducts ofRowTimes ofResponse ofEntry ofCurrents ofDriven ofInjection ofReduction ofEquivalent ofInjections ofStudy ofSums ofTies ofCorrection ofExtended allFinite
+unfolding words solution cadd csub cmul cdiv complexInv entry upTo entryAt ofBits sub mul div lt ofInt magnitude root ofSearch ofScaling ofReductions ofRunFrom ofRun ofSolve ofExtended allFinite
 computed-x = tt
 
 finite-extended : FiniteExtended X
-unfolding words one ofBits ofFields odd eq
+unfolding words one ofBits eq
 finite-extended = record { given = search given-x; computed = search computed-x }
 
 keeps-x : KeepsRowX X (afterExtended X wide .room) 1
@@ -114,5 +110,5 @@ keeps-x = demand3 .ward .extended X wide (words-f64s line) accepted-x finite-ext
 
 -- row 2, of bus 1, gets a correction
 changes-x : T (not (isZero (getD (afterExtended X wide .room .correction) 1 nan)))
-unfolding words retained listed admittance sumUp system response rowTimes equivalent current injectedP injectedQ driven transferred injectionP injectionQ repeats tooLong misfit unmatched busRefusal inputRefusal thenPivots refusal reduction summary answered filled workAfter roomAfter afterWard allBelow limit stays tooSmall heldAfter pivotRow swapped scaled reduced pivoted cleared runFrom run beside solution singularSystem skipped cadd csub cmul sqmag cdiv complexInv plus0 one tiny entry abs upTo entryAt row rows zeros ofBits span climb size odd units round neg sum add sub mul div lt eq ofInt ofFields magnitude root rootOf wholeRoot half radicand weak addUp deviation weight weightSum weightedSum voltageCorrection reactive qCompensation inputRefusalX refusalX roomAfterX afterExtended
+unfolding words allBelow limit singularSystem cdiv entry entryAt ofBits sub mul div lt eq magnitude root afterExtended
 changes-x = tt
