@@ -169,12 +169,9 @@ module _ (M : Making) (calls : List Call) (made : Made M) where
   regular-now : Regular (M .size) now
   regular-now = subst (λ (n : ℕ). Regular n now) (account-size (fresh M) calls ∙ unfold fresh in refl) (regular-state (account M calls))
 
-  -- the input refusals of record and slice, 1, 2 and 9, never come: a list within the limit is not refused from the input, and a longer one is refused with 1 for its length
+  -- the input refusals of record and slice, 1, 2 and 9, never come: a list within the limit is not refused from the input
   pub no-input-refusal : (l : ℕ) → l ≤ limit → inputRefusal rec slice l ≡ 0
   no-input-refusal l h = by-layout (λ (g : Held). inputRefusal (g .rec) (g .slice) l ≡ 0) (input-laid (M .size) now (made-small M made) regular-now l h)
-
-  pub long-refused : (l : ℕ) → limit < l → inputRefusal rec slice l ≡ tooMany
-  long-refused l h = input-long rec slice l h
 
   -- so a call answers what the account's state tells
   pub refusal-is : (ks : List ℕ) → length ks ≤ limit → refusalOf rec slice ks ≡ stop now ks
@@ -194,9 +191,13 @@ module _ (M : Making) (calls : List Call) (made : Made M) where
   unfolding afterBus
   answer-bus k = ap outcome (refusal-is (k ∷ []) (unfold limit in lit≤ tt) ∙ stop-one now k)
 
-  pub answer-buses : (ks : List ℕ) → length ks ≤ limit → afterBuses rec slice ks .out .removals .answer ≡ outcome (stop now ks)
-  unfolding afterBuses
-  answer-buses ks h = ap outcome (refusal-is ks h)
+  pub answer-buses : (ks : List ℕ) → afterBuses rec slice ks .out .removals .answer ≡ outcome (cond (leb (length ks) limit) (stop now ks) tooMany)
+  unfolding afterBuses refusalOf
+  answer-buses ks = ap outcome (go (leb (length ks) limit) (leb→le (length ks) limit) (nleb→lt (length ks) limit))
+    where
+      go : (b : Bool) → (T b → length ks ≤ limit) → (T (not b) → limit < length ks) → refusalOf rec slice ks ≡ cond b (stop now ks) tooMany
+      go true f g = refusal-is ks (f tt)
+      go false f g = rw (input-long rec slice (length ks) (g tt))
 
   pub count-is : (ks : List ℕ) → afterBuses rec slice ks .out .removals .removed ≡ length (removes (account M calls) (buses ks))
   unfolding afterBuses
