@@ -13,6 +13,7 @@ use Rattle.complex.specs.Entries.{entry as entryOf}
 use Rattle.complex.specs.Matrices.{Matrix, upTo, entryAt}
 use Rattle.complex.specs.Values.{_≈_, allFinite, F64s}
 use Rattle.complex.proofs.Matrices.{entry-within}
+use Rattle.complex.proofs.Finite.{all-at}
 use Rattle.complex.proofs.SameValue.{Number}
 use Rattle.buses.specs.Buses.{_∈_, others}
 use Rattle.kron_rows.specs.Kron.{start}
@@ -25,7 +26,6 @@ use Rattle.claims.specs.Finite.{ofAccount, Finite}
 use Rattle.claims.specs.Removals.{Unchanged, Alike, Independent, RemovalClaims}
 use Rattle.claims.specs.Demand3.{Demand3}
 use Rattle.claims.proofs.WardRows.{wardRows}
-use Rattle.claims.proofs.Computed.{finite-at}
 use Rattle.claims.proofs.Locality.{Carried, after-all, old-or-chain, same-or-chains}
 use Rattle.claims.proofs.Bridge.{made-length, account-size, account-old, all-accepted, entry-is}
 
@@ -35,7 +35,7 @@ number-at : (n : ℕ) (ys : List Float) → length ys ≡ 2 * (n * n) → F64s y
 unfolding entryAt entryOf
 number-at n ys e f h i j x y =
     let l = entry-within n n i j x y in
-    ((finite-at ys (2 * (i * n + j)) h (omega arith), finite-at ys (2 * (i * n + j) + 1) h (omega arith)), f (2 * (i * n + j)), f (2 * (i * n + j) + 1))
+    ((all-at ys (2 * (i * n + j)) (omega arith) h, all-at ys (2 * (i * n + j) + 1) (omega arith) h), f (2 * (i * n + j)), f (2 * (i * n + j) + 1))
 
 -- the parts that the claims rest on: a premise that says more has them too
 is-made : (M : Making) (calls : List Call) → Finite M calls → Made M

@@ -22,6 +22,7 @@ use Rattle.complex.specs.Values.{_≈_, isZero, Zero, allFinite, F64s}
 use Rattle.binary64.proofs.Floats as F
 use Rattle.complex.proofs.Matrices.{entry-within, entry-rows}
 use Rattle.complex.proofs.Finite.{all-left, all-right, all-at, zero-times}
+use Rattle.complex.proofs.SameValue.{Finite, ≋-refl, ≋→≈}
 use Rattle.buses.specs.Buses.{_∈_}
 use Rattle.ward_products.specs.WardArithmetic.{injectedP, injectedQ}
 use Rattle.ward_studies.specs.Ward.{Study, Room, Accepted, retained, listed, externals, externalAt, admittance, response, rowTimes, equivalent, driven, transferred, injectionP, injectionQ, filled, afterWard}
@@ -43,7 +44,7 @@ bus-below S s p h =
 
 -- a given entry is finite
 entry-finite : (S : Study) → Sound S → T (allFinite (S .given)) → (i j : ℕ) → i < S .size → j < S .size
-    → T (finite (admittance S i j .re)) × T (finite (admittance S i j .im))
+    → Finite (admittance S i j)
 unfolding admittance entryAt entry
 entry-finite S s h i j x y =
     let within : i * S .size + j < S .size * S .size = entry-within (S .size) (S .size) i j x y in
@@ -58,9 +59,6 @@ row-null S i z k h =
     (F.eq-zero (c .re) (and-l (isZero (c .re)) (isZero (c .im)) t), F.eq-zero (c .im) (and-r (isZero (c .re)) (isZero (c .im)) t))
 
 -- ---- the values
-
-itself : (c : Complex) → T (finite (c .re)) × T (finite (c .im)) → c ≈ c
-itself c h = (F.≐→eq (h .0) (F.same refl), F.≐→eq (h .1) (F.same refl))
 
 less-null : (a b : Complex) → T (fits binary64 (a .re)) × T (fits binary64 (a .im)) → Null b → T (allFinite (ofDifference a b)) → csub a b ≈ a
 unfolding csub
@@ -102,7 +100,7 @@ module _ (S : Study) (s : Sound S) (f64s : F64s (S .given)) (given : T (allFinit
       go : (b : Bool) → T (allFinite (cond b [] (ofEquivalent S ++ ofInjections S ++ ofReduction (length (retained S)) (S .size))))
           → cond b (admittance S (getD (retained S) p 0) (getD (retained S) q 0)) (csub (admittance S (getD (retained S) p 0) (getD (retained S) q 0)) (rowTimes S (getD (retained S) p 0) (response S (getD (retained S) q 0))))
           ≈ admittance S (getD (retained S) p 0) (getD (retained S) q 0)
-      go true h = itself (admittance S (getD (retained S) p 0) (getD (retained S) q 0)) (entry-finite S s given (getD (retained S) p 0) (getD (retained S) q 0) (bus-below S s p at) (bus-below S s q y))
+      go true h = ≋→≈ (entry-finite S s given (getD (retained S) p 0) (getD (retained S) q 0) (bus-below S s p at) (bus-below S s q y)) ≋-refl
       go false h =
           let i = getD (retained S) p 0 in
           let j = getD (retained S) q 0 in
