@@ -15,7 +15,7 @@ use Rattle.buses.proofs.Buses.{in-head, in-tail, in-cases, in-or-out, stays, be
 use Rattle.kron_rows.proofs.States.{accepted-active, accepted-big, Accepted, eliminate-active}
 use Rattle.claims.specs.Chains.{Linked, Chain, Into, Out, SameOutside}
 use Rattle.claims.proofs.Formula.{Ready, kron-stays, kron-cong, kron-number}
-use Rattle.claims.proofs.Walks.{Links, Walk, last, join, map-walk, chain, IntoBy, OutBy, into-steps, out-steps, Either, Alike, into-one, out-one}
+use Rattle.claims.proofs.Walks.{Links, Walk, last, join, map-walk, chain, IntoBy, OutBy, into-steps, out-steps, Either, SameLinks, into-one, out-one}
 use Rattle.claims.proofs.Computed.{FiniteRemoval, FiniteRemovals, of-removals}
 
 -- ---- the buses
@@ -217,7 +217,7 @@ module _ (n : ℕ) (Y Y' : Matrix) (G : List ℕ)
   same-outside : (i j : ℕ) → i < n → j < n → (i ∈ G → ⊥) → (j ∈ G → ⊥) → Y i j ≋ Y' i j
   same-outside i j x y o o' = ≈→≋ (number i j x y) (number' i j x y) (outside i j x y o o')
 
-  alike : Alike (λ (i : ℕ). i < n) G (Linked Y) (Linked Y')
+  alike : SameLinks (λ (i : ℕ). i < n) G (Linked Y) (Linked Y')
   alike i j x y o o' = (nonzero-of (same-outside i j x y o o'), nonzero-of (≋-sym (same-outside i j x y o o')))
 
   same-begin : (R : List ℕ) → AllSame Y Y' R G (upTo n) Y Y'
@@ -251,7 +251,7 @@ same-or-chains n Y Y' R G h h' inside outside a b x y =
     removed-bus : (k : ℕ) → k ∈ R → k < n
     removed-bus k m = below-upTo n k (was-active (start n Y) R k (h .accepted) m)
 
-    links : Alike (λ (i : ℕ). i < n) G (Linked Y) (Linked Y')
+    links : SameLinks (λ (i : ℕ). i < n) G (Linked Y) (Linked Y')
     links = alike n Y Y' G (h .given) (h' .given) outside
 
     into : Before Y Y' R G a → Into Y R G a ⊎ Into Y' R G a

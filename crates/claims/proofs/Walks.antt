@@ -69,12 +69,12 @@ abbrev pub Either : Links → Links → Links
 Either L M i j = L i j ⊎ M i j
 
 -- L and M link the same buses outside of G
-abbrev pub Alike : (ℕ → Type 0) → List ℕ → Links → Links → Type 0
-Alike Bus G L M = (i j : ℕ) → Bus i → Bus j → (i ∈ G → ⊥) → (j ∈ G → ⊥) → (M i j → L i j) × (L i j → M i j)
+abbrev pub SameLinks : (ℕ → Type 0) → List ℕ → Links → Links → Type 0
+SameLinks Bus G L M = (i j : ℕ) → Bus i → Bus j → (i ∈ G → ⊥) → (j ∈ G → ⊥) → (M i j → L i j) × (L i j → M i j)
 
 -- a walk by links of either into G, cut at the first bus of G, is a walk by one of them
 module _ (Bus : ℕ → Type 0) (R G : List ℕ) (bus : (k : ℕ) → k ∈ R → Bus k) where
-  pub into-one : (L M : Links) → Alike Bus G L M → {a g : ℕ} → Bus a → (a ∈ G → ⊥) → g ∈ G → Walk (Either L M) R g a → IntoBy L R G a ⊎ IntoBy M R G a
+  pub into-one : (L M : Links) → SameLinks Bus G L M → {a g : ℕ} → Bus a → (a ∈ G → ⊥) → g ∈ G → Walk (Either L M) R g a → IntoBy L R G a ⊎ IntoBy M R G a
   into-one L M alike {a} {g} here out h (last (inl l)) = inl (g, h, last l)
   into-one L M alike {a} {g} here out h (last (inr l)) = inr (g, h, last l)
   into-one L M alike {a} {g} here out h (via {k = x} l m w) = elim (in-or-out x G) [
@@ -86,7 +86,7 @@ module _ (Bus : ℕ → Type 0) (R G : List ℕ) (bus : (k : ℕ) → k ∈ R �
       more s (inl (g, y, v)) = inl (g, y, via (⊎-elim (λ (u : L a x). u) (s .0) l) m v)
       more s (inr (g, y, v)) = inr (g, y, via (⊎-elim (s .1) (λ (u : M a x). u) l) m v)
 
-  pub out-one : (L M : Links) → Alike Bus G L M → {b g : ℕ} → Bus b → (b ∈ G → ⊥) → g ∈ G → Walk (Either L M) R b g → OutBy L R G b ⊎ OutBy M R G b
+  pub out-one : (L M : Links) → SameLinks Bus G L M → {b g : ℕ} → Bus b → (b ∈ G → ⊥) → g ∈ G → Walk (Either L M) R b g → OutBy L R G b ⊎ OutBy M R G b
   out-one L M alike here out h w =
       elim (into-one (flip L) (flip M) (λ (i j : ℕ). λ x y u v. alike j i y x v u) here out h (turn w)) [
         | inl (g, h, v) ↦ inl (g, h, turn v)
