@@ -7,17 +7,16 @@ use Prim.Native.Nat.{ℕ, zero, suc, _<_}
 use native.Mathlib.Omega.{arith}
 use lib.Dec.{lit<}
 use lib.ListN.{replicate}
-use lib.Ieee.{add, sub, mul, div, lt, eq, ofBits}
-use Rattle.complex.specs.Constants.{plus0, tiny}
+use lib.Ieee.{sub, mul, div, lt, eq, ofBits}
 use Rattle.complex.specs.Arithmetic.{csub, cmul, cdiv, sqmag}
 use Rattle.complex.specs.Entries.{entry as entryOf}
-use Rattle.complex.specs.Matrices.{Matrix, upTo, entryAt, row, rows, zeros}
+use Rattle.complex.specs.Matrices.{Matrix, upTo, entryAt}
 use Rattle.complex.specs.Values.{_≈_, allFinite}
-use Rattle.refusals.specs.Refusals.{limit, outcome}
+use Rattle.refusals.specs.Refusals.{limit}
 use Rattle.buses.specs.Buses.{_∈_, others, place, rising, allBelow, allZero}
 use Rattle.buses.proofs.Buses.{in-cases}
-use Rattle.kron_rows.specs.Kron.{newEntry, kron, tooSmall, refusal, eliminate, taken, stop, ofRow, ofRows, ofRemovals}
-use Rattle.kron_core.specs.Reducer.{Making, makingOf, makingRefusal, afterNew, sound, inputRefusal, view, laidOut, laid, leaves, removable, refusalOf, afterBus, afterBuses}
+use Rattle.kron_rows.specs.Kron.{kron, tooSmall, refusal, eliminate, taken, ofRow, ofRows, ofRemovals}
+use Rattle.kron_core.specs.Reducer.{Making, makingOf, makingRefusal, afterNew, sound, inputRefusal, view, laid, leaves, removable, afterBus, afterBuses}
 use Rattle.claims.specs.Accounts.{Call, bus, buses, stepHeld, leftFrom, left, entry, fresh, stateOf, removes, step, accountFrom, account}
 use Rattle.claims.specs.Chains.{Linked, Steps, Within, Chain, Into, Out, SameOutside}
 use Rattle.claims.specs.Finite.{ofAccount, Finite, words}
@@ -37,11 +36,11 @@ book-calls : List Call
 book-calls = bus 7 ∷ buses (replicate 65 1) ∷ buses (1 ∷ 1 ∷ 0 ∷ []) ∷ bus 1 ∷ []
 
 book-removed : account book book-calls .removed ≡ 1 ∷ []
-unfolding book-words book-calls words csub cmul cdiv sqmag tiny plus0 upTo others place entryOf entryAt newEntry kron tooSmall refusal eliminate taken limit fresh stateOf removes step accountFrom add sub mul div lt ofBits
+unfolding book-words book-calls words sqmag upTo others entryOf entryAt tooSmall refusal eliminate taken limit fresh stateOf removes step accountFrom sub mul lt ofBits
 book-removed = refl
 
 book-finite : Finite book book-calls
-unfolding book-words book-calls words csub cmul cdiv sqmag tiny plus0 upTo others place entryOf entryAt newEntry kron tooSmall refusal eliminate taken limit makingRefusal fresh stateOf removes step accountFrom allFinite ofAccount ofRemovals ofRow ofRows add sub mul div lt ofBits
+unfolding book-words book-calls words csub cmul cdiv upTo others entryOf entryAt kron tooSmall refusal eliminate taken limit makingRefusal fresh stateOf removes step accountFrom allFinite ofAccount ofRemovals ofRow ofRows sub mul div lt ofBits
 book-finite = record { made = search tt; given = search tt; computed = tt }
 
 -- ---- claim 1: bus 0 stands apart, buses 1 and 2 are joined, and bus 2 is removed
@@ -58,11 +57,11 @@ first-calls : List Call
 first-calls = buses (2 ∷ 2 ∷ 1 ∷ []) ∷ []
 
 first-finite : Finite first first-calls
-unfolding first-words first-calls words csub cmul cdiv sqmag tiny plus0 upTo others place entryOf entryAt newEntry kron tooSmall refusal eliminate taken limit fresh stateOf removes step accountFrom add sub mul div lt ofBits makingRefusal allFinite ofAccount ofRemovals ofRow ofRows
+unfolding first-words first-calls words csub cmul cdiv upTo others entryOf entryAt kron tooSmall refusal eliminate taken limit fresh stateOf removes step accountFrom sub mul div lt ofBits makingRefusal allFinite ofAccount ofRemovals ofRow ofRows
 first-finite = record { made = search tt; given = search tt; computed = tt }
 
 first-removed : account first first-calls .removed ≡ 2 ∷ []
-unfolding first-words first-calls words csub cmul cdiv sqmag tiny plus0 upTo others place entryOf entryAt newEntry kron tooSmall refusal eliminate taken limit fresh stateOf removes step accountFrom add sub mul div lt ofBits
+unfolding first-words first-calls words sqmag upTo others entryOf entryAt tooSmall refusal eliminate taken limit fresh stateOf removes step accountFrom sub mul lt ofBits
 first-removed = refl
 
 only-two : (k : ℕ) → k ∈ 2 ∷ [] → k ≡ 2
@@ -70,20 +69,20 @@ only-two k m = elim (in-cases k 2 [] m) [ inl p ↦ p | inr t ↦ absurd t ]
 
 -- no chain joins bus 0 to bus 0, since its entry to bus 2 is zero
 no-chain : Chain (account first first-calls .old) (account first first-calls .removed) 0 0 → ⊥
-unfolding first-words first-calls words csub cmul cdiv sqmag tiny plus0 upTo others place entryOf entryAt newEntry kron tooSmall refusal eliminate taken limit fresh stateOf removes step accountFrom add sub mul div lt ofBits eq
+unfolding first-words first-calls words sqmag upTo others entryOf entryAt tooSmall refusal eliminate taken limit fresh stateOf removes step accountFrom sub mul lt ofBits eq
 no-chain (k, ks, within, steps) = subst (λ (z : ℕ). Linked (account first first-calls .old) 0 z) (only-two k (within .0)) (steps .0)
 
 stays-apart : entry (left first first-calls) 0 0 ≈ account first first-calls .old 0 0
-unfolding first-words first-calls words csub cmul cdiv sqmag tiny plus0 upTo others place entryOf entryAt newEntry kron tooSmall refusal eliminate taken limit fresh stateOf removes step accountFrom add sub mul div lt ofBits
+unfolding first-words first-calls words sqmag upTo others entryOf entryAt tooSmall refusal eliminate taken limit fresh stateOf removes step accountFrom sub mul lt ofBits
 stays-apart = demand3 .removals .unchanged first first-calls (words-f64s first-words) first-finite 0 0 (lit< tt) (lit< tt) no-chain
 
 -- a chain leads from bus 1 to bus 1 through bus 2, and the entry there goes from 2 to 1.5
 a-chain : Chain (account first first-calls .old) (account first first-calls .removed) 1 1
-unfolding first-words first-calls words csub cmul cdiv sqmag tiny plus0 upTo others place entryOf entryAt newEntry kron tooSmall refusal eliminate taken limit fresh stateOf removes step accountFrom add sub mul div lt ofBits eq
+unfolding first-words first-calls words sqmag upTo entryOf entryAt tooSmall refusal eliminate taken limit fresh stateOf removes step accountFrom sub mul lt ofBits eq
 a-chain = (2, [], (tt, tt), (tt, tt))
 
 changes : entry (left first first-calls) 1 1 ≈ account first first-calls .old 1 1 → ⊥
-unfolding first-words first-calls words csub cmul cdiv sqmag tiny plus0 upTo others place entryOf entryAt newEntry kron tooSmall refusal eliminate taken limit fresh stateOf removes step accountFrom add sub mul div lt ofBits row rows zeros laidOut laid outcome stop makingRefusal afterNew rising allBelow allZero sound inputRefusal view leaves removable refusalOf afterBus afterBuses stepHeld leftFrom left eq
+unfolding first-words first-calls words csub cmul cdiv upTo others place entryOf entryAt kron tooSmall refusal eliminate taken limit fresh step accountFrom sub mul div lt ofBits laid makingRefusal afterNew rising allBelow allZero sound inputRefusal view leaves removable afterBuses stepHeld leftFrom left eq
 changes e = e .0
 
 -- ---- claim 2: another matrix, with other entries at bus 2, and other calls that remove the same bus
@@ -104,7 +103,7 @@ unfolding first-calls second-calls
 calls-differ e = let z : _≡_ {A = ℕ} 0 1 = cc in omega arith
 
 second-finite : Finite second second-calls
-unfolding second-words second-calls words csub cmul cdiv sqmag tiny plus0 upTo others place entryOf entryAt newEntry kron tooSmall refusal eliminate taken limit fresh stateOf removes step accountFrom add sub mul div lt ofBits makingRefusal allFinite ofAccount ofRemovals ofRow ofRows
+unfolding second-words second-calls words csub cmul cdiv upTo others entryOf entryAt kron tooSmall refusal eliminate taken limit fresh stateOf removes step accountFrom sub mul div lt ofBits makingRefusal allFinite ofAccount ofRemovals ofRow ofRows
 second-finite = record { made = search tt; given = search tt; computed = tt }
 
 third : (j : ℕ) → suc (suc j) < 3 → suc (suc j) ∈ 2 ∷ []
@@ -112,7 +111,7 @@ third zero h = tt
 third (suc j) h = absurd (omega arith)
 
 outside : SameOutside (account first first-calls .size) (account first first-calls .old) (account second second-calls .old) (2 ∷ [])
-unfolding first-words first-calls second-words second-calls words csub cmul cdiv sqmag tiny plus0 upTo others place entryOf entryAt newEntry kron tooSmall refusal eliminate taken limit fresh stateOf removes step accountFrom add sub mul div lt ofBits eq
+unfolding first-words first-calls second-words second-calls words entryOf entryAt fresh step accountFrom ofBits eq
 outside zero zero x y o o' = (tt, tt)
 outside zero (suc zero) x y o o' = (tt, tt)
 outside (suc zero) zero x y o o' = (tt, tt)
@@ -122,15 +121,15 @@ outside (suc zero) (suc (suc j)) x y o o' = absurd (o' (third j y))
 outside (suc (suc i)) j x y o o' = absurd (o (third i x))
 
 group : (k : ℕ) → k ∈ 2 ∷ [] → k ∈ account first first-calls .removed
-unfolding first-words first-calls words csub cmul cdiv sqmag tiny plus0 upTo others place entryOf entryAt newEntry kron tooSmall refusal eliminate taken limit fresh stateOf removes step accountFrom add sub mul div lt ofBits
+unfolding first-words first-calls words sqmag upTo others entryOf entryAt tooSmall refusal eliminate taken limit fresh stateOf removes step accountFrom sub mul lt ofBits
 group k m = m
 
 sizes : account second second-calls .size ≡ account first first-calls .size
-unfolding first-words first-calls second-words second-calls words csub cmul cdiv sqmag tiny plus0 upTo others place entryOf entryAt newEntry kron tooSmall refusal eliminate taken limit fresh stateOf removes step accountFrom add sub mul div lt ofBits
+unfolding first-calls second-calls fresh step accountFrom
 sizes = refl
 
 removed-same : account second second-calls .removed ≡ account first first-calls .removed
-unfolding first-words first-calls second-words second-calls words csub cmul cdiv sqmag tiny plus0 upTo others place entryOf entryAt newEntry kron tooSmall refusal eliminate taken limit fresh stateOf removes step accountFrom add sub mul div lt ofBits
+unfolding first-words first-calls second-words second-calls words sqmag upTo others entryOf entryAt tooSmall refusal eliminate taken limit fresh stateOf removes step accountFrom sub mul lt ofBits
 removed-same = refl
 
 -- the matrices differ in the rows and columns of bus 2 alone
@@ -138,7 +137,7 @@ alike : Alike (account first first-calls) (account second second-calls) (2 ∷ [
 alike = record { size = sizes; removed = removed-same; group = search group; outside = search outside }
 
 differ : account first first-calls .old 2 2 ≈ account second second-calls .old 2 2 → ⊥
-unfolding first-words first-calls second-words second-calls words csub cmul cdiv sqmag tiny plus0 upTo others place entryOf entryAt newEntry kron tooSmall refusal eliminate taken limit fresh stateOf removes step accountFrom add sub mul div lt ofBits eq
+unfolding first-words first-calls second-words second-calls words entryOf entryAt fresh step accountFrom ofBits eq
 differ e = e .0
 
 -- where only bus 2 is removed and bus i has no entry to it, no chain leads from bus i into it
@@ -151,22 +150,22 @@ no-way Y R i one none (g, ks, m, within, steps) = go ks within steps
 
 -- bus 0 has no chain into the group in either, though the second has one out of it to bus 0
 no-into : NoInto (account first first-calls) (account second second-calls) (2 ∷ []) 0
-unfolding first-words first-calls second-words second-calls words csub cmul cdiv sqmag tiny plus0 upTo others place entryOf entryAt newEntry kron tooSmall refusal eliminate taken limit fresh stateOf removes step accountFrom add sub mul div lt ofBits eq
+unfolding first-words first-calls second-words second-calls words sqmag upTo others entryOf entryAt tooSmall refusal eliminate taken limit fresh stateOf removes step accountFrom sub mul lt ofBits eq
 no-into = (
   no-way (account first first-calls .old) (account first first-calls .removed) 0 only-two (λ (n : ⊥). n),
   no-way (account second second-calls .old) (account second second-calls .removed) 0 only-two (λ (n : ⊥). n),
 )
 
 an-out : Out (account second second-calls .old) (account second second-calls .removed) (2 ∷ []) 0
-unfolding second-words second-calls words csub cmul cdiv sqmag tiny plus0 upTo others place entryOf entryAt newEntry kron tooSmall refusal eliminate taken limit fresh stateOf removes step accountFrom add sub mul div lt ofBits eq
+unfolding second-words second-calls words entryOf entryAt fresh step accountFrom ofBits eq
 an-out = (2, [], tt, tt, tt)
 
 -- so row 0 is the same in both, while the entry at bus 1, which has chains into the group and out of it, is not
 row-same : (q : ℕ) → q < 2 → entry (left first first-calls) 0 q ≈ entry (left second second-calls) 0 q
-unfolding first-words first-calls second-calls words csub cmul cdiv sqmag tiny plus0 upTo others place entryOf entryAt newEntry kron tooSmall refusal eliminate taken limit fresh stateOf removes step accountFrom add sub mul div lt ofBits
+unfolding first-words first-calls second-calls words sqmag upTo others entryOf entryAt tooSmall refusal eliminate taken limit fresh stateOf removes step accountFrom sub mul lt ofBits
 row-same q h =
     demand3 .removals .independent first second first-calls second-calls (words-f64s first-words) (words-f64s second-words) (search first-finite) (search second-finite) (2 ∷ []) alike 0 q (lit< tt) h (inl no-into)
 
 entries-differ : entry (left first first-calls) 1 1 ≈ entry (left second second-calls) 1 1 → ⊥
-unfolding first-words first-calls second-words second-calls words csub cmul cdiv sqmag tiny plus0 upTo others place entryOf entryAt newEntry kron tooSmall refusal eliminate taken limit fresh stateOf removes step accountFrom add sub mul div lt ofBits row rows zeros laidOut laid outcome stop makingRefusal afterNew rising allBelow allZero sound inputRefusal view leaves removable refusalOf afterBus afterBuses stepHeld leftFrom left eq
+unfolding first-words first-calls second-words second-calls words csub cmul cdiv upTo others place entryOf entryAt kron tooSmall refusal eliminate taken limit sub mul div lt ofBits laid makingRefusal afterNew rising allBelow allZero sound inputRefusal view leaves removable afterBus afterBuses stepHeld leftFrom left eq
 entries-differ e = e .0
