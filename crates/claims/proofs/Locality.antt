@@ -215,7 +215,7 @@ old-or-chain n Y R h a b x y =
 module _ (n : ℕ) (Y Y' : Matrix) (G : List ℕ)
     (number : (i j : ℕ) → i < n → j < n → Number (Y i j)) (number' : (i j : ℕ) → i < n → j < n → Number (Y' i j)) (outside : SameOutside n Y Y' G) where
   same-outside : (i j : ℕ) → i < n → j < n → (i ∈ G → ⊥) → (j ∈ G → ⊥) → Y i j ≋ Y' i j
-  same-outside i j x y o o' = ≈→≋ (number i j x y) (number' i j x y) (outside i j x y o o')
+  same-outside i j x y o o' = ≈→≋ (number i j x y) (number' i j x y) (outside i j x y (search o) (search o'))
 
   alike : SameLinks (λ (i : ℕ). i < n) G (Linked Y) (Linked Y')
   alike i j x y o o' = (nonzero-of (same-outside i j x y o o'), nonzero-of (≋-sym (same-outside i j x y o o')))

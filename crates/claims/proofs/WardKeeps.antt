@@ -151,10 +151,8 @@ module _ (S : Study) (s : Sound S) (f64s : F64s (S .given)) (given : T (allFinit
         values = λ (q : ℕ) (y : q < length (rowBuses S)).
             subst (λ (c : Complex). c ≈ old S (busOfRow S p) (busOfRow S q)) (sym (entry-rows (equivalent S) (retained S) (retained S) p q at y))
             (same-value S s f64s given computed p at none q y);
-        active = λ (t : ℕ) (l : t < length (S .boundary)) (e : p ≡ length (S .internal) + t).
-            rw (getD-map (injectionP S) (S .boundary) t l) (F.zero-eq (injectionP S (getD (S .boundary) t 0)) (zero-injections t l e .0));
-        reactive = λ (t : ℕ) (l : t < length (S .boundary)) (e : p ≡ length (S .internal) + t).
-            rw (getD-map (injectionQ S) (S .boundary) t l) (F.zero-eq (injectionQ S (getD (S .boundary) t 0)) (zero-injections t l e .1));
+        active = λ t l e. rw (getD-map (injectionP S) (S .boundary) t l) (F.zero-eq (injectionP S (getD (S .boundary) t 0)) (zero-injections t l e .0));
+        reactive = λ t l e. rw (getD-map (injectionQ S) (S .boundary) t l) (F.zero-eq (injectionQ S (getD (S .boundary) t 0)) (zero-injections t l e .1));
       }
 
 -- the parts of the premise that the claim rests on: one that says more has them too

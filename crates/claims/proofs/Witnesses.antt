@@ -132,13 +132,17 @@ removed-same : account second second-calls .removed ≡ account first first-call
 unfolding first-words first-calls second-words second-calls words sqmag upTo others entryOf entryAt tooSmall refusal eliminate taken limit fresh stateOf removes step accountFrom sub mul lt ofBits
 removed-same = refl
 
--- the matrices differ in the rows and columns of bus 2 alone
+-- the matrices agree but in the row and column of bus 2
 alike : Alike (account first first-calls) (account second second-calls) (2 ∷ [])
 alike = record { size = sizes; removed = removed-same; group = search group; outside = search outside }
 
-differ : account first first-calls .old 2 2 ≈ account second second-calls .old 2 2 → ⊥
+abbrev Differ : ℕ → ℕ → Type 0
+Differ i j = account first first-calls .old i j ≈ account second second-calls .old i j → ⊥
+
+-- and differ there
+differ : Differ 2 2 × Differ 1 2 × Differ 2 1
 unfolding first-words first-calls second-words second-calls words entryOf entryAt fresh step accountFrom ofBits eq
-differ e = e .0
+differ = (λ e. e .0, λ e. e .0, λ e. e .0)
 
 -- where only bus 2 is removed and bus i has no entry to it, no chain leads from bus i into it
 no-way : (Y : Matrix) (R : List ℕ) (i : ℕ) → ((k : ℕ) → k ∈ R → k ≡ 2) → (Linked Y i 2 → ⊥) → Into Y R (2 ∷ []) i → ⊥
