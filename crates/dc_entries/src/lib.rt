@@ -4,6 +4,10 @@ use dc_core::build_b_bus;
 use dc_core::lodf_matrix;
 use dc_core::number_of;
 use dc_core::retained_buses;
+use entry_slices::parts::Lists;
+use entry_slices::parts::load_lists;
+use entry_slices::rooms::LIST;
+use entry_slices::rooms::SQUARE;
 use entry_slices::slices::load_floats;
 use entry_slices::slices::load_words;
 use entry_slices::slices::misfit;
@@ -12,9 +16,8 @@ use entry_slices::slices::store_words;
 use entry_slices::slices::told;
 use refusals::number;
 ghost use mathlib.Core.Path.{_≡_};
-ghost use lib.ListN.{length};
+ghost use Prim.Native.Nat.{_<_};
 ghost use Rattle.dc_entries.specs.Dc as spec;
-ghost use Rattle.entry_slices.specs.Rooms.{listRoom, squareRoom};
 
 fn count_of(answer: Retained) -> usize
     ensures { λ r. ⌜ r ≡ spec.countOf answer ⌝ }
@@ -43,19 +46,13 @@ fn keep(
     refusal
 }
 
-pub fn keep_in(
-    n: usize,
-    interior: &[u8],
-    retained: &mut [u8],
-    count: &mut [u8],
-    inner: &mut [usize],
-    kept: &mut [usize],
-) -> u32
-    requires { ⌜ (length (now inner) ≡ listRoom) × (length (now kept) ≡ listRoom) ⌝ }
+pub fn keep_in(n: usize, interior: &[u8], retained: &mut [u8], count: &mut [u8]) -> u32
     ensures { λ r. ⌜ spec.Kept n (now (interior .entry)) (now (retained .entry)) (now (count .entry)) r (now (retained .exit)) (now (count .exit)) ⌝ }
 {
-    let a = load_words(interior, inner);
-    let b = load_words(retained, kept);
+    let mut inner = [0usize; LIST];
+    let mut kept = [0usize; LIST];
+    let a = load_words(interior, &mut inner);
+    let b = load_words(retained, &mut kept);
     let spare = interior.len() % 8 + retained.len() % 8 + misfit(count.len(), 8);
     keep(n, &inner[0..a], &mut kept[0..b], spare, retained, count)
 }
@@ -76,35 +73,41 @@ fn build(
     refusal
 }
 
+// With the branches in their rooms: a room for the matrix.
+fn build_out(n: usize, words: &[usize], lists: Lists, xs: &[f64], spare: usize, b: &mut [u8]) -> u32
+    requires { ⌜ spec.ListsIn (now words) lists × (spare < 64) ⌝ }
+    ensures { λ r. ⌜ spec.BuiltIn n (now (words .entry)) lists (now (xs .entry)) spare (now (b .entry)) r (now (b .exit)) ⌝ }
+{
+    let mut matrix = [0.0; SQUARE];
+    let w = load_floats(b, &mut matrix);
+    let k = lists.first;
+    let l = LIST + lists.second;
+    build(
+        n,
+        &words[0..k],
+        &words[LIST..l],
+        xs,
+        &mut matrix[0..w],
+        spare + b.len() % 8,
+        b,
+    )
+}
+
 pub fn build_in(
     n: usize,
     branch_from: &[u8],
     branch_to: &[u8],
     branch_x: &[u8],
     b: &mut [u8],
-    froms: &mut [usize],
-    tos: &mut [usize],
-    xs: &mut [f64],
-    matrix: &mut [f64],
 ) -> u32
-    requires { ⌜ (length (now froms) ≡ listRoom) × (length (now tos) ≡ listRoom) ⌝ }
-    requires { ⌜ (length (now xs) ≡ listRoom) × (length (now matrix) ≡ squareRoom) ⌝ }
     ensures { λ r. ⌜ spec.Built n (now («branch_from» .entry)) (now («branch_to» .entry)) (now («branch_x» .entry)) (now (b .entry)) r (now (b .exit)) ⌝ }
 {
-    let k = load_words(branch_from, froms);
-    let l = load_words(branch_to, tos);
-    let m = load_floats(branch_x, xs);
-    let w = load_floats(b, matrix);
-    let spare = branch_from.len() % 8 + branch_to.len() % 8 + branch_x.len() % 8 + b.len() % 8;
-    build(
-        n,
-        &froms[0..k],
-        &tos[0..l],
-        &xs[0..m],
-        &mut matrix[0..w],
-        spare,
-        b,
-    )
+    let mut words = [0usize; 2 * LIST];
+    let mut xs = [0.0; LIST];
+    let lists = load_lists(branch_from, branch_to, &mut words);
+    let m = load_floats(branch_x, &mut xs);
+    let spare = lists.spare + branch_x.len() % 8;
+    build_out(n, &words, lists, &xs[0..m], spare, b)
 }
 
 fn outages(
@@ -123,33 +126,46 @@ fn outages(
     refusal
 }
 
+// With the PTDF and the branches in their rooms: a room for the matrix.
+fn outages_out(
+    n: usize,
+    factors: &[f64],
+    words: &[usize],
+    lists: Lists,
+    spare: usize,
+    lodf: &mut [u8],
+) -> u32
+    requires { ⌜ spec.ListsIn (now words) lists × (spare < 64) ⌝ }
+    ensures { λ r. ⌜ spec.OutagesIn n (now (factors .entry)) (now (words .entry)) lists spare (now (lodf .entry)) r (now (lodf .exit)) ⌝ }
+{
+    let mut matrix = [0.0; SQUARE];
+    let w = load_floats(lodf, &mut matrix);
+    let k = lists.first;
+    let l = LIST + lists.second;
+    outages(
+        n,
+        factors,
+        &words[0..k],
+        &words[LIST..l],
+        &mut matrix[0..w],
+        spare + lodf.len() % 8,
+        lodf,
+    )
+}
+
 pub fn outages_in(
     n: usize,
     ptdf: &[u8],
     branch_from: &[u8],
     branch_to: &[u8],
     lodf: &mut [u8],
-    factors: &mut [f64],
-    froms: &mut [usize],
-    tos: &mut [usize],
-    matrix: &mut [f64],
 ) -> u32
-    requires { ⌜ (length (now factors) ≡ squareRoom) × (length (now froms) ≡ listRoom) ⌝ }
-    requires { ⌜ (length (now tos) ≡ listRoom) × (length (now matrix) ≡ squareRoom) ⌝ }
     ensures { λ r. ⌜ spec.Outages n (now (ptdf .entry)) (now («branch_from» .entry)) (now («branch_to» .entry)) (now (lodf .entry)) r (now (lodf .exit)) ⌝ }
 {
-    let h = load_floats(ptdf, factors);
-    let k = load_words(branch_from, froms);
-    let l = load_words(branch_to, tos);
-    let w = load_floats(lodf, matrix);
-    let spare = ptdf.len() % 8 + branch_from.len() % 8 + branch_to.len() % 8 + lodf.len() % 8;
-    outages(
-        n,
-        &factors[0..h],
-        &froms[0..k],
-        &tos[0..l],
-        &mut matrix[0..w],
-        spare,
-        lodf,
-    )
+    let mut factors = [0.0; SQUARE];
+    let mut words = [0usize; 2 * LIST];
+    let h = load_floats(ptdf, &mut factors);
+    let lists = load_lists(branch_from, branch_to, &mut words);
+    let spare = ptdf.len() % 8 + lists.spare;
+    outages_out(n, &factors[0..h], &words, lists, spare, lodf)
 }

@@ -1,9 +1,7 @@
-// The exported entries of the DC parts, with the rooms that their slices are read into.
+// The exported entries of the DC parts.
 use dc_entries::build_in;
 use dc_entries::keep_in;
 use dc_entries::outages_in;
-use entry_slices::rooms::LIST;
-use entry_slices::rooms::SQUARE;
 ghost use Rattle.dc_entries.specs.Dc as spec;
 
 #[no_mangle]
@@ -15,9 +13,7 @@ pub extern "C" fn jeturipe_retained_buses(
 ) -> u32
     ensures { λ r. ⌜ spec.Kept n (now (interior .entry)) (now (retained .entry)) (now (count .entry)) r (now (retained .exit)) (now (count .exit)) ⌝ }
 {
-    let mut inner = [0usize; LIST];
-    let mut kept = [0usize; LIST];
-    keep_in(n, interior, retained, count, &mut inner, &mut kept)
+    keep_in(n, interior, retained, count)
 }
 
 #[no_mangle]
@@ -30,21 +26,7 @@ pub extern "C" fn jeturipe_build_b_bus(
 ) -> u32
     ensures { λ r. ⌜ spec.Built n (now («branch_from» .entry)) (now («branch_to» .entry)) (now («branch_x» .entry)) (now (b .entry)) r (now (b .exit)) ⌝ }
 {
-    let mut froms = [0usize; LIST];
-    let mut tos = [0usize; LIST];
-    let mut xs = [0.0; LIST];
-    let mut matrix = [0.0; SQUARE];
-    build_in(
-        n,
-        branch_from,
-        branch_to,
-        branch_x,
-        b,
-        &mut froms,
-        &mut tos,
-        &mut xs,
-        &mut matrix,
-    )
+    build_in(n, branch_from, branch_to, branch_x, b)
 }
 
 #[no_mangle]
@@ -57,19 +39,5 @@ pub extern "C" fn jeturipe_lodf_matrix(
 ) -> u32
     ensures { λ r. ⌜ spec.Outages n (now (ptdf .entry)) (now («branch_from» .entry)) (now («branch_to» .entry)) (now (lodf .entry)) r (now (lodf .exit)) ⌝ }
 {
-    let mut factors = [0.0; SQUARE];
-    let mut froms = [0usize; LIST];
-    let mut tos = [0usize; LIST];
-    let mut matrix = [0.0; SQUARE];
-    outages_in(
-        n,
-        ptdf,
-        branch_from,
-        branch_to,
-        lodf,
-        &mut factors,
-        &mut froms,
-        &mut tos,
-        &mut matrix,
-    )
+    outages_in(n, ptdf, branch_from, branch_to, lodf)
 }

@@ -1,8 +1,4 @@
-// The exported entry of the REI equivalent, with the rooms that its slices are read into.
-use entry_slices::rooms::LIST;
-use entry_slices::rooms::MATRIX;
-use entry_slices::rooms::TIES;
-use entry_slices::rooms::VECTOR;
+// The exported entry of the REI equivalent.
 use rei_entries::reduce_in;
 ghost use Rattle.rei_entries.specs.ReiCall as spec;
 
@@ -25,15 +21,6 @@ pub extern "C" fn jeturipe_rei_compute(
         r
         (spec.outputsOf (now («spoke_buses» .exit)) (now (spokes .exit)) (now («tie_buses» .exit)) (now (ties .exit)) (now (summary .exit))) ⌝ }
 {
-    let mut generators = [0usize; LIST];
-    let mut loads = [0usize; LIST];
-    let mut y = [0.0; MATRIX];
-    let mut p = [0.0; LIST];
-    let mut q = [0.0; LIST];
-    let mut starts = [0usize; LIST];
-    let mut rays = [0.0; VECTOR];
-    let mut ends = [0usize; TIES];
-    let mut links = [0.0; TIES];
     reduce_in(
         generator_buses,
         load_buses,
@@ -46,14 +33,5 @@ pub extern "C" fn jeturipe_rei_compute(
         tie_buses,
         ties,
         summary,
-        &mut generators,
-        &mut loads,
-        &mut y,
-        &mut p,
-        &mut q,
-        &mut starts,
-        &mut rays,
-        &mut ends,
-        &mut links,
     )
 }

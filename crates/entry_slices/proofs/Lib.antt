@@ -3,3 +3,4 @@ pub mod SlicesLaws
 pub mod OutcomesLaws
 pub mod StoredLaws
 pub mod RoomLaws
+pub mod PartsLaws

@@ -19,6 +19,14 @@ use Rattle.entry_slices.proofs.BytesLaws.{length-words, length-floats}
 
 -- ---- the cut
 
+pub length-floatsIn : (room : ℕ) (bs : List ℕ) → length (floatsIn room bs) ≡ held room (length bs / 8)
+unfolding floatsIn
+length-floatsIn room bs = length-floats (held room (length bs / 8)) bs
+
+pub length-wordsIn : (room : ℕ) (bs : List ℕ) → length (wordsIn room bs) ≡ held room (length bs / 8)
+unfolding wordsIn
+length-wordsIn room bs = length-words (held room (length bs / 8)) bs
+
 module _ (room exact : ℕ) (small : exact < room) where
   -- n elements in the room
   exact-of-held : (n : ℕ) → held room n ≡ exact → n ≡ exact
@@ -54,45 +62,37 @@ module _ (room exact : ℕ) (small : exact < room) where
       pick false p l = small
 
   module _ (bs : List ℕ) where
-    in-room-floats : length (floatsIn room bs) ≡ held room (length bs / 8)
-    unfolding floatsIn
-    in-room-floats = length-floats (held room (length bs / 8)) bs
-
-    in-room-words : length (wordsIn room bs) ≡ held room (length bs / 8)
-    unfolding wordsIn
-    in-room-words = length-words (held room (length bs / 8)) bs
-
     pub floats-exact-uncut : length (floatsIn room bs) ≡ exact → length bs / 8 ≡ exact
-    floats-exact-uncut e = exact-of-held (length bs / 8) (sym in-room-floats ∙ e)
+    floats-exact-uncut e = exact-of-held (length bs / 8) (sym (length-floatsIn room bs) ∙ e)
 
     pub floats-exact-cut : length bs / 8 ≡ exact → length (floatsIn room bs) ≡ exact
-    floats-exact-cut e = in-room-floats ∙ held-of-exact (length bs / 8) e
+    floats-exact-cut e = length-floatsIn room bs ∙ held-of-exact (length bs / 8) e
 
     pub floats-whole : length bs / 8 ≡ exact → floatsIn room bs ≡ floats exact bs
     unfolding floatsIn
     floats-whole e = ap (λ (n : ℕ). floats n bs) (held-of-exact (length bs / 8) e)
 
     pub floats-longer-uncut : exact < length (floatsIn room bs) → exact < length bs / 8
-    floats-longer-uncut l = longer-of-held (length bs / 8) (rw in-room-floats at l)
+    floats-longer-uncut l = longer-of-held (length bs / 8) (rw (length-floatsIn room bs) at l)
 
     pub floats-longer-cut : exact < length bs / 8 → exact < length (floatsIn room bs)
-    floats-longer-cut l = rw in-room-floats (held-of-longer (length bs / 8) l)
+    floats-longer-cut l = rw (length-floatsIn room bs) (held-of-longer (length bs / 8) l)
 
     pub words-exact-uncut : length (wordsIn room bs) ≡ exact → length bs / 8 ≡ exact
-    words-exact-uncut e = exact-of-held (length bs / 8) (sym in-room-words ∙ e)
+    words-exact-uncut e = exact-of-held (length bs / 8) (sym (length-wordsIn room bs) ∙ e)
 
     pub words-exact-cut : length bs / 8 ≡ exact → length (wordsIn room bs) ≡ exact
-    words-exact-cut e = in-room-words ∙ held-of-exact (length bs / 8) e
+    words-exact-cut e = length-wordsIn room bs ∙ held-of-exact (length bs / 8) e
 
     pub words-whole : length bs / 8 ≡ exact → wordsIn room bs ≡ words exact bs
     unfolding wordsIn
     words-whole e = ap (λ (n : ℕ). words n bs) (held-of-exact (length bs / 8) e)
 
     pub words-longer-uncut : exact < length (wordsIn room bs) → exact < length bs / 8
-    words-longer-uncut l = longer-of-held (length bs / 8) (rw in-room-words at l)
+    words-longer-uncut l = longer-of-held (length bs / 8) (rw (length-wordsIn room bs) at l)
 
     pub words-longer-cut : exact < length bs / 8 → exact < length (wordsIn room bs)
-    words-longer-cut l = rw in-room-words (held-of-longer (length bs / 8) l)
+    words-longer-cut l = rw (length-wordsIn room bs) (held-of-longer (length bs / 8) l)
 
 -- ---- the rooms, by the limit
 

@@ -9,7 +9,8 @@ ghost use Prim.Native.Nat.{_+_, _*_, _≤_, _<_};
 ghost use lib.ListN.{length, take};
 ghost use Rattle.entry_slices.specs.Slices as spec;
 
-fn at_most(n: usize, room: usize) -> usize
+// As many elements as the room holds.
+pub fn at_most(n: usize, room: usize) -> usize
     ensures { λ r. ⌜ r ≡ spec.held room n ⌝ }
 {
     if n < room { n } else { room }

@@ -1,1 +1,2 @@
 pub mod ReiCall
+pub mod ReiRooms

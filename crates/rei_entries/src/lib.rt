@@ -1,7 +1,13 @@
 // The entry of the REI equivalent: byte slices read into rooms for the library, the call, and the outputs written.
 use complex::words::to_word;
-use entry_slices::slices::load_floats;
-use entry_slices::slices::load_words;
+use entry_slices::parts::Lists;
+use entry_slices::parts::load_floats_at;
+use entry_slices::parts::load_lists;
+use entry_slices::rooms::LIST;
+use entry_slices::rooms::MATRIX;
+use entry_slices::rooms::TIES;
+use entry_slices::rooms::VECTOR;
+use entry_slices::slices::at_most;
 use entry_slices::slices::misfit;
 use entry_slices::slices::store_floats;
 use entry_slices::slices::store_words;
@@ -11,11 +17,37 @@ use rei_core::ReiEquivalent;
 use rei_core::compute;
 use rei_core::number_of;
 ghost use mathlib.Core.Path.{_≡_};
-ghost use Prim.Native.Nat.{_<_};
-ghost use lib.ListN.{length};
+ghost use Prim.Native.Nat.{_+_, _<_};
+ghost use lib.ListN.{length, take, drop};
+ghost use Rattle.rei_core.specs.Rei.{After};
 ghost use Rattle.rei_entries.specs.ReiCall as spec;
+ghost use Rattle.rei_entries.specs.ReiRooms as rooms;
 ghost use Rattle.entry_slices.specs.Slices.{storedWords};
 ghost use Rattle.entry_slices.specs.Rooms.{listRoom, vectorRoom, matrixRoom, tiesRoom};
+
+// In the room of the numbers that are read P begins behind the matrix, and Q behind P.
+const P: usize = MATRIX;
+
+const Q: usize = MATRIX + LIST;
+
+const NUMBERS: usize = MATRIX + 2 * LIST;
+
+// How many numbers the matrix and the injections have there, and their spare bytes.
+struct Numbers {
+    y: usize,
+    p: usize,
+    q: usize,
+    spare: usize,
+}
+
+// How many numbers of each output there is room for, and the spare bytes of the outputs.
+struct Places {
+    starts: usize,
+    rays: usize,
+    ends: usize,
+    links: usize,
+    spare: usize,
+}
 
 fn store_equivalent(s: &mut [u8], e: ReiEquivalent, refusal: u32)
     ensures { λ _. ⌜ now (s .exit) ≡ storedWords refusal (spec.summaryWords e) (now (s .entry)) ⌝ }
@@ -39,60 +71,115 @@ fn store_summary(s: &mut [u8], answer: ReiAnswer, refusal: u32)
     }
 }
 
-// The call, and what it leaves written.
-fn reduce(
-    generators: &[usize],
-    loads: &[usize],
-    y: &[f64],
-    p: &[f64],
-    q: &[f64],
+fn read_numbers(y_sub: &[u8], p_inj: &[u8], q_inj: &[u8], room: &mut [f64]) -> Numbers
+    requires { ⌜ length (now room) ≡ rooms.numbersRoom ⌝ }
+    ensures { λ r. ⌜ rooms.NumbersRead (now («y_sub» .entry)) (now («p_inj» .entry)) (now («q_inj» .entry)) r (now (room .exit)) ⌝ }
+{
+    let y = load_floats_at(y_sub, room, 0, MATRIX);
+    let p = load_floats_at(p_inj, room, P, LIST);
+    let q = load_floats_at(q_inj, room, Q, LIST);
+    Numbers {
+        y: y,
+        p: p,
+        q: q,
+        spare: y_sub.len() % 8 + p_inj.len() % 8 + q_inj.len() % 8,
+    }
+}
+
+// By the bytes of the outputs.
+fn places_of(
+    spoke_buses: usize,
+    spokes: usize,
+    tie_buses: usize,
+    ties: usize,
+    summary: usize,
+) -> Places
+    ensures { λ r. ⌜ rooms.PlacesOf «spoke_buses» spokes «tie_buses» ties summary r ⌝ }
+{
+    Places {
+        starts: at_most(spoke_buses / 8, LIST),
+        rays: at_most(spokes / 8, VECTOR),
+        ends: at_most(tie_buses / 8, TIES),
+        links: at_most(ties / 8, TIES),
+        spare: spoke_buses % 8 + spokes % 8 + tie_buses % 8 + ties % 8 + misfit(summary, 40),
+    }
+}
+
+// The call, on the parts of the rooms that are in use.
+fn study(
+    words: &[usize],
+    lists: Lists,
+    numbers: &[f64],
+    given: Numbers,
     next_bus_id: usize,
+    places: Places,
     starts: &mut [usize],
     rays: &mut [f64],
     ends: &mut [usize],
     links: &mut [f64],
-    spare: usize,
+) -> ReiAnswer
+    requires { ⌜ rooms.Read (now words) lists (now numbers) given ⌝ }
+    requires { ⌜ rooms.Placed places (length (now starts)) (length (now rays)) (length (now ends)) (length (now links)) ⌝ }
+    ensures { λ r. ⌜ After
+        (rooms.givenIn (now (words .entry)) lists (now (numbers .entry)) given «next_bus_id»
+        (take (places .starts) (now (starts .entry))) (take (places .rays) (now (rays .entry))) (take (places .ends) (now (ends .entry))) (take (places .links) (now (links .entry))))
+        r
+        (take (places .starts) (now (starts .exit))) (take (places .rays) (now (rays .exit))) (take (places .ends) (now (ends .exit))) (take (places .links) (now (links .exit))) ⌝ }
+{
+    let a = lists.first;
+    let b = LIST + lists.second;
+    let y = given.y;
+    let p = P + given.p;
+    let q = Q + given.q;
+    let s = places.starts;
+    let r = places.rays;
+    let e = places.ends;
+    let l = places.links;
+    compute(
+        &words[0..a],
+        &words[LIST..b],
+        &numbers[0..y],
+        &numbers[P..p],
+        &numbers[Q..q],
+        next_bus_id,
+        &mut starts[0..s],
+        &mut rays[0..r],
+        &mut ends[0..e],
+        &mut links[0..l],
+    )
+}
+
+// The outputs of a call with this answer and refusal.
+fn store(
+    starts: &[usize],
+    rays: &[f64],
+    ends: &[usize],
+    links: &[f64],
+    answer: ReiAnswer,
+    refusal: u32,
     spoke_buses: &mut [u8],
     spokes: &mut [u8],
     tie_buses: &mut [u8],
     ties: &mut [u8],
     summary: &mut [u8],
-) -> u32
-    ensures { λ r. ⌜ spec.ComputedBy
-        (spec.givenOf (now (generators .entry)) (now (loads .entry)) (now (y .entry)) (now (p .entry)) (now (q .entry)) «next_bus_id» (now (starts .entry)) (now (rays .entry)) (now (ends .entry)) (now (links .entry)))
-        spare
+)
+    ensures { λ _. ⌜ rooms.StoredBy (now (starts .entry)) (now (rays .entry)) (now (ends .entry)) (now (links .entry)) answer refusal
         (spec.outputsOf (now («spoke_buses» .entry)) (now (spokes .entry)) (now («tie_buses» .entry)) (now (ties .entry)) (now (summary .entry)))
-        r
         (spec.outputsOf (now («spoke_buses» .exit)) (now (spokes .exit)) (now («tie_buses» .exit)) (now (ties .exit)) (now (summary .exit))) ⌝ }
 {
-    let answer = compute(
-        generators,
-        loads,
-        y,
-        p,
-        q,
-        next_bus_id,
-        starts,
-        rays,
-        ends,
-        links,
-    );
-    let refusal = told(spare, number_of(answer));
     store_words(spoke_buses, starts, refusal);
     store_floats(spokes, rays, refusal);
     store_words(tie_buses, ends, refusal);
     store_floats(ties, links, refusal);
     store_summary(summary, answer, refusal);
-    refusal
 }
 
-// With what is read in its rooms: rooms for the numbers that are written.
-fn reduce_out(
-    generators: &[usize],
-    loads: &[usize],
-    y: &[f64],
-    p: &[f64],
-    q: &[f64],
+// With what is read in its rooms: rooms for the outputs, the call, and what it leaves written.
+fn reduce(
+    words: &[usize],
+    lists: Lists,
+    numbers: &[f64],
+    given: Numbers,
     next_bus_id: usize,
     spare: usize,
     spoke_buses: &mut [u8],
@@ -100,45 +187,55 @@ fn reduce_out(
     tie_buses: &mut [u8],
     ties: &mut [u8],
     summary: &mut [u8],
-    starts: &mut [usize],
-    rays: &mut [f64],
-    ends: &mut [usize],
-    links: &mut [f64],
 ) -> u32
-    requires { ⌜ (spare < 64) × (length (now starts) ≡ listRoom) × (length (now rays) ≡ vectorRoom) × (length (now ends) ≡ tiesRoom) × (length (now links) ≡ tiesRoom) ⌝ }
-    ensures { λ r. ⌜ spec.ReadyBy (now (generators .entry)) (now (loads .entry)) (now (y .entry)) (now (p .entry)) (now (q .entry)) «next_bus_id» spare
+    requires { ⌜ rooms.Read (now words) lists (now numbers) given × (spare < 64) ⌝ }
+    ensures { λ r. ⌜ rooms.ReadyIn (now (words .entry)) lists (now (numbers .entry)) given «next_bus_id» spare
         (spec.outputsOf (now («spoke_buses» .entry)) (now (spokes .entry)) (now («tie_buses» .entry)) (now (ties .entry)) (now (summary .entry)))
         r
         (spec.outputsOf (now («spoke_buses» .exit)) (now (spokes .exit)) (now («tie_buses» .exit)) (now (ties .exit)) (now (summary .exit))) ⌝ }
 {
-    let a = load_words(spoke_buses, starts);
-    let b = load_floats(spokes, rays);
-    let d = load_words(tie_buses, ends);
-    let e = load_floats(ties, links);
-    let over = spare
-        + spoke_buses.len() % 8
-        + spokes.len() % 8
-        + tie_buses.len() % 8
-        + ties.len() % 8
-        + misfit(summary.len(), 40);
-    reduce(
-        generators,
-        loads,
-        y,
-        p,
-        q,
+    let mut starts = [0usize; LIST];
+    let mut rays = [0.0; VECTOR];
+    let mut ends = [0usize; TIES];
+    let mut links = [0.0; TIES];
+    let places = places_of(
+        spoke_buses.len(),
+        spokes.len(),
+        tie_buses.len(),
+        ties.len(),
+        summary.len(),
+    );
+    let answer = study(
+        words,
+        lists,
+        numbers,
+        given,
         next_bus_id,
-        &mut starts[0..a],
-        &mut rays[0..b],
-        &mut ends[0..d],
-        &mut links[0..e],
-        over,
+        places,
+        &mut starts,
+        &mut rays,
+        &mut ends,
+        &mut links,
+    );
+    let refusal = told(spare + places.spare, number_of(answer));
+    let s = places.starts;
+    let r = places.rays;
+    let e = places.ends;
+    let l = places.links;
+    store(
+        &starts[0..s],
+        &rays[0..r],
+        &ends[0..e],
+        &links[0..l],
+        answer,
+        refusal,
         spoke_buses,
         spokes,
         tie_buses,
         ties,
         summary,
-    )
+    );
+    refusal
 }
 
 pub fn reduce_in(
@@ -153,49 +250,27 @@ pub fn reduce_in(
     tie_buses: &mut [u8],
     ties: &mut [u8],
     summary: &mut [u8],
-    generators: &mut [usize],
-    loads: &mut [usize],
-    y: &mut [f64],
-    p: &mut [f64],
-    q: &mut [f64],
-    starts: &mut [usize],
-    rays: &mut [f64],
-    ends: &mut [usize],
-    links: &mut [f64],
 ) -> u32
-    requires { ⌜ (length (now generators) ≡ listRoom) × (length (now loads) ≡ listRoom) × (length (now y) ≡ matrixRoom) × (length (now p) ≡ listRoom) × (length (now q) ≡ listRoom) ⌝ }
-    requires { ⌜ (length (now starts) ≡ listRoom) × (length (now rays) ≡ vectorRoom) × (length (now ends) ≡ tiesRoom) × (length (now links) ≡ tiesRoom) ⌝ }
     ensures { λ r. ⌜ spec.Computed (now («generator_buses» .entry)) (now («load_buses» .entry)) (now («y_sub» .entry)) (now («p_inj» .entry)) (now («q_inj» .entry)) «next_bus_id»
         (spec.outputsOf (now («spoke_buses» .entry)) (now (spokes .entry)) (now («tie_buses» .entry)) (now (ties .entry)) (now (summary .entry)))
         r
         (spec.outputsOf (now («spoke_buses» .exit)) (now (spokes .exit)) (now («tie_buses» .exit)) (now (ties .exit)) (now (summary .exit))) ⌝ }
 {
-    let a = load_words(generator_buses, generators);
-    let b = load_words(load_buses, loads);
-    let d = load_floats(y_sub, y);
-    let e = load_floats(p_inj, p);
-    let f = load_floats(q_inj, q);
-    let spare = generator_buses.len() % 8
-        + load_buses.len() % 8
-        + y_sub.len() % 8
-        + p_inj.len() % 8
-        + q_inj.len() % 8;
-    reduce_out(
-        &generators[0..a],
-        &loads[0..b],
-        &y[0..d],
-        &p[0..e],
-        &q[0..f],
+    let mut words = [0usize; 2 * LIST];
+    let mut numbers = [0.0; NUMBERS];
+    let lists = load_lists(generator_buses, load_buses, &mut words);
+    let given = read_numbers(y_sub, p_inj, q_inj, &mut numbers);
+    reduce(
+        &words,
+        lists,
+        &numbers,
+        given,
         next_bus_id,
-        spare,
+        lists.spare + given.spare,
         spoke_buses,
         spokes,
         tie_buses,
         ties,
         summary,
-        starts,
-        rays,
-        ends,
-        links,
     )
 }

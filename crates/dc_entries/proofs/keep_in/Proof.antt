@@ -1,19 +1,25 @@
 -- `dc_entries::keep_in` meets its contract.
 -- Assumes nothing.
-use mathlib.Core.Path.{_≡_, ap, _∙_}
-use Prim.Native.Nat.{ℕ}
+use mathlib.Core.Path.{_≡_}
 use native.Mathlib.Nat.{sub-zero}
 use native.Mathlib.Omega.{arith}
 use denote.Ref.{now}
 use lib.ListN.{length, take}
+use Rattle.entry_slices.specs.Rooms.{listRoom}
 use Rattle.entry_slices.specs.Slices.{wordsIn}
 use Rattle.entry_slices.proofs.SlicesLaws.{misfit-one}
 use borrow.Author.Needs.{needs}
 use Rattle.dc_entries.proofs.keep_in.Statement.{statement}
 use Rattle.dc_entries.proofs.keep_in.Tie as tie
 
+slice-aggregate-load-words : tie.Need-slice-aggregate-load-words
+slice-aggregate-load-words c = search needs
+
 load-words-requires : tie.Need-load-words-requires
 load-words-requires c κs = search needs
+
+slice-aggregate-load-words-2 : tie.Need-slice-aggregate-load-words-2
+slice-aggregate-load-words-2 c = search needs
 
 load-words-requires-2 : tie.Need-load-words-requires-2
 load-words-requires-2 c κs = search needs
@@ -25,7 +31,7 @@ misfit-requires : tie.Need-misfit-requires
 misfit-requires c κs = search needs
 
 add-spare-2 : tie.Need-add-spare-2
-add-spare-2 c = omega (arith, c .misfit .ensures, misfit-one (length (now (c .before .before .before .before .before .before .before .before .before .before .before .before .before .before .before .args .count))) 8)
+add-spare-2 c = omega (arith, c .misfit .ensures, misfit-one (length (now (c .before .before .before .before .before .before .before .before .before .before .before .args .count))) 8)
 
 sub-keep : tie.Need-sub-keep
 sub-keep c = search needs
@@ -39,11 +45,11 @@ part-keep-end c = search needs
 sub-keep-2 : tie.Need-sub-keep-2
 sub-keep-2 c = search needs
 
-part-keep-start-2 : tie.Need-part-keep-start-2
-part-keep-start-2 c = search needs
+part-kept-start : tie.Need-part-kept-start
+part-kept-start c = search needs
 
-part-keep-end-2 : tie.Need-part-keep-end-2
-part-keep-end-2 c = search needs
+part-kept-end : tie.Need-part-kept-end
+part-kept-end c = search needs
 
 keep-requires : tie.Need-keep-requires
 keep-requires c κs = search needs
@@ -54,26 +60,22 @@ same-length c = search needs
 same-length-2 : tie.Need-same-length-2
 same-length-2 c = search needs
 
-same-length-3 : tie.Need-same-length-3
-same-length-3 c = search needs
-
-same-length-4 : tie.Need-same-length-4
-same-length-4 c = search needs
-
 returns : tie.Need-returns
 returns c =
-    let start = c .before .before .before .before .before .before .before .before .before .before .before .before .before .before .before .before .before .before .before .before .before .before .before .before .before .before .before in
-    let k = c .before .before .before .before .before .before .keep .ensures in
-    let m = c .before .before .before .before .before .before .before .before .before .before .before .before .misfit .ensures in
-    let a = c .before .before .before .before .before .before .before .before .before .before .before .before .before .before .before .before .before .before .before .before .load-words .ensures .1 ∙ ap (λ (l : ℕ). wordsIn l (now (start .args .interior))) (start .pre .0) in
-    let b = c .before .before .before .before .before .before .before .before .before .before .before .before .before .before .before .load-words2 .ensures .1 ∙ ap (λ (l : ℕ). wordsIn l (now (start .args .retained))) (start .pre .1) in
-    rw (← m, ← a, ← b) (simp sub-zero at k)
+    let a = c .before .before .before .before .before .before .before .before .before .before .before .before .before .before .before .before .before .before .before .before .before .before .args in
+    let x = c .before .before .before .before .before .before .before .before .before .before .before .before .before .before .before .before .before .load-words in
+    let y = c .before .before .before .before .before .before .before .before .before .before .before .before .before .load-words2 in
+    let i : take (x .result) (x .last .1 .0) ≡ wordsIn listRoom (now (a .interior)) = x .ensures .1 in
+    let j : take (y .result) (y .last .1 .0) ≡ wordsIn listRoom (now (a .retained)) = y .ensures .1 in
+    rw (← c .before .before .before .before .before .before .before .before .before .before .before .misfit .ensures, ← i, ← j) (simp sub-zero at (c .before .before .before .before .before .keep .ensures))
 
 pub keep-in-spec : {M : Type 1} → statement M
 keep-in-spec =
     tie.close
     (tie.spec
+    slice-aggregate-load-words
     load-words-requires
+    slice-aggregate-load-words-2
     load-words-requires-2
     add-spare
     misfit-requires
@@ -82,11 +84,9 @@ keep-in-spec =
     part-keep-start
     part-keep-end
     sub-keep-2
-    part-keep-start-2
-    part-keep-end-2
+    part-kept-start
+    part-kept-end
     keep-requires
     same-length
     same-length-2
-    same-length-3
-    same-length-4
     returns)

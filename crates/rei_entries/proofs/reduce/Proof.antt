@@ -1,28 +1,42 @@
 -- `rei_entries::reduce` meets its contract.
 -- Assumes nothing.
-use mathlib.Core.Path.{ap, _∙_}
+use mathlib.Core.Path.{_≡_, sym, ap, _∙_}
+use Prim.Native.Nat.{ℕ, _+_, _/_, _%_}
+use native.Mathlib.Nat.{sub-zero}
+use native.Mathlib.Omega.{arith}
 use denote.Ref.{now}
-use Rattle.entry_slices.specs.Slices.{told}
-use Rattle.entry_slices.proofs.StoredLaws.{words-stored, floats-stored}
-use Rattle.rei_entries.proofs.ReiLaws.{summary-stored}
-use Rattle.rei_core.proofs.ReiAnswers.{numbered}
-use mathlib.Core.List.{_++_}
-use lib.ListN.{replicate}
-use Rattle.complex.specs.Matrices.{zeros}
-use Rattle.rei_core.specs.Rei.{refusalOf, busesOf, spokesOf, tiesOf, tieEnds, tieParts, unused, equivalentOf}
-use Rattle.rei_entries.specs.ReiCall.{givenOf}
+use lib.ListN.{length}
+use lib.Seq.{length-take-le}
+use Rattle.rei_core.specs.Rei.{number}
+use Rattle.entry_slices.specs.Rooms.{listRoom, vectorRoom, tiesRoom}
+use Rattle.entry_slices.specs.Slices.{told, misfit}
+use Rattle.entry_slices.proofs.RoomLaws.{length-wordsIn, length-floatsIn}
+use Rattle.entry_slices.proofs.SlicesLaws.{held-room, misfit-one}
+use Rattle.rei_entries.proofs.ReiLaws.{placed, computed}
 use borrow.Author.Needs.{needs}
 use Rattle.rei_entries.proofs.reduce.Statement.{statement}
 use Rattle.rei_entries.proofs.reduce.Tie as tie
-use Rattle.entry_slices.proofs.slices.store_floats.Reads as store-floats-reads
-use Rattle.entry_slices.proofs.slices.store_words.Reads as store-words-reads
-use Rattle.entry_slices.proofs.slices.told.Reads as told-reads
-use Rattle.rei_core.proofs.compute.Reads as compute-reads
-use Rattle.rei_core.proofs.number_of.Reads as number-of-reads
-use Rattle.rei_entries.proofs.store_summary.Reads as store-summary-reads
 
-compute-requires : tie.Need-compute-requires
-compute-requires c κs = search needs
+places-of-requires : tie.Need-places-of-requires
+places-of-requires c κs = search needs
+
+slice-aggregate-study : tie.Need-slice-aggregate-study
+slice-aggregate-study c = search needs
+
+slice-aggregate-study-2 : tie.Need-slice-aggregate-study-2
+slice-aggregate-study-2 c = search needs
+
+slice-aggregate-study-3 : tie.Need-slice-aggregate-study-3
+slice-aggregate-study-3 c = search needs
+
+slice-aggregate-study-4 : tie.Need-slice-aggregate-study-4
+slice-aggregate-study-4 c = search needs
+
+study-requires : tie.Need-study-requires
+study-requires c κs = (c .before .before .before .before .before .before .before .before .before .before .before .before .pre .0, placed _ _ _ _ _ _ (c .before .before .before .before .places-of .ensures))
+
+add-told : tie.Need-add-told
+add-told c = omega (arith, c .before .before .before .before .before .before .before .before .before .before .before .before .before .before .before .before .before .before .pre .1, c .before .before .before .before .before .before .before .before .before .before .places-of .ensures .spareIs, misfit-one (length (now (c .before .before .before .before .before .before .before .before .before .before .before .before .before .before .before .before .before .before .args .summary))) 40)
 
 number-of-requires : tie.Need-number-of-requires
 number-of-requires c κs = search needs
@@ -30,20 +44,44 @@ number-of-requires c κs = search needs
 told-requires : tie.Need-told-requires
 told-requires c κs = search needs
 
-store-words-requires : tie.Need-store-words-requires
-store-words-requires c κs = search needs
+sub-store : tie.Need-sub-store
+sub-store c = search needs
 
-store-floats-requires : tie.Need-store-floats-requires
-store-floats-requires c κs = search needs
+part-store-start : tie.Need-part-store-start
+part-store-start c = search needs
 
-store-words-requires-2 : tie.Need-store-words-requires-2
-store-words-requires-2 c κs = search needs
+part-store-end : tie.Need-part-store-end
+part-store-end c = omega (arith, c .before .before .before .before .before .before .before .before .before .before .before .before .before .places-of .ensures .starts, held-room listRoom (length (now (c .before .before .before .before .before .before .before .before .before .before .before .before .before .before .before .before .before .before .before .before .before .args .spoke-buses)) / 8))
 
-store-floats-requires-2 : tie.Need-store-floats-requires-2
-store-floats-requires-2 c κs = search needs
+sub-store-2 : tie.Need-sub-store-2
+sub-store-2 c = search needs
 
-store-summary-requires : tie.Need-store-summary-requires
-store-summary-requires c κs = search needs
+part-store-start-2 : tie.Need-part-store-start-2
+part-store-start-2 c = search needs
+
+part-store-end-2 : tie.Need-part-store-end-2
+part-store-end-2 c = omega (arith, c .before .before .before .before .before .before .before .before .before .before .before .before .before .before .before .places-of .ensures .rays, held-room vectorRoom (length (now (c .before .before .before .before .before .before .before .before .before .before .before .before .before .before .before .before .before .before .before .before .before .before .before .args .spokes)) / 8))
+
+sub-store-3 : tie.Need-sub-store-3
+sub-store-3 c = search needs
+
+part-store-start-3 : tie.Need-part-store-start-3
+part-store-start-3 c = search needs
+
+part-store-end-3 : tie.Need-part-store-end-3
+part-store-end-3 c = omega (arith, c .before .before .before .before .before .before .before .before .before .before .before .before .before .before .before .before .before .places-of .ensures .ends, held-room tiesRoom (length (now (c .before .before .before .before .before .before .before .before .before .before .before .before .before .before .before .before .before .before .before .before .before .before .before .before .before .args .tie-buses)) / 8))
+
+sub-store-4 : tie.Need-sub-store-4
+sub-store-4 c = search needs
+
+part-store-start-4 : tie.Need-part-store-start-4
+part-store-start-4 c = search needs
+
+part-store-end-4 : tie.Need-part-store-end-4
+part-store-end-4 c = omega (arith, c .before .before .before .before .before .before .before .before .before .before .before .before .before .before .before .before .before .before .before .places-of .ensures .links, held-room tiesRoom (length (now (c .before .before .before .before .before .before .before .before .before .before .before .before .before .before .before .before .before .before .before .before .before .before .before .before .before .before .before .args .ties)) / 8))
+
+store-requires : tie.Need-store-requires
+store-requires c κs = search needs
 
 same-length : tie.Need-same-length
 same-length c = search needs
@@ -60,54 +98,50 @@ same-length-4 c = search needs
 same-length-5 : tie.Need-same-length-5
 same-length-5 c = search needs
 
-same-length-6 : tie.Need-same-length-6
-same-length-6 c = search needs
-
-same-length-7 : tie.Need-same-length-7
-same-length-7 c = search needs
-
-same-length-8 : tie.Need-same-length-8
-same-length-8 c = search needs
-
-same-length-9 : tie.Need-same-length-9
-same-length-9 c = search needs
-
 returns : tie.Need-returns
 returns c =
-    let a = c .before .before .before .before .before .before .before .before .before .before .before .before .before .before .before .before .before .before .before .before .before .before .before .before .before .before .before .before .before .before .before .before .before .before .before .before .before .before .before .before .before .before .before .before .before .before .before .before .before .before .before .before .before .args in
-    let g = givenOf (now (a .generators)) (now (a .loads)) (now (a .y)) (now (a .p)) (now (a .q)) (a .next-bus-id) (now (a .starts)) (now (a .rays)) (now (a .ends)) (now (a .links)) in
-    let e = c .before .before .before .before .before .before .before .before .before .before .before .before .before .before .before .before .before .before .before .before .before .before .before .before .before .before .before .before .before .before .before .before .before .before .compute .ensures in
-    let k = refusalOf g in
-    let o = a .spare in
-    let f = c .before .before .before .before .before .before .before .before .before .before .before .before .before .before .before .before .before .before .before .before .before .before .before .before .told .ensures ∙ ap (told o) (c .before .before .before .before .before .before .before .before .before .before .before .before .before .before .before .before .before .before .before .before .before .before .before .before .before .number-of .ensures ∙ numbered k (equivalentOf g) (e .answer)) in
-    record {
-      number = f;
-      spokeBusesAre = c .before .before .before .before .before .before .before .before .before .before .before .before .before .before .before .before .before .before .before .before .before .store-words .ensures ∙ words-stored o k (busesOf g) (now (a .starts)) (now (a .spoke-buses)) f (e .spokeBusesAre);
-      spokesAre = c .before .before .before .before .before .before .before .before .before .before .before .before .before .before .before .before .store-floats .ensures ∙ floats-stored o k (spokesOf g) (now (a .rays)) (now (a .spokes)) f (e .spokesAre);
-      tieBusesAre = c .before .before .before .before .before .before .before .before .before .before .before .store-words2 .ensures ∙ words-stored o k (tieEnds (tiesOf g) ++ replicate (unused g) 0) (now (a .ends)) (now (a .tie-buses)) f (e .tieBusesAre);
-      tiesAre = c .before .before .before .before .before .before .store-floats2 .ensures ∙ floats-stored o k (tieParts (tiesOf g) ++ zeros (unused g)) (now (a .links)) (now (a .ties)) f (e .tiesAre);
-      summaryIs = c .before .before .store-summary .ensures ∙ summary-stored o k (equivalentOf g) (now (a .summary)) f (e .answer);
-    }
+    let a = c .before .before .before .before .before .before .before .before .before .before .before .before .before .before .before .before .before .before .before .before .before .before .before .before .before .before .before .before .before .before .before .before .before .before .before .before .before .before .before .before .before .before .before .before .args in
+    let h = c .before .before .before .before .before .before .before .before .before .before .before .before .before .before .before .before .before .before .before .before .before .before .before .before .before .before .before .before .before .before .before .before .before .before .before .before .places-of in
+    let p = h .ensures in
+    let f = placed _ _ _ _ _ _ p in
+    let sum : a .spare + h .result .spare ≡ a .spare + length (now (a .spoke-buses)) % 8 + length (now (a .spokes)) % 8 + length (now (a .tie-buses)) % 8 + length (now (a .ties)) % 8 + misfit (length (now (a .summary))) 40 = omega (arith, p .spareIs) in
+    let n = c .before .before .before .before .before .before .before .before .before .before .before .before .before .before .before .before .before .before .before .before .before .before .before .before .told .ensures ∙ ap (told _) (c .before .before .before .before .before .before .before .before .before .before .before .before .before .before .before .before .before .before .before .before .before .before .before .before .before .number-of .ensures) ∙ ap (λ (over : ℕ). told over (number (c .before .before .before .before .before .before .before .before .before .before .before .before .before .before .before .before .before .before .before .before .before .before .before .before .before .before .before .before .before .before .before .study .result))) sum in
+    computed _ _ _ _ _ _ _ _ _ _ _ _ _ _
+    (length-take-le (h .result .starts) _ (f .startsFew) ∙ p .starts ∙ sym (length-wordsIn listRoom (now (a .spoke-buses))))
+    (length-take-le (h .result .rays) _ (f .raysFew) ∙ p .rays ∙ sym (length-floatsIn vectorRoom (now (a .spokes))))
+    (length-take-le (h .result .ends) _ (f .endsFew) ∙ p .ends ∙ sym (length-wordsIn tiesRoom (now (a .tie-buses))))
+    (length-take-le (h .result .links) _ (f .linksFew) ∙ p .links ∙ sym (length-floatsIn tiesRoom (now (a .ties))))
+    _ _ _ _ _ _ _ _ _ (c .before .before .before .before .before .before .before .before .before .before .before .before .before .before .before .before .before .before .before .before .before .before .before .before .before .before .before .before .before .before .before .study .ensures) n (simp sub-zero at (c .before .before .before .before .before .before .before .before .before .before .store .ensures))
 
 pub reduce-spec : {M : Type 1} → statement M
 reduce-spec =
     tie.close
     (tie.spec
-    compute-requires
+    places-of-requires
+    slice-aggregate-study
+    slice-aggregate-study-2
+    slice-aggregate-study-3
+    slice-aggregate-study-4
+    study-requires
+    add-told
     number-of-requires
     told-requires
-    store-words-requires
-    store-floats-requires
-    store-words-requires-2
-    store-floats-requires-2
-    store-summary-requires
+    sub-store
+    part-store-start
+    part-store-end
+    sub-store-2
+    part-store-start-2
+    part-store-end-2
+    sub-store-3
+    part-store-start-3
+    part-store-end-3
+    sub-store-4
+    part-store-start-4
+    part-store-end-4
+    store-requires
     same-length
     same-length-2
     same-length-3
     same-length-4
     same-length-5
-    same-length-6
-    same-length-7
-    same-length-8
-    same-length-9
     returns)

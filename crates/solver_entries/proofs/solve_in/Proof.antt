@@ -1,73 +1,50 @@
 -- `solver_entries::solve_in` meets its contract.
 -- Assumes nothing.
-use mathlib.Core.Path.{ap, _∙_}
-use Prim.Native.Nat.{ℕ}
+use mathlib.Core.Path.{_≡_}
 use native.Mathlib.Nat.{sub-zero}
 use denote.Ref.{now}
+use lib.ListN.{take}
+use Rattle.entry_slices.specs.Rooms.{vectorRoom, matrixRoom}
 use Rattle.entry_slices.specs.Slices.{floatsIn}
 use borrow.Author.Needs.{needs}
 use Rattle.solver_entries.proofs.solve_in.Statement.{statement}
 use Rattle.solver_entries.proofs.solve_in.Tie as tie
 
+slice-aggregate-load-floats : tie.Need-slice-aggregate-load-floats
+slice-aggregate-load-floats c = search needs
+
 load-floats-requires : tie.Need-load-floats-requires
 load-floats-requires c κs = search needs
+
+slice-aggregate-load-floats-2 : tie.Need-slice-aggregate-load-floats-2
+slice-aggregate-load-floats-2 c = search needs
 
 load-floats-requires-2 : tie.Need-load-floats-requires-2
 load-floats-requires-2 c κs = search needs
 
-load-floats-requires-3 : tie.Need-load-floats-requires-3
-load-floats-requires-3 c κs = search needs
-
-load-floats-requires-4 : tie.Need-load-floats-requires-4
-load-floats-requires-4 c κs = search needs
-
 add-spare : tie.Need-add-spare
 add-spare c = search needs
 
-add-spare-2 : tie.Need-add-spare-2
-add-spare-2 c = search needs
+sub-solve-out : tie.Need-sub-solve-out
+sub-solve-out c = search needs
 
-add-spare-3 : tie.Need-add-spare-3
-add-spare-3 c = search needs
+part-solve-out-start : tie.Need-part-solve-out-start
+part-solve-out-start c = search needs
 
-sub-solve : tie.Need-sub-solve
-sub-solve c = search needs
+part-solve-out-end : tie.Need-part-solve-out-end
+part-solve-out-end c = search needs
 
-part-solve-start : tie.Need-part-solve-start
-part-solve-start c = search needs
+sub-solve-out-2 : tie.Need-sub-solve-out-2
+sub-solve-out-2 c = search needs
 
-part-solve-end : tie.Need-part-solve-end
-part-solve-end c = search needs
+part-solve-out-start-2 : tie.Need-part-solve-out-start-2
+part-solve-out-start-2 c = search needs
 
-sub-solve-2 : tie.Need-sub-solve-2
-sub-solve-2 c = search needs
+part-solve-out-end-2 : tie.Need-part-solve-out-end-2
+part-solve-out-end-2 c = search needs
 
-part-solve-start-2 : tie.Need-part-solve-start-2
-part-solve-start-2 c = search needs
-
-part-solve-end-2 : tie.Need-part-solve-end-2
-part-solve-end-2 c = search needs
-
-sub-solve-3 : tie.Need-sub-solve-3
-sub-solve-3 c = search needs
-
-part-solve-start-3 : tie.Need-part-solve-start-3
-part-solve-start-3 c = search needs
-
-part-solve-end-3 : tie.Need-part-solve-end-3
-part-solve-end-3 c = search needs
-
-sub-solve-4 : tie.Need-sub-solve-4
-sub-solve-4 c = search needs
-
-part-solve-start-4 : tie.Need-part-solve-start-4
-part-solve-start-4 c = search needs
-
-part-solve-end-4 : tie.Need-part-solve-end-4
-part-solve-end-4 c = search needs
-
-solve-requires : tie.Need-solve-requires
-solve-requires c κs = search needs
+solve-out-requires : tie.Need-solve-out-requires
+solve-out-requires c κs = search needs
 
 same-length : tie.Need-same-length
 same-length c = search needs
@@ -75,56 +52,31 @@ same-length c = search needs
 same-length-2 : tie.Need-same-length-2
 same-length-2 c = search needs
 
-same-length-3 : tie.Need-same-length-3
-same-length-3 c = search needs
-
-same-length-4 : tie.Need-same-length-4
-same-length-4 c = search needs
-
-same-length-5 : tie.Need-same-length-5
-same-length-5 c = search needs
-
-same-length-6 : tie.Need-same-length-6
-same-length-6 c = search needs
-
 returns : tie.Need-returns
 returns c =
-    let start = c .before .before .before .before .before .before .before .before .before .before .before .before .before .before .before .before .before .before .before .before .before .before .before .before .before .before .before .before .before .before .before .before .before .before .before .before .before .before .before .before .before .before .before in
-    let e = c .before .before .before .before .before .before .before .before .solve .ensures in
-    let h = c .before .before .before .before .before .before .before .before .before .before .before .before .before .before .before .before .before .before .before .before .before .before .before .before .before .before .before .before .before .before .before .before .before .load-floats .ensures .1 ∙ ap (λ (l : ℕ). floatsIn l (now (start .args .a))) (start .pre .0 .0) in
-    let i = c .before .before .before .before .before .before .before .before .before .before .before .before .before .before .before .before .before .before .before .before .before .before .before .before .before .before .before .before .before .load-floats2 .ensures .1 ∙ ap (λ (l : ℕ). floatsIn l (now (start .args .b))) (start .pre .0 .1) in
-    let j = c .before .before .before .before .before .before .before .before .before .before .before .before .before .before .before .before .before .before .before .before .before .before .before .before .load-floats3 .ensures .1 ∙ ap (λ (l : ℕ). floatsIn l (now (start .args .x))) (start .pre .1 .0) in
-    let k = c .before .before .before .before .before .before .before .before .before .before .before .before .before .before .before .before .before .before .before .load-floats4 .ensures .1 ∙ ap (λ (l : ℕ). floatsIn l (now (start .args .work))) (start .pre .1 .1) in
-    rw (← h, ← i, ← j, ← k) (simp sub-zero at e)
+    let a = c .before .before .before .before .before .before .before .before .before .before .before .before .before .before .before .before .before .before .before .before .before .args in
+    let x = c .before .before .before .before .before .before .before .before .before .before .before .before .before .before .before .load-floats in
+    let i : take (x .result) (x .last .1 .0) ≡ floatsIn matrixRoom (now (a .a)) = x .ensures .1 in
+    let y = c .before .before .before .before .before .before .before .before .before .before .before .before .load-floats2 in
+    let j : take (y .result) (y .last .1 .0) ≡ floatsIn vectorRoom (now (a .b)) = y .ensures .1 in
+    rw (← i, ← j) (simp sub-zero at (c .before .before .before .before .solve-out .ensures))
 
 pub solve-in-spec : {M : Type 1} → statement M
 solve-in-spec =
     tie.close
     (tie.spec
+    slice-aggregate-load-floats
     load-floats-requires
+    slice-aggregate-load-floats-2
     load-floats-requires-2
-    load-floats-requires-3
-    load-floats-requires-4
     add-spare
-    add-spare-2
-    add-spare-3
-    sub-solve
-    part-solve-start
-    part-solve-end
-    sub-solve-2
-    part-solve-start-2
-    part-solve-end-2
-    sub-solve-3
-    part-solve-start-3
-    part-solve-end-3
-    sub-solve-4
-    part-solve-start-4
-    part-solve-end-4
-    solve-requires
+    sub-solve-out
+    part-solve-out-start
+    part-solve-out-end
+    sub-solve-out-2
+    part-solve-out-start-2
+    part-solve-out-end-2
+    solve-out-requires
     same-length
     same-length-2
-    same-length-3
-    same-length-4
-    same-length-5
-    same-length-6
     returns)
