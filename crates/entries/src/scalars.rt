@@ -3,7 +3,6 @@ use complex::Complex;
 use entry_slices::slices::misfit;
 use entry_slices::slices::store_floats;
 use entry_slices::slices::told;
-ghost use mathlib.Core.Path.{_≡_};
 ghost use mathlib.Core.List.{[], _∷_};
 ghost use Rattle.complex.specs.Arithmetic as arithmetic;
 ghost use Rattle.binary64.specs.Root.{root};

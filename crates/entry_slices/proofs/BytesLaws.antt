@@ -2,16 +2,15 @@
 -- Assumes nothing.
 use mathlib.Core.Path.{_≡_, refl, sym, ap, _∙_}
 use mathlib.Core.List.{List, [], _∷_, _++_, map, append-assoc, append-nil}
-use Prim.Native.Nat.{ℕ, zero, suc, _+_, _*_, _≤_, _<_}
-use native.Mathlib.Nat.{mul-suc}
+use Prim.Native.Nat.{ℕ, _+_, _*_, _≤_, _<_}
 use native.Mathlib.Numerals.{add-one}
 use native.Mathlib.Omega.{arith}
 use lib.ListN.{length, take, drop, getD, length-append, length-map}
-use lib.Seq.{sets, sets-eq, length-sets, take-at, take-suc, length-take-le}
-use lib.Ieee.{Float, binary64, ofBits, toBits}
+use lib.Seq.{sets-eq, length-sets, take-at, take-suc, length-take-le}
+use lib.Ieee.{binary64, ofBits}
 use Rattle.complex.specs.Matrices.{upTo}
 use Rattle.complex.proofs.Matrices.{length-upTo}
-use Rattle.entry_slices.specs.Bytes.{word, bytesOf, putWord, words, floats, ofWords, ofFloats}
+use Rattle.entry_slices.specs.Bytes.{word, bytesOf, putWord, words, floats, ofWords}
 
 map-append : {A B : Type 0} (f : A → B) (xs ys : List A) → map f (xs ++ ys) ≡ map f xs ++ map f ys
 map-append f [] ys = refl

@@ -10,7 +10,7 @@ use native.Mathlib.Nat.{mul-le-mul}
 use native.Mathlib.Omega.{arith}
 use lib.Dec.{ltb}
 use lib.ListN.{length}
-use borrow.Author.Tests.{ltb-true, ltb-false}
+use borrow.Author.Tests.{ltb-false}
 use Rattle.refusals.specs.Refusals.{limit}
 use Rattle.entry_slices.specs.Bytes.{words, floats}
 use Rattle.entry_slices.specs.Slices.{held, floatsIn, wordsIn}

@@ -1,9 +1,7 @@
 -- Elements of 8 bytes, the lowest byte first.
-use Prim.Native.Nat.{ℕ, zero, suc, _+_, _*_, _/_, _%_}
-use mathlib.Core.Bool.{Bool, _&&_, cond}
+use Prim.Native.Nat.{ℕ, _+_, _*_, _/_, _%_}
 use mathlib.Core.List.{List, [], _∷_, _++_, map}
-use lib.Dec.{eqb, leb}
-use lib.ListN.{length, getD, replicate}
+use lib.ListN.{getD}
 use lib.Seq.{sets}
 use lib.Ieee.{Float, binary64, ofBits, toBits}
 use Rattle.complex.specs.Matrices.{upTo}

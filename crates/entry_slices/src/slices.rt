@@ -5,7 +5,7 @@ use crate::bytes::read_words;
 use crate::bytes::write_floats;
 use crate::bytes::write_words;
 ghost use mathlib.Core.Path.{_≡_};
-ghost use Prim.Native.Nat.{_+_, _*_, _≤_, _<_};
+ghost use Prim.Native.Nat.{_≤_, _<_};
 ghost use lib.ListN.{length, take};
 ghost use Rattle.entry_slices.specs.Slices as spec;
 

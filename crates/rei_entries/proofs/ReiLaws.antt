@@ -2,14 +2,14 @@
 -- Assumes nothing.
 use mathlib.Core.Path.{_≡_, refl, ap, _∙_}
 use mathlib.Core.List.{List, _++_}
-use Prim.Native.Nat.{ℕ, zero, suc, _+_, _/_, _≤_}
+use Prim.Native.Nat.{ℕ, zero, suc, _/_, _≤_}
 use native.Mathlib.Omega.{arith}
 use lib.ListN.{length, replicate}
 use lib.Ieee.{Float}
 use Rattle.complex.specs.Matrices.{zeros}
 use Rattle.rei_core.specs.declared.ReiEquivalent.{ReiEquivalent}
 use Rattle.rei_core.specs.declared.ReiAnswer.{ReiAnswer}
-use Rattle.rei_core.specs.Rei.{Given, After, answered, number, refusalOf, sizeOf, busesOf, spokesOf, tiesOf, tieEnds, tieParts, unused, equivalentOf}
+use Rattle.rei_core.specs.Rei.{After, answered, number, refusalOf, sizeOf, busesOf, spokesOf, tiesOf, tieEnds, tieParts, unused, equivalentOf}
 use Rattle.rei_core.proofs.ReiAnswers.{numbered}
 use Rattle.entry_slices.specs.Rooms.{listRoom, vectorRoom, tiesRoom}
 use Rattle.entry_slices.specs.Slices.{held, told, storedWords}

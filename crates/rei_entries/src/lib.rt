@@ -18,12 +18,11 @@ use rei_core::compute;
 use rei_core::number_of;
 ghost use mathlib.Core.Path.{_≡_};
 ghost use Prim.Native.Nat.{_+_, _<_};
-ghost use lib.ListN.{length, take, drop};
+ghost use lib.ListN.{length, take};
 ghost use Rattle.rei_core.specs.Rei.{After};
 ghost use Rattle.rei_entries.specs.ReiCall as spec;
 ghost use Rattle.rei_entries.specs.ReiRooms as rooms;
 ghost use Rattle.entry_slices.specs.Slices.{storedWords};
-ghost use Rattle.entry_slices.specs.Rooms.{listRoom, vectorRoom, matrixRoom, tiesRoom};
 
 // In the room of the numbers that are read P begins behind the matrix, and Q behind P.
 const P: usize = MATRIX;

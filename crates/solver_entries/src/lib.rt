@@ -10,7 +10,6 @@ use entry_slices::slices::told;
 use refusals::number;
 use solver::complex_matrix_inverse;
 use solver::solve_linear;
-ghost use mathlib.Core.Path.{_≡_};
 ghost use Prim.Native.Nat.{_<_};
 ghost use Rattle.solver.specs.Calls.{afterSolve, afterInverse};
 ghost use Rattle.solver_entries.specs.Systems as spec;

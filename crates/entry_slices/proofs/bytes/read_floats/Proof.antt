@@ -5,9 +5,9 @@ use mathlib.Core.List.{[], _∷_, _++_}
 use native.Mathlib.Numerals.{add-one}
 use denote.Ref.{now}
 use lib.Ieee.{binary64, ofBits}
-use Prim.Native.Nat.{_+_, _-_, _≤_, _<_}
+use Prim.Native.Nat.{_-_, _≤_, _<_}
 use native.Mathlib.Omega.{arith}
-use lib.ListN.{length, take, getD, length-set}
+use lib.ListN.{length, take, length-set}
 use lib.Seq.{take-suc-set}
 use Rattle.complex.specs.Matrices.{upTo}
 use Rattle.entry_slices.specs.Bytes.{words, floats}

@@ -4,12 +4,12 @@ use mathlib.Core.Path.{_≡_, refl, sym, ap, _∙_}
 use mathlib.Core.List.{[], _∷_, _++_}
 use native.Mathlib.Numerals.{add-one}
 use denote.Ref.{now}
-use Prim.Native.Nat.{_+_, _-_, _≤_, _<_}
+use Prim.Native.Nat.{_-_, _≤_, _<_}
 use native.Mathlib.Omega.{arith}
-use lib.ListN.{length, take, getD, length-set}
+use lib.ListN.{length, take, length-set}
 use lib.Seq.{take-suc-set}
 use Rattle.complex.specs.Matrices.{upTo}
-use Rattle.entry_slices.specs.Bytes.{words, floats}
+use Rattle.entry_slices.specs.Bytes.{words}
 use Rattle.entry_slices.proofs.BytesLaws.{words-suc}
 use Rattle.entry_slices.proofs.bytes.read_words.Statement.{statement}
 use Rattle.entry_slices.proofs.bytes.read_words.Tie as tie

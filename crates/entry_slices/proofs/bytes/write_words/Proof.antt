@@ -3,10 +3,10 @@
 use mathlib.Core.Path.{_≡_, refl, sym, ap, _∙_}
 use denote.Ref.{now}
 use lib.Seq.{take-all}
-use Prim.Native.Nat.{_+_, _*_, _-_, _≤_, _<_}
+use Prim.Native.Nat.{_*_, _-_, _≤_, _<_}
 use native.Mathlib.Omega.{arith}
 use lib.ListN.{length, take, getD}
-use Rattle.entry_slices.specs.Bytes.{putWord, ofWords, ofFloats}
+use Rattle.entry_slices.specs.Bytes.{putWord, ofWords}
 use Rattle.entry_slices.proofs.BytesLaws.{written-more}
 use Rattle.entry_slices.proofs.bytes.write_words.Statement.{statement}
 use Rattle.entry_slices.proofs.bytes.write_words.Tie as tie
