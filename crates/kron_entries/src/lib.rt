@@ -1,4 +1,3 @@
-// The entries of Kron reduction: byte slices read into rooms for the library, the call, and what it leaves written.
-pub mod reading;
+// The entries that make a reducer and remove buses: byte slices read into rooms for the library, the call, and what it leaves written.
 pub mod records;
 pub mod removing;

@@ -3,6 +3,7 @@ use entry_slices::bytes::put_word;
 use entry_slices::bytes::read_words;
 use entry_slices::bytes::word_at;
 use entry_slices::bytes::write_words;
+use entry_slices::rooms::MATRIX;
 use entry_slices::slices::load_floats;
 use entry_slices::slices::misfit;
 use entry_slices::slices::told;
@@ -12,7 +13,6 @@ use refusals::number;
 ghost use mathlib.Core.Path.{_≡_};
 ghost use lib.ListN.{length};
 ghost use Rattle.entry_slices.specs.Bytes.{ofWords};
-ghost use Rattle.entry_slices.specs.Rooms.{matrixRoom};
 ghost use Rattle.kron_entries.specs.Records as spec;
 
 // The bytes of a record: the two sizes, and the places of the active buses.
@@ -77,11 +77,11 @@ fn make(n: usize, ys: &[f64], spare: usize, rec: &mut [u8]) -> u32
     refusal
 }
 
-pub fn make_in(n: usize, y: &[u8], rec: &mut [u8], matrix: &mut [f64]) -> u32
-    requires { ⌜ length (now matrix) ≡ matrixRoom ⌝ }
+pub fn make_in(n: usize, y: &[u8], rec: &mut [u8]) -> u32
     ensures { λ r. ⌜ spec.Made n (now (y .entry)) (now (rec .entry)) r (now (rec .exit)) ⌝ }
 {
-    let k = load_floats(y, matrix);
+    let mut matrix = [0.0; MATRIX];
+    let k = load_floats(y, &mut matrix);
     let spare = y.len() % 8 + misfit(rec.len(), RECORD);
     make(n, &matrix[0..k], spare, rec)
 }

@@ -2,6 +2,8 @@
 use crate::records::RECORD;
 use crate::records::record_in;
 use crate::records::store_record;
+use entry_slices::rooms::LIST;
+use entry_slices::rooms::MATRIX;
 use entry_slices::slices::load_floats;
 use entry_slices::slices::load_words;
 use entry_slices::slices::misfit;
@@ -13,9 +15,7 @@ use equivalents::kron::eliminated_bus;
 use equivalents::kron::eliminated_buses;
 use refusals::number;
 ghost use mathlib.Core.Path.{_≡_};
-ghost use lib.ListN.{length};
 ghost use Rattle.kron_core.specs.Reducer.{afterBus, afterBuses};
-ghost use Rattle.entry_slices.specs.Rooms.{listRoom, matrixRoom};
 ghost use Rattle.kron_entries.specs.Removing as spec;
 
 fn remove(
@@ -37,12 +37,12 @@ fn remove(
     refusal
 }
 
-pub fn remove_in(rec: &mut [u8], y: &mut [u8], bus: usize, matrix: &mut [f64]) -> u32
-    requires { ⌜ length (now matrix) ≡ matrixRoom ⌝ }
+pub fn remove_in(rec: &mut [u8], y: &mut [u8], bus: usize) -> u32
     ensures { λ f. ⌜ spec.Removed (now (rec .entry)) (now (y .entry)) bus f (now (rec .exit)) (now (y .exit)) ⌝ }
 {
     let r = record_in(rec);
-    let k = load_floats(y, matrix);
+    let mut matrix = [0.0; MATRIX];
+    let k = load_floats(y, &mut matrix);
     let spare = misfit(rec.len(), RECORD) + y.len() % 8;
     remove(r, &mut matrix[0..k], bus, spare, rec, y)
 }
@@ -92,20 +92,14 @@ fn remove_all(
     refusal
 }
 
-pub fn remove_all_in(
-    rec: &mut [u8],
-    y: &mut [u8],
-    buses: &[u8],
-    removed: &mut [u8],
-    matrix: &mut [f64],
-    places: &mut [usize],
-) -> u32
-    requires { ⌜ (length (now matrix) ≡ matrixRoom) × (length (now places) ≡ listRoom) ⌝ }
+pub fn remove_all_in(rec: &mut [u8], y: &mut [u8], buses: &[u8], removed: &mut [u8]) -> u32
     ensures { λ f. ⌜ spec.Listed (now (rec .entry)) (now (y .entry)) (now (buses .entry)) (now (removed .entry)) f (now (rec .exit)) (now (y .exit)) (now (removed .exit)) ⌝ }
 {
     let r = record_in(rec);
-    let k = load_floats(y, matrix);
-    let m = load_words(buses, places);
+    let mut matrix = [0.0; MATRIX];
+    let mut places = [0usize; LIST];
+    let k = load_floats(y, &mut matrix);
+    let m = load_words(buses, &mut places);
     let spare = misfit(rec.len(), RECORD)
         + y.len() % 8
         + buses.len() % 8

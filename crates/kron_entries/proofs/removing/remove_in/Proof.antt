@@ -1,11 +1,11 @@
 -- `kron_entries::removing::remove_in` meets its contract.
 -- Assumes nothing.
-use mathlib.Core.Path.{ap, _∙_}
-use Prim.Native.Nat.{ℕ}
+use mathlib.Core.Path.{_≡_}
 use native.Mathlib.Nat.{sub-zero}
 use native.Mathlib.Omega.{arith}
-use lib.ListN.{length}
 use denote.Ref.{now}
+use lib.ListN.{length, take}
+use Rattle.entry_slices.specs.Rooms.{matrixRoom}
 use Rattle.entry_slices.specs.Slices.{floatsIn}
 use Rattle.entry_slices.proofs.SlicesLaws.{misfit-one}
 use borrow.Author.Needs.{needs}
@@ -15,6 +15,9 @@ use Rattle.kron_entries.proofs.removing.remove_in.Tie as tie
 record-in-requires : tie.Need-record-in-requires
 record-in-requires c κs = search needs
 
+slice-aggregate-load-floats : tie.Need-slice-aggregate-load-floats
+slice-aggregate-load-floats c = search needs
+
 load-floats-requires : tie.Need-load-floats-requires
 load-floats-requires c κs = search needs
 
@@ -22,16 +25,16 @@ misfit-requires : tie.Need-misfit-requires
 misfit-requires c κs = search needs
 
 add-spare : tie.Need-add-spare
-add-spare c = omega (arith, c .misfit .ensures, misfit-one (length (now (c .before .before .before .before .before .before .before .before .before .before .before .args .rec))) 528)
+add-spare c = omega (arith, c .misfit .ensures, misfit-one (length (now (c .before .before .before .before .before .before .before .before .before .args .rec))) 528)
 
 sub-remove : tie.Need-sub-remove
 sub-remove c = search needs
 
-part-remove-start : tie.Need-part-remove-start
-part-remove-start c = search needs
+part-matrix-start : tie.Need-part-matrix-start
+part-matrix-start c = search needs
 
-part-remove-end : tie.Need-part-remove-end
-part-remove-end c = search needs
+part-matrix-end : tie.Need-part-matrix-end
+part-matrix-end c = search needs
 
 remove-requires : tie.Need-remove-requires
 remove-requires c κs = search needs
@@ -42,31 +45,26 @@ same-length c = search needs
 same-length-2 : tie.Need-same-length-2
 same-length-2 c = search needs
 
-same-length-3 : tie.Need-same-length-3
-same-length-3 c = search needs
-
 returns : tie.Need-returns
 returns c =
-    let start = c .before .before .before .before .before .before .before .before .before .before .before .before .before .before .before .before .before .before .before .before .before in
-    let e = c .before .before .before .before .before .before .remove .ensures in
-    let r = c .before .before .before .before .before .before .before .before .before .before .before .before .before .before .before .before .record-in .ensures in
-    let m = c .before .before .before .before .before .before .before .before .before .before .misfit .ensures in
-    let h = c .before .before .before .before .before .before .before .before .before .before .before .before .before .load-floats .ensures .1 ∙ ap (λ (l : ℕ). floatsIn l (now (start .args .y))) (start .pre) in
-    rw (← r, ← m, ← h) (simp sub-zero at e)
+    let a = c .before .before .before .before .before .before .before .before .before .before .before .before .before .before .before .before .before .before .args in
+    let x = c .before .before .before .before .before .before .before .before .before .before .before .load-floats in
+    let i : take (x .result) (x .last .1 .0) ≡ floatsIn matrixRoom (now (a .y)) = x .ensures .1 in
+    rw (← c .before .before .before .before .before .before .before .before .before .before .before .before .before .before .record-in .ensures, ← c .before .before .before .before .before .before .before .before .before .misfit .ensures, ← i) (simp sub-zero at (c .before .before .before .before .before .remove .ensures))
 
 pub remove-in-spec : {M : Type 1} → statement M
 remove-in-spec =
     tie.close
     (tie.spec
     record-in-requires
+    slice-aggregate-load-floats
     load-floats-requires
     misfit-requires
     add-spare
     sub-remove
-    part-remove-start
-    part-remove-end
+    part-matrix-start
+    part-matrix-end
     remove-requires
     same-length
     same-length-2
-    same-length-3
     returns)

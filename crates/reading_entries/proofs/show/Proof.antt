@@ -1,8 +1,8 @@
--- `kron_entries::reading::show` meets its contract.
+-- `reading_entries::show` meets its contract.
 -- Assumes nothing.
 use borrow.Author.Needs.{needs}
-use Rattle.kron_entries.proofs.reading.show.Statement.{statement}
-use Rattle.kron_entries.proofs.reading.show.Tie as tie
+use Rattle.reading_entries.proofs.show.Statement.{statement}
+use Rattle.reading_entries.proofs.show.Tie as tie
 
 reduced-matrix-requires : tie.Need-reduced-matrix-requires
 reduced-matrix-requires c κs = search needs

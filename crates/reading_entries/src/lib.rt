@@ -1,7 +1,8 @@
-// The entries that read a reduced matrix: its present rows, and the impedance between two buses.
-use crate::records::RECORD;
-use crate::records::record_in;
+// The entries that read a reduced matrix: its present rows, and the impedance between two buses. Byte slices are read into rooms for
+// the library; then the call, and what it leaves written.
 use complex::Complex;
+use entry_slices::rooms::MATRIX;
+use entry_slices::rooms::PAIR;
 use entry_slices::slices::clear_work;
 use entry_slices::slices::load_floats;
 use entry_slices::slices::misfit;
@@ -12,13 +13,13 @@ use equivalents::kron::KronReducer;
 use equivalents::kron::number_of;
 use equivalents::kron::reduced_matrix;
 use equivalents::kron::thevenin_impedance;
+use kron_entries::records::RECORD;
+use kron_entries::records::record_in;
 use refusals::number;
 ghost use mathlib.Core.Path.{_≡_};
 ghost use mathlib.Core.List.{[], _∷_};
-ghost use lib.ListN.{length};
 ghost use Rattle.kron_core.specs.Reading.{afterMatrix, afterImpedance};
-ghost use Rattle.entry_slices.specs.Rooms.{matrixRoom, pairRoom};
-ghost use Rattle.kron_entries.specs.Reading as spec;
+ghost use Rattle.reading_entries.specs.Reading as spec;
 
 fn show(r: KronReducer, ys: &[f64], rows: &mut [f64], spare: usize, out: &mut [u8]) -> u32
     ensures { λ f. ⌜ spec.ShownBy (afterMatrix r (now (ys .entry)) (now (rows .entry))) spare (now (out .entry)) f (now (out .exit)) ⌝ }
@@ -28,13 +29,14 @@ fn show(r: KronReducer, ys: &[f64], rows: &mut [f64], spare: usize, out: &mut [u
     refusal
 }
 
-pub fn show_in(rec: &[u8], y: &[u8], out: &mut [u8], matrix: &mut [f64], rows: &mut [f64]) -> u32
-    requires { ⌜ (length (now matrix) ≡ matrixRoom) × (length (now rows) ≡ matrixRoom) ⌝ }
+pub fn show_in(rec: &[u8], y: &[u8], out: &mut [u8]) -> u32
     ensures { λ f. ⌜ spec.Shown (now (rec .entry)) (now (y .entry)) (now (out .entry)) f (now (out .exit)) ⌝ }
 {
     let r = record_in(rec);
-    let k = load_floats(y, matrix);
-    let m = load_floats(out, rows);
+    let mut matrix = [0.0; MATRIX];
+    let mut rows = [0.0; MATRIX];
+    let k = load_floats(y, &mut matrix);
+    let m = load_floats(out, &mut rows);
     let spare = misfit(rec.len(), RECORD) + y.len() % 8 + out.len() % 8;
     show(r, &matrix[0..k], &mut rows[0..m], spare, out)
 }
@@ -76,15 +78,14 @@ pub fn see_in(
     bus_j: usize,
     work: &mut [u8],
     z: &mut [u8],
-    matrix: &mut [f64],
-    rows: &mut [f64],
 ) -> u32
-    requires { ⌜ (length (now matrix) ≡ matrixRoom) × (length (now rows) ≡ pairRoom) ⌝ }
     ensures { λ f. ⌜ spec.Seen (now (rec .entry)) (now (y .entry)) «bus_i» «bus_j» (now (work .entry)) (now (z .entry)) f (now (work .exit)) (now (z .exit)) ⌝ }
 {
     let r = record_in(rec);
-    let k = load_floats(y, matrix);
-    let m = load_floats(work, rows);
+    let mut matrix = [0.0; MATRIX];
+    let mut rows = [0.0; PAIR];
+    let k = load_floats(y, &mut matrix);
+    let m = load_floats(work, &mut rows);
     let spare = misfit(rec.len(), RECORD) + y.len() % 8 + work.len() % 8 + misfit(z.len(), 16);
     see(
         r,

@@ -1,11 +1,11 @@
--- `kron_entries::reading::value_of` meets its contract.
+-- `reading_entries::value_of` meets its contract.
 -- Assumes nothing.
 use lib.Ieee as Ieee
 use Rattle.complex.specs.Constants.{plus0}
-use Rattle.kron_entries.specs.Reading.{partsOf}
+use Rattle.reading_entries.specs.Reading.{partsOf}
 use borrow.Author.Needs.{needs}
-use Rattle.kron_entries.proofs.reading.value_of.Statement.{statement}
-use Rattle.kron_entries.proofs.reading.value_of.Tie as tie
+use Rattle.reading_entries.proofs.value_of.Statement.{statement}
+use Rattle.reading_entries.proofs.value_of.Tie as tie
 
 enum-known-answer : tie.Need-enum-known-answer
 enum-known-answer c = search needs

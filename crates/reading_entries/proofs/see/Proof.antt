@@ -1,8 +1,8 @@
--- `kron_entries::reading::see` meets its contract.
+-- `reading_entries::see` meets its contract.
 -- Assumes nothing.
 use borrow.Author.Needs.{needs}
-use Rattle.kron_entries.proofs.reading.see.Statement.{statement}
-use Rattle.kron_entries.proofs.reading.see.Tie as tie
+use Rattle.reading_entries.proofs.see.Statement.{statement}
+use Rattle.reading_entries.proofs.see.Tie as tie
 
 thevenin-impedance-requires : tie.Need-thevenin-impedance-requires
 thevenin-impedance-requires c κs = search needs
