@@ -1,13 +1,15 @@
 -- What the entry of the extended Ward study answers and leaves beside Ward's own, by the library's own definitions.
 use Prim.Native.Nat.{ℕ, _+_}
 use mathlib.Core.Path.{_≡_}
+use mathlib.Core.Bool.{cond}
 use mathlib.Core.List.{List, map}
+use lib.Dec.{eqb}
 use lib.Ieee.{Float}
 use Rattle.ward_studies.specs.WardExtended.{Extended, ExtendedRoom, voltageCorrection, qCompensation, refusalX}
 use Rattle.ward_studies.specs.WardCalls.{studyOf, extendedOf, extendedRoomOf}
 use Rattle.entry_slices.specs.Rooms.{listRoom, matrixRoom}
 use Rattle.entry_slices.specs.Slices.{floatsIn, wordsIn, spare, told, storedFloats}
-use Rattle.ward_entries.specs.WardEntry.{Outputs, Left, roomsOf, spareOf}
+use Rattle.ward_slices.specs.Outputs.{Outputs, Left, roomsOf, spareOf}
 
 -- The study that the library is handed, r the rooms for its outputs, over spare bytes beside: Ward's slices o, the correction's cs and the
 -- compensation's ks at entry, f is returned, and o′, cs′ and ks′ at the end.
@@ -17,19 +19,21 @@ pub record CorrectedBy (S : Extended) (r : ExtendedRoom) (over : ℕ) (o : Outpu
   pub correction : cs′ ≡ storedFloats f (map (voltageCorrection S) (S .study .boundary)) cs
   pub compensation : ks′ ≡ storedFloats f (map (qCompensation S) (S .study .boundary)) ks
 
+-- The same, where the correction vs and the compensation qs are still numbers: the library's where it has no refusal.
+pub record ComputedBy (S : Extended) (r : ExtendedRoom) (over : ℕ) (o : Outputs) (f : ℕ) (o′ : Outputs) (vs qs : List Float) : Type 0 where
+  pub number : f ≡ told over (refusalX S r)
+  pub left : Left (S .study) f o o′
+  pub correction : vs ≡ cond (eqb (refusalX S r) 0) (map (voltageCorrection S) (S .study .boundary)) (r .correction)
+  pub compensation : qs ≡ cond (eqb (refusalX S r) 0) (map (qCompensation S) (S .study .boundary)) (r .compensation)
+
 -- The study, over spare bytes of what was read, and the slices that are written: at entry, f is returned, and at the end.
 abbrev pub ReadyBy : Extended → ℕ → Outputs → List ℕ → List ℕ → ℕ → Outputs → List ℕ → List ℕ → Type 0
 ReadyBy S over o cs ks =
     CorrectedBy S (extendedRoomOf (roomsOf o) (floatsIn listRoom cs) (floatsIn listRoom ks)) (over + (spareOf o + spare cs + spare ks)) o cs ks
 
--- The same, where the matrix, the injections and the voltages stand in byte slices.
-abbrev pub ListedBy : ℕ → List ℕ → List ℕ → List ℕ → Float → ℕ → List ℕ → List ℕ → List ℕ → List ℕ → Outputs → List ℕ → List ℕ → ℕ → Outputs → List ℕ → List ℕ → Type 0
-ListedBy n is es bs base over y p q v =
-    ReadyBy
-    (extendedOf (studyOf n (floatsIn matrixRoom y) is es bs base (floatsIn listRoom p) (floatsIn listRoom q)) (floatsIn listRoom v))
-    (over + spare y + spare p + spare q + spare v)
-
 -- The byte slices read, and those written: at entry, f is returned, and at the end.
 abbrev pub Corrected : ℕ → List ℕ → List ℕ → List ℕ → List ℕ → Float → List ℕ → List ℕ → List ℕ → Outputs → List ℕ → List ℕ → ℕ → Outputs → List ℕ → List ℕ → Type 0
 Corrected n y i e b base p q v =
-    ListedBy n (wordsIn listRoom i) (wordsIn listRoom e) (wordsIn listRoom b) base (spare i + spare e + spare b) y p q v
+    ReadyBy
+    (extendedOf (studyOf n (floatsIn matrixRoom y) (wordsIn listRoom i) (wordsIn listRoom e) (wordsIn listRoom b) base (floatsIn listRoom p) (floatsIn listRoom q)) (floatsIn listRoom v))
+    (spare i + spare e + spare b + spare y + spare p + spare q + spare v)

@@ -1,0 +1,3 @@
+pub mod OutputsLaws
+pub mod Parts
+pub mod ReadingLaws
