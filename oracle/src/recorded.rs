@@ -8,29 +8,33 @@ use crate::words::{bytes_of, word, words_of};
 const FILL: u8 = 0xa5;
 
 // the slices that an entry may write
-fn writable(function: Function) -> std::ops::RangeInclusive<usize> {
+fn written(function: Function) -> &'static [usize] {
     use Function::*;
     match function {
-        SolveLinear | ReducedMatrix | TheveninImpedance => 2..=3,
-        ComplexMatrixInverse | RetainedBuses => 1..=2,
-        KronNew => 1..=1,
-        EliminateBus => 0..=1,
-        EliminateBuses => 0..=3,
-        WardCompute => 6..=10,
-        WardComputeExtended => 7..=13,
-        ReiCompute => 5..=9,
-        BuildBBus | LodfMatrix => 3..=3,
-        _ => 0..=0,
+        SolveLinear | TheveninImpedance => &[2, 3],
+        ComplexMatrixInverse | RetainedBuses => &[1, 2],
+        KronNew => &[1],
+        EliminateBus => &[0, 1],
+        EliminateBuses => &[0, 1, 3],
+        ReducedMatrix => &[2],
+        WardCompute => &[6, 7, 8, 9, 10],
+        WardComputeExtended => &[7, 8, 9, 10, 11, 12, 13],
+        ReiCompute => &[5, 6, 7, 8, 9],
+        BuildBBus | LodfMatrix => &[3],
+        _ => &[0],
     }
 }
 
-// its length, and what follows: bytes (0), or so many of one byte (that and 1)
-fn part(bytes: &[u8]) -> Vec<u8> {
-    let one = bytes.first().filter(|&b| bytes.iter().all(|c| c == b));
-    let head = bytes_of(&[bytes.len() as u64, one.map_or(0, |&b| b as u64 + 1)]);
-    match one {
-        Some(_) => head,
-        None => [&head, bytes].concat(),
+// a slice whole: its length, 0, its bytes
+fn whole(bytes: &[u8]) -> Vec<u8> {
+    [bytes_of(&[bytes.len() as u64, 0]), bytes.to_vec()].concat()
+}
+
+// a slice of one byte alone: its length, and that byte and 1; any other whole
+fn short(bytes: &[u8]) -> Vec<u8> {
+    match bytes.first().filter(|&b| bytes.iter().all(|c| c == b)) {
+        Some(&b) => bytes_of(&[bytes.len() as u64, b as u64 + 1]),
+        None => whole(bytes),
     }
 }
 
@@ -66,10 +70,18 @@ pub fn case(call: &Call, e: &Expected) -> Option<Vec<u8>> {
     let mut head = vec![call.function as u64 + 1, e.number as u64];
     head.extend((0..2).map(|i| call.wholes.get(i).copied().unwrap_or(0)));
     head.extend((0..4).map(|i| call.reals.get(i).map_or(0, |&x| word(x))));
-    let before = call.slices.iter().flat_map(|s| part(s));
-    let left = writable(call.function)
-        .filter_map(|i| Some(part(&after(call.slices.get(i)?, &e.after[i]))))
-        .flatten();
-    let body: Vec<u8> = bytes_of(&head).into_iter().chain(before).chain(left).collect();
+    let written = written(call.function);
+    let lent = written.iter().flat_map(|&i| short(&call.slices[i]));
+    let read = (0..call.slices.len()).filter(|i| !written.contains(i));
+    let read = read.flat_map(|i| whole(&call.slices[i]));
+    let left = written
+        .iter()
+        .flat_map(|&i| short(&after(&call.slices[i], &e.after[i])));
+    let body: Vec<u8> = bytes_of(&head)
+        .into_iter()
+        .chain(lent)
+        .chain(read)
+        .chain(left)
+        .collect();
     Some([bytes_of(&[body.len() as u64]), body].concat())
 }

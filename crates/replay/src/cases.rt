@@ -1,12 +1,12 @@
 // The cases of a file, one after the other. Functions are numbered as the header declares them, from 1; those of Ward and REI (17 to 19)
 // are not replayed.
 use crate::grids;
-use crate::head::Head;
-use crate::head::head_of;
 use crate::linear;
 use crate::reducers;
 use crate::scalars;
 use entry_slices::bytes::word_at;
+use recorded::head::Head;
+use recorded::head::head_of;
 
 // How many cases the file says it has, and how many were read and agree.
 pub struct Replayed {

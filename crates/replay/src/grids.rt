@@ -1,19 +1,18 @@
 // The DC parts.
-use crate::head::HEAD;
-use crate::head::Head;
-use crate::parts::agree;
-use crate::parts::load;
-use crate::parts::verdict;
 use entries::dc::jeturipe_build_b_bus;
 use entries::dc::jeturipe_lodf_matrix;
 use entries::dc::jeturipe_retained_buses;
-
-// Bytes of the largest matrix and list, and of a count.
-const MATRIX: usize = 65_544;
-
-const LIST: usize = 1_032;
-
-const COUNT: usize = 24;
+use recorded::head::HEAD;
+use recorded::head::Head;
+use recorded::parts::Bounds;
+use recorded::parts::Loaded;
+use recorded::parts::agree;
+use recorded::parts::load;
+use recorded::parts::span;
+use recorded::parts::verdict;
+use recorded::rooms::LIST;
+use recorded::rooms::MATRIX;
+use recorded::rooms::ONE;
 
 fn retained_case(
     s: &[u8],
@@ -30,22 +29,18 @@ fn retained_case(
 }
 
 pub fn retained_agrees(s: &[u8], h: Head) -> bool {
-    let mut interior_room = [0u8; LIST];
-    let mut retained_room = [0u8; LIST];
-    let mut count_room = [0u8; COUNT];
-    let interior = load(s, HEAD, &mut interior_room);
-    let retained = load(s, interior.next, &mut retained_room);
-    let count = load(s, retained.next, &mut count_room);
-    let interior_len = interior.len;
-    let retained_len = retained.len;
-    let count_len = count.len;
+    let mut retained = [0u8; LIST];
+    let mut count = [0u8; ONE];
+    let Loaded { len: r, next } = load(s, HEAD, &mut retained);
+    let Loaded { len: m, next } = load(s, next, &mut count);
+    let Bounds { start, end } = span(s, next);
     retained_case(
         s,
-        count.next,
+        end,
         h,
-        &interior_room[0..interior_len],
-        &mut retained_room[0..retained_len],
-        &mut count_room[0..count_len],
+        &s[start..end],
+        &mut retained[0..r],
+        &mut count[0..m],
     )
 }
 
@@ -64,26 +59,25 @@ fn susceptances_case(
 }
 
 pub fn susceptances_agree(s: &[u8], h: Head) -> bool {
-    let mut from_room = [0u8; LIST];
-    let mut to_room = [0u8; LIST];
-    let mut x_room = [0u8; LIST];
-    let mut b_room = [0u8; MATRIX];
-    let from = load(s, HEAD, &mut from_room);
-    let to = load(s, from.next, &mut to_room);
-    let x = load(s, to.next, &mut x_room);
-    let b = load(s, x.next, &mut b_room);
-    let from_len = from.len;
-    let to_len = to.len;
-    let x_len = x.len;
-    let b_len = b.len;
+    let mut b = [0u8; MATRIX];
+    let Loaded { len, next } = load(s, HEAD, &mut b);
+    let Bounds {
+        start: from,
+        end: from_end,
+    } = span(s, next);
+    let Bounds {
+        start: to,
+        end: to_end,
+    } = span(s, from_end);
+    let Bounds { start: x, end } = span(s, to_end);
     susceptances_case(
         s,
-        b.next,
+        end,
         h,
-        &from_room[0..from_len],
-        &to_room[0..to_len],
-        &x_room[0..x_len],
-        &mut b_room[0..b_len],
+        &s[from..from_end],
+        &s[to..to_end],
+        &s[x..end],
+        &mut b[0..len],
     )
 }
 
@@ -102,25 +96,24 @@ fn outages_case(
 }
 
 pub fn outages_agree(s: &[u8], h: Head) -> bool {
-    let mut ptdf_room = [0u8; MATRIX];
-    let mut from_room = [0u8; LIST];
-    let mut to_room = [0u8; LIST];
-    let mut lodf_room = [0u8; MATRIX];
-    let ptdf = load(s, HEAD, &mut ptdf_room);
-    let from = load(s, ptdf.next, &mut from_room);
-    let to = load(s, from.next, &mut to_room);
-    let lodf = load(s, to.next, &mut lodf_room);
-    let ptdf_len = ptdf.len;
-    let from_len = from.len;
-    let to_len = to.len;
-    let lodf_len = lodf.len;
+    let mut lodf = [0u8; MATRIX];
+    let Loaded { len, next } = load(s, HEAD, &mut lodf);
+    let Bounds {
+        start: ptdf,
+        end: ptdf_end,
+    } = span(s, next);
+    let Bounds {
+        start: from,
+        end: from_end,
+    } = span(s, ptdf_end);
+    let Bounds { start: to, end } = span(s, from_end);
     outages_case(
         s,
-        lodf.next,
+        end,
         h,
-        &ptdf_room[0..ptdf_len],
-        &from_room[0..from_len],
-        &to_room[0..to_len],
-        &mut lodf_room[0..lodf_len],
+        &s[ptdf..ptdf_end],
+        &s[from..from_end],
+        &s[to..end],
+        &mut lodf[0..len],
     )
 }

@@ -1,18 +1,17 @@
-// The linear systems: the slices of a case loaded into rooms, then the call, and what it left compared.
-use crate::head::HEAD;
-use crate::head::Head;
-use crate::parts::agree;
-use crate::parts::load;
-use crate::parts::verdict;
+// The linear systems.
 use entries::linear::jeturipe_complex_matrix_inverse;
 use entries::linear::jeturipe_solve_linear;
-
-// Bytes of the largest matrix, list of complex numbers, and work slice.
-const MATRIX: usize = 65_544;
-
-const VECTOR: usize = 2_056;
-
-const WORK: usize = 131_080;
+use recorded::head::HEAD;
+use recorded::head::Head;
+use recorded::parts::Bounds;
+use recorded::parts::Loaded;
+use recorded::parts::agree;
+use recorded::parts::load;
+use recorded::parts::span;
+use recorded::parts::verdict;
+use recorded::rooms::MATRIX;
+use recorded::rooms::VECTOR;
+use recorded::rooms::WORK;
 
 fn solve_case(
     s: &[u8],
@@ -30,26 +29,23 @@ fn solve_case(
 }
 
 pub fn solve_agrees(s: &[u8], h: Head) -> bool {
-    let mut a_room = [0u8; MATRIX];
-    let mut b_room = [0u8; VECTOR];
-    let mut x_room = [0u8; VECTOR];
-    let mut work_room = [0u8; WORK];
-    let a = load(s, HEAD, &mut a_room);
-    let b = load(s, a.next, &mut b_room);
-    let x = load(s, b.next, &mut x_room);
-    let work = load(s, x.next, &mut work_room);
-    let a_len = a.len;
-    let b_len = b.len;
-    let x_len = x.len;
-    let work_len = work.len;
+    let mut x = [0u8; VECTOR];
+    let mut work = [0u8; WORK];
+    let Loaded { len: m, next } = load(s, HEAD, &mut x);
+    let Loaded { len: w, next } = load(s, next, &mut work);
+    let Bounds {
+        start: a,
+        end: a_end,
+    } = span(s, next);
+    let Bounds { start: b, end } = span(s, a_end);
     solve_case(
         s,
-        work.next,
+        end,
         h,
-        &a_room[0..a_len],
-        &b_room[0..b_len],
-        &mut x_room[0..x_len],
-        &mut work_room[0..work_len],
+        &s[a..a_end],
+        &s[b..end],
+        &mut x[0..m],
+        &mut work[0..w],
     )
 }
 
@@ -68,21 +64,17 @@ fn inverse_case(
 }
 
 pub fn inverse_agrees(s: &[u8], h: Head) -> bool {
-    let mut mat_room = [0u8; MATRIX];
-    let mut inverse_room = [0u8; MATRIX];
-    let mut work_room = [0u8; WORK];
-    let mat = load(s, HEAD, &mut mat_room);
-    let inverse = load(s, mat.next, &mut inverse_room);
-    let work = load(s, inverse.next, &mut work_room);
-    let mat_len = mat.len;
-    let inverse_len = inverse.len;
-    let work_len = work.len;
+    let mut inverse = [0u8; MATRIX];
+    let mut work = [0u8; WORK];
+    let Loaded { len: m, next } = load(s, HEAD, &mut inverse);
+    let Loaded { len: w, next } = load(s, next, &mut work);
+    let Bounds { start, end } = span(s, next);
     inverse_case(
         s,
-        work.next,
+        end,
         h,
-        &mat_room[0..mat_len],
-        &mut inverse_room[0..inverse_len],
-        &mut work_room[0..work_len],
+        &s[start..end],
+        &mut inverse[0..m],
+        &mut work[0..w],
     )
 }

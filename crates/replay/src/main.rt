@@ -4,9 +4,7 @@ use libc::STDOUT_FILENO;
 
 mod cases;
 mod grids;
-mod head;
 mod linear;
-mod parts;
 mod reducers;
 mod scalars;
 

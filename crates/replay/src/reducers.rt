@@ -1,25 +1,21 @@
 // Kron reduction.
-use crate::head::HEAD;
-use crate::head::Head;
-use crate::parts::agree;
-use crate::parts::load;
-use crate::parts::verdict;
 use entries::kron::jeturipe_eliminate_bus;
 use entries::kron::jeturipe_eliminate_buses;
 use entries::kron::jeturipe_kron_new;
 use entries::kron::jeturipe_reduced_matrix;
 use entries::kron::jeturipe_thevenin_impedance;
-
-// Bytes of the largest matrix, list, record, work slice and single number.
-const MATRIX: usize = 65_544;
-
-const LIST: usize = 1_032;
-
-const RECORD: usize = 536;
-
-const WORK: usize = 131_080;
-
-const ONE: usize = 24;
+use recorded::head::HEAD;
+use recorded::head::Head;
+use recorded::parts::Bounds;
+use recorded::parts::Loaded;
+use recorded::parts::agree;
+use recorded::parts::load;
+use recorded::parts::span;
+use recorded::parts::verdict;
+use recorded::rooms::MATRIX;
+use recorded::rooms::ONE;
+use recorded::rooms::RECORD;
+use recorded::rooms::WORK;
 
 fn new_case(s: &[u8], at: usize, h: Head, y: &[u8], rec: &mut [u8]) -> bool {
     let refusal = jeturipe_kron_new(h.first, y, rec);
@@ -28,13 +24,10 @@ fn new_case(s: &[u8], at: usize, h: Head, y: &[u8], rec: &mut [u8]) -> bool {
 }
 
 pub fn new_agrees(s: &[u8], h: Head) -> bool {
-    let mut y_room = [0u8; MATRIX];
-    let mut rec_room = [0u8; RECORD];
-    let y = load(s, HEAD, &mut y_room);
-    let rec = load(s, y.next, &mut rec_room);
-    let y_len = y.len;
-    let rec_len = rec.len;
-    new_case(s, rec.next, h, &y_room[0..y_len], &mut rec_room[0..rec_len])
+    let mut rec = [0u8; RECORD];
+    let Loaded { len, next } = load(s, HEAD, &mut rec);
+    let Bounds { start, end } = span(s, next);
+    new_case(s, end, h, &s[start..end], &mut rec[0..len])
 }
 
 fn bus_case(s: &[u8], at: usize, h: Head, rec: &mut [u8], y: &mut [u8]) -> bool {
@@ -45,19 +38,11 @@ fn bus_case(s: &[u8], at: usize, h: Head, rec: &mut [u8], y: &mut [u8]) -> bool 
 }
 
 pub fn bus_agrees(s: &[u8], h: Head) -> bool {
-    let mut rec_room = [0u8; RECORD];
-    let mut y_room = [0u8; MATRIX];
-    let rec = load(s, HEAD, &mut rec_room);
-    let y = load(s, rec.next, &mut y_room);
-    let rec_len = rec.len;
-    let y_len = y.len;
-    bus_case(
-        s,
-        y.next,
-        h,
-        &mut rec_room[0..rec_len],
-        &mut y_room[0..y_len],
-    )
+    let mut rec = [0u8; RECORD];
+    let mut y = [0u8; MATRIX];
+    let Loaded { len: r, next } = load(s, HEAD, &mut rec);
+    let Loaded { len: m, next } = load(s, next, &mut y);
+    bus_case(s, next, h, &mut rec[0..r], &mut y[0..m])
 }
 
 fn buses_case(
@@ -72,32 +57,26 @@ fn buses_case(
     let refusal = jeturipe_eliminate_buses(rec, y, buses, removed);
     let end = agree(s, at, rec);
     let end = agree(s, end, y);
-    let end = agree(s, end, buses);
     let end = agree(s, end, removed);
     verdict(s, h.outcome, refusal, end)
 }
 
 pub fn buses_agree(s: &[u8], h: Head) -> bool {
-    let mut rec_room = [0u8; RECORD];
-    let mut y_room = [0u8; MATRIX];
-    let mut buses_room = [0u8; LIST];
-    let mut removed_room = [0u8; ONE];
-    let rec = load(s, HEAD, &mut rec_room);
-    let y = load(s, rec.next, &mut y_room);
-    let buses = load(s, y.next, &mut buses_room);
-    let removed = load(s, buses.next, &mut removed_room);
-    let rec_len = rec.len;
-    let y_len = y.len;
-    let buses_len = buses.len;
-    let removed_len = removed.len;
+    let mut rec = [0u8; RECORD];
+    let mut y = [0u8; MATRIX];
+    let mut removed = [0u8; ONE];
+    let Loaded { len: r, next } = load(s, HEAD, &mut rec);
+    let Loaded { len: m, next } = load(s, next, &mut y);
+    let Loaded { len: n, next } = load(s, next, &mut removed);
+    let Bounds { start, end } = span(s, next);
     buses_case(
         s,
-        removed.next,
+        end,
         h,
-        &mut rec_room[0..rec_len],
-        &mut y_room[0..y_len],
-        &buses_room[0..buses_len],
-        &mut removed_room[0..removed_len],
+        &mut rec[0..r],
+        &mut y[0..m],
+        &s[start..end],
+        &mut removed[0..n],
     )
 }
 
@@ -108,23 +87,14 @@ fn matrix_case(s: &[u8], at: usize, h: Head, rec: &[u8], y: &[u8], out: &mut [u8
 }
 
 pub fn matrix_agrees(s: &[u8], h: Head) -> bool {
-    let mut rec_room = [0u8; RECORD];
-    let mut y_room = [0u8; MATRIX];
-    let mut out_room = [0u8; MATRIX];
-    let rec = load(s, HEAD, &mut rec_room);
-    let y = load(s, rec.next, &mut y_room);
-    let out = load(s, y.next, &mut out_room);
-    let rec_len = rec.len;
-    let y_len = y.len;
-    let out_len = out.len;
-    matrix_case(
-        s,
-        out.next,
-        h,
-        &rec_room[0..rec_len],
-        &y_room[0..y_len],
-        &mut out_room[0..out_len],
-    )
+    let mut out = [0u8; MATRIX];
+    let Loaded { len, next } = load(s, HEAD, &mut out);
+    let Bounds {
+        start: rec,
+        end: rec_end,
+    } = span(s, next);
+    let Bounds { start: y, end } = span(s, rec_end);
+    matrix_case(s, end, h, &s[rec..rec_end], &s[y..end], &mut out[0..len])
 }
 
 fn thevenin_case(
@@ -143,25 +113,22 @@ fn thevenin_case(
 }
 
 pub fn thevenin_agrees(s: &[u8], h: Head) -> bool {
-    let mut rec_room = [0u8; RECORD];
-    let mut y_room = [0u8; MATRIX];
-    let mut work_room = [0u8; WORK];
-    let mut z_room = [0u8; ONE];
-    let rec = load(s, HEAD, &mut rec_room);
-    let y = load(s, rec.next, &mut y_room);
-    let work = load(s, y.next, &mut work_room);
-    let z = load(s, work.next, &mut z_room);
-    let rec_len = rec.len;
-    let y_len = y.len;
-    let work_len = work.len;
-    let z_len = z.len;
+    let mut work = [0u8; WORK];
+    let mut z = [0u8; ONE];
+    let Loaded { len: w, next } = load(s, HEAD, &mut work);
+    let Loaded { len: m, next } = load(s, next, &mut z);
+    let Bounds {
+        start: rec,
+        end: rec_end,
+    } = span(s, next);
+    let Bounds { start: y, end } = span(s, rec_end);
     thevenin_case(
         s,
-        z.next,
+        end,
         h,
-        &rec_room[0..rec_len],
-        &y_room[0..y_len],
-        &mut work_room[0..work_len],
-        &mut z_room[0..z_len],
+        &s[rec..rec_end],
+        &s[y..end],
+        &mut work[0..w],
+        &mut z[0..m],
     )
 }

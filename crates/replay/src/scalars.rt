@@ -1,9 +1,4 @@
 // The functions on single numbers, whose one slice is the answer.
-use crate::head::HEAD;
-use crate::head::Head;
-use crate::parts::agree;
-use crate::parts::load;
-use crate::parts::verdict;
 use entries::scalars::jeturipe_abs;
 use entries::scalars::jeturipe_cadd;
 use entries::scalars::jeturipe_cdiv;
@@ -13,6 +8,13 @@ use entries::scalars::jeturipe_complex_inv;
 use entries::scalars::jeturipe_csub;
 use entries::scalars::jeturipe_magnitude;
 use entries::scalars::jeturipe_sqrt;
+use recorded::head::HEAD;
+use recorded::head::Head;
+use recorded::parts::Loaded;
+use recorded::parts::agree;
+use recorded::parts::load;
+use recorded::parts::verdict;
+use recorded::rooms::ONE;
 
 fn answer(h: Head, out: &mut [u8]) -> u32 {
     let function = h.function;
@@ -35,8 +37,7 @@ fn case(s: &[u8], at: usize, h: Head, out: &mut [u8]) -> bool {
 }
 
 pub fn agrees(s: &[u8], h: Head) -> bool {
-    let mut room = [0u8; 24];
-    let out = load(s, HEAD, &mut room);
-    let len = out.len;
-    case(s, out.next, h, &mut room[0..len])
+    let mut out = [0u8; ONE];
+    let Loaded { len, next } = load(s, HEAD, &mut out);
+    case(s, next, h, &mut out[0..len])
 }

@@ -1,6 +1,8 @@
 // What stands before the slices of a case: which function, what it must answer, and the numbers that it is given.
 use complex::words::of_word;
 use entry_slices::bytes::word_at;
+ghost use mathlib.Core.Path.{_≡_};
+ghost use Rattle.recorded.specs.Heads as spec;
 
 pub struct Head {
     pub function: u64,
@@ -16,7 +18,9 @@ pub struct Head {
 // The bytes of a head.
 pub const HEAD: usize = 64;
 
-fn none() -> Head {
+fn none() -> Head
+    ensures { λ r. ⌜ r ≡ spec.none ⌝ }
+{
     Head {
         function: 0,
         outcome: 0,
@@ -29,7 +33,9 @@ fn none() -> Head {
     }
 }
 
-pub fn head_of(s: &[u8]) -> Head {
+pub fn head_of(s: &[u8]) -> Head
+    ensures { λ r. ⌜ r ≡ spec.headOf (now (s .entry)) ⌝ }
+{
     if s.len() < HEAD {
         return none();
     }
