@@ -1,8 +1,6 @@
-// The cases of a file, one after the other. Functions are numbered as the header declares them, from 1; those of Ward and REI (17 to 19)
-// are not replayed.
+// The cases of a file, one after the other. Functions are numbered as the header declares them, from 1.
 use crate::grids;
 use crate::linear;
-use crate::reducers;
 use crate::scalars;
 use entry_slices::bytes::word_at;
 use recorded::head::Head;
@@ -19,11 +17,14 @@ fn study_agrees(s: &[u8], head: Head) -> bool {
     match function {
         10 => linear::solve_agrees(s, head),
         11 => linear::inverse_agrees(s, head),
-        12 => reducers::new_agrees(s, head),
-        13 => reducers::bus_agrees(s, head),
-        14 => reducers::buses_agree(s, head),
-        15 => reducers::matrix_agrees(s, head),
-        16 => reducers::thevenin_agrees(s, head),
+        12 => replay_reducers::new_agrees(s, head),
+        13 => replay_reducers::bus_agrees(s, head),
+        14 => replay_reducers::buses_agree(s, head),
+        15 => replay_reducers::matrix_agrees(s, head),
+        16 => replay_reducers::thevenin_agrees(s, head),
+        17 => replay_studies::ward::ward_agrees(s, head),
+        18 => replay_extended::extended_agrees(s, head),
+        19 => replay_studies::rei::rei_agrees(s, head),
         20 => grids::retained_agrees(s, head),
         21 => grids::susceptances_agree(s, head),
         22 => grids::outages_agree(s, head),

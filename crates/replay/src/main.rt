@@ -5,7 +5,6 @@ use libc::STDOUT_FILENO;
 mod cases;
 mod grids;
 mod linear;
-mod reducers;
 mod scalars;
 
 // More bytes than the longest file has.
@@ -39,5 +38,7 @@ fn main() {
     replay_file(b"reducers.bin");
     replay_file(b"lists.bin");
     replay_file(b"thevenin.bin");
+    replay_file(b"ward.bin");
+    replay_file(b"rei.bin");
     replay_file(b"dc.bin");
 }

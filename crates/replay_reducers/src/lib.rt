@@ -1,4 +1,4 @@
-// Kron reduction.
+// Recorded calls of Kron reduction, made again and compared.
 use entries::kron::jeturipe_eliminate_bus;
 use entries::kron::jeturipe_eliminate_buses;
 use entries::kron::jeturipe_kron_new;
