@@ -1,4 +1,4 @@
--- `complex::magnitude::sqrt` meets its contract.
+-- `binary64::sqrt` meets its contract.
 -- Assumes nothing.
 use mathlib.Core.Path.{_≡_, _∙_}
 use mathlib.Core.Bool.{true}

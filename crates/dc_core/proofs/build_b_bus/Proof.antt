@@ -1,4 +1,4 @@
--- `equivalents::dc::build_b_bus` meets its contract.
+-- `dc_core::build_b_bus` meets its contract.
 -- Assumes nothing.
 use mathlib.Core.Path.{refl, sym, ap, _∙_}
 use Rattle.dc_core.specs.Dc.{builtOutput}

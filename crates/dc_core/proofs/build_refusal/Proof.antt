@@ -1,4 +1,4 @@
--- `equivalents::dc::build_refusal` meets its contract: each test is the definition's.
+-- `dc_core::build_refusal` meets its contract: each test is the definition's.
 -- Assumes nothing.
 use mathlib.Core.Path.{sym, _∙_}
 use Prim.Native.Nat.{_≤_}

@@ -1,4 +1,4 @@
--- `equivalents::dc::denominators` meets its contract: those of the branches passed stand before what was there.
+-- `dc_core::denominators` meets its contract: those of the branches passed stand before what was there.
 -- Assumes nothing.
 use mathlib.Core.Path.{_≡_, refl, sym, ap, _∙_}
 use mathlib.Core.List.{_++_}

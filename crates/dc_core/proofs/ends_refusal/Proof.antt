@@ -1,4 +1,4 @@
--- `equivalents::dc::ends_refusal` meets its contract: each test is the definition's.
+-- `dc_core::ends_refusal` meets its contract: each test is the definition's.
 -- Assumes nothing.
 use borrow.Author.Needs.{needs}
 use borrow.Author.Tests.{not-true, not-false}

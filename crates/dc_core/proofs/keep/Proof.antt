@@ -1,4 +1,4 @@
--- `equivalents::dc::keep` meets its contract: the kept buses of those passed stand before the zeros.
+-- `dc_core::keep` meets its contract: the kept buses of those passed stand before the zeros.
 -- Assumes nothing.
 use mathlib.Core.Path.{_≡_, refl, sym, ap, _∙_}
 use mathlib.Core.Logic.{⊎-elim}

@@ -1,4 +1,4 @@
--- `equivalents::dc::lodf_matrix` meets its contract.
+-- `dc_core::lodf_matrix` meets its contract.
 -- Assumes nothing.
 use mathlib.Core.Path.{refl, sym, ap, _∙_}
 use lib.ListN.{length}

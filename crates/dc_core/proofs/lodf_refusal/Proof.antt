@@ -1,4 +1,4 @@
--- `equivalents::dc::lodf_refusal` meets its contract: each test is the definition's.
+-- `dc_core::lodf_refusal` meets its contract: each test is the definition's.
 -- Assumes nothing.
 use mathlib.Core.Path.{sym, _∙_}
 use native.Mathlib.Nat.{mul-le-mul}

@@ -1,4 +1,4 @@
--- `equivalents::dc::outage_factor` meets its contract: each test is the definition's.
+-- `dc_core::outage_factor` meets its contract: each test is the definition's.
 -- Assumes nothing.
 use borrow.Author.Tests.{eq-eqb, ne-eqb}
 use Rattle.complex.specs.Constants.{plus0, one, weak}

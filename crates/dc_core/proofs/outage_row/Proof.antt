@@ -1,4 +1,4 @@
--- `equivalents::dc::outage_row` meets its contract: the factors of the branches passed stand before what was there.
+-- `dc_core::outage_row` meets its contract: the factors of the branches passed stand before what was there.
 -- Assumes nothing.
 use mathlib.Core.Path.{_≡_, refl, _∙_}
 use mathlib.Core.List.{_++_}

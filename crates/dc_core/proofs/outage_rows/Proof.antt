@@ -1,4 +1,4 @@
--- `equivalents::dc::outage_rows` meets its contract: the rows of the branches passed stand before what was there.
+-- `dc_core::outage_rows` meets its contract: the rows of the branches passed stand before what was there.
 -- Assumes nothing.
 use mathlib.Core.Path.{_≡_, refl, sym, ap, _∙_}
 use mathlib.Core.List.{List, _++_}

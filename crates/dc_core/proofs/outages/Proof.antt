@@ -1,4 +1,4 @@
--- `equivalents::dc::outages` meets its contract: there is room for as many branches as the limit.
+-- `dc_core::outages` meets its contract: there is room for as many branches as the limit.
 -- Assumes nothing.
 use Rattle.refusals.specs.Refusals.{limit}
 use borrow.Author.Needs.{needs}

@@ -1,4 +1,4 @@
--- `equivalents::dc::retained_buses` meets its contract.
+-- `dc_core::retained_buses` meets its contract.
 -- Assumes nothing.
 use mathlib.Core.Path.{refl, sym, ap, _∙_}
 use lib.ListN.{length, replicate}

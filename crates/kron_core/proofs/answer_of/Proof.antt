@@ -1,4 +1,4 @@
--- `equivalents::kron::answer_of` meets its contract.
+-- `kron_core::answer_of` meets its contract.
 -- Assumes nothing.
 use mathlib.Core.Path.{_≡_, refl, sym, ap}
 use Prim.Native.Nat.{ℕ, zero, suc}

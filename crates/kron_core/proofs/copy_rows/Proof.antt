@@ -1,4 +1,4 @@
--- `equivalents::kron::copy_rows` meets its contract.
+-- `kron_core::copy_rows` meets its contract.
 -- Assumes nothing.
 use Prim.Native.Nat.{_*_, _-_}
 use native.Mathlib.Nat.{sub-zero}

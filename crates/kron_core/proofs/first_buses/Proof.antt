@@ -1,4 +1,4 @@
--- `equivalents::kron::first_buses` meets its contract. The loop's invariant: bus i stands in each place passed, 0 in the others.
+-- `kron_core::first_buses` meets its contract. The loop's invariant: bus i stands in each place passed, 0 in the others.
 -- Assumes nothing.
 use mathlib.Core.Path.{_≡_, refl, sym, _∙_}
 use mathlib.Core.Logic.{⊎-elim}

@@ -1,4 +1,4 @@
--- `equivalents::kron::input_refusal` meets its contract: the tests are the definition's, in its order.
+-- `kron_core::input_refusal` meets its contract: the tests are the definition's, in its order.
 -- Assumes nothing.
 use mathlib.Core.Path.{_≡_, sym, _∙_}
 use mathlib.Core.List.{List}

@@ -1,4 +1,4 @@
--- `equivalents::kron::is_sound` meets its contract: the tests are the definition's, in its order.
+-- `kron_core::is_sound` meets its contract: the tests are the definition's, in its order.
 -- Assumes nothing.
 use mathlib.Core.Path.{_≡_, ap, _∙_}
 use mathlib.Core.Bool.{_&&_}

@@ -1,4 +1,4 @@
--- `equivalents::kron::reading_refusal` meets its contract: the tests are the definition's, in its order.
+-- `kron_core::reading_refusal` meets its contract: the tests are the definition's, in its order.
 -- Assumes nothing.
 use mathlib.Core.Path.{_≡_, _∙_}
 use mathlib.Core.List.{List}

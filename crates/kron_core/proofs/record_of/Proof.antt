@@ -1,4 +1,4 @@
--- `equivalents::kron::record_of` meets its contract.
+-- `kron_core::record_of` meets its contract.
 -- Assumes nothing.
 use mathlib.Core.Path.{sym, ap₂}
 use mathlib.Core.List.{List}

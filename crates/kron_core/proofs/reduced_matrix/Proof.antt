@@ -1,4 +1,4 @@
--- `equivalents::kron::reduced_matrix` meets its contract: the input is refused, or the present rows are copied.
+-- `kron_core::reduced_matrix` meets its contract: the input is refused, or the present rows are copied.
 -- Assumes nothing.
 use mathlib.Core.Path.{_≡_, refl, sym, _∙_}
 use borrow.Author.Needs.{needs}

@@ -1,4 +1,4 @@
--- `equivalents::kron::take_accepted` meets its contract: none is removed and all is as it was, or the rows behind those left are cleared.
+-- `kron_core::take_accepted` meets its contract: none is removed and all is as it was, or the rows behind those left are cleared.
 -- Assumes nothing.
 use mathlib.Core.Path.{_≡_, refl, ap, _∙_}
 use mathlib.Core.List.{List}

@@ -1,4 +1,4 @@
--- `equivalents::kron::take_bus` meets its contract: it is a list of one.
+-- `kron_core::take_bus` meets its contract: it is a list of one.
 -- Assumes nothing.
 use mathlib.Core.Path.{ap}
 use borrow.Author.Needs.{needs}

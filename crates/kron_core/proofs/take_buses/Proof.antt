@@ -1,4 +1,4 @@
--- `equivalents::kron::take_buses` meets its contract: the input is refused, or accepted and the list worked off.
+-- `kron_core::take_buses` meets its contract: the input is refused, or accepted and the list worked off.
 -- Assumes nothing.
 use mathlib.Core.Path.{refl, sym, ap, _∙_}
 use borrow.Author.Needs.{needs}

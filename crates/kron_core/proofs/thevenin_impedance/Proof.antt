@@ -1,4 +1,4 @@
--- `equivalents::kron::thevenin_impedance` meets its contract: the input is refused, a bus is not found, or the matrix is inverted.
+-- `kron_core::thevenin_impedance` meets its contract: the input is refused, a bus is not found, or the matrix is inverted.
 -- Assumes nothing.
 use mathlib.Core.Path.{_≡_, refl, sym, ap, _∙_}
 use Prim.Native.Nat.{ℕ, _-_}

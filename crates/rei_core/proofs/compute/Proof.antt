@@ -1,4 +1,4 @@
--- `equivalents::rei::compute` meets its contract.
+-- `rei_core::compute` meets its contract.
 -- Assumes nothing.
 use mathlib.Core.Path.{_≡_, sym, _∙_}
 use Prim.Native.Nat.{_≤_, _+_, _*_}

@@ -1,4 +1,4 @@
--- `equivalents::rei::copy` meets its contract: the buses passed stand before what was there.
+-- `rei_core::copy` meets its contract: the buses passed stand before what was there.
 -- Assumes nothing.
 use mathlib.Core.Path.{_≡_, refl, sym, ap, _∙_}
 use mathlib.Core.List.{List, _++_}

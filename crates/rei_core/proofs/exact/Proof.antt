@@ -1,4 +1,4 @@
--- `equivalents::rei::exact` meets its contract: each test is the definition's.
+-- `rei_core::exact` meets its contract: each test is the definition's.
 -- Assumes nothing.
 use native.Mathlib.Nat.{mul-le-mul}
 use native.Mathlib.Omega.{arith}

@@ -1,4 +1,4 @@
--- `equivalents::rei::is_tie` meets its contract: each test is the definition's.
+-- `rei_core::is_tie` meets its contract: each test is the definition's.
 -- Assumes nothing.
 use Rattle.complex.specs.Constants.{faint}
 use Rattle.rei_core.specs.Rei.{isTie}

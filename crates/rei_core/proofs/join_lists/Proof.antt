@@ -1,4 +1,4 @@
--- `equivalents::rei::join_lists` meets its contract: the second list is written behind the first.
+-- `rei_core::join_lists` meets its contract: the second list is written behind the first.
 -- Assumes nothing.
 use mathlib.Core.Path.{refl, ap}
 use mathlib.Core.List.{List, _++_}

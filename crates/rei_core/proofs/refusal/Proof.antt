@@ -1,4 +1,4 @@
--- `equivalents::rei::refusal` meets its contract: each test is the definition's.
+-- `rei_core::refusal` meets its contract: each test is the definition's.
 -- Assumes nothing.
 use mathlib.Core.Path.{sym, _∙_}
 use borrow.Author.Tests.{eq-eqb, ne-eqb, not-true, not-false}

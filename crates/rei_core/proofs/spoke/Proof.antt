@@ -1,4 +1,4 @@
--- `equivalents::rei::spoke` meets its contract: the test on the magnitude picks the same case on both sides.
+-- `rei_core::spoke` meets its contract: the test on the magnitude picks the same case on both sides.
 -- Assumes nothing.
 use Rattle.complex.specs.Constants.{weak, plus0}
 use Rattle.rei_core.specs.Rei.{spoke}

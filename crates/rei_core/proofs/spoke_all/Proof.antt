@@ -1,4 +1,4 @@
--- `equivalents::rei::spoke_all` meets its contract: the spokes not yet written, written over what stands, are all of them.
+-- `rei_core::spoke_all` meets its contract: the spokes not yet written, written over what stands, are all of them.
 -- Assumes nothing.
 use mathlib.Core.Path.{_≡_, refl, sym, ap, _∙_}
 use mathlib.Core.List.{List}

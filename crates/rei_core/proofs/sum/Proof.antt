@@ -1,4 +1,4 @@
--- `equivalents::rei::sum` meets its contract: the rest added to the sum so far gives the whole.
+-- `rei_core::sum` meets its contract: the rest added to the sum so far gives the whole.
 -- Assumes nothing.
 use mathlib.Core.Path.{_≡_, refl}
 use mathlib.Core.List.{foldl}

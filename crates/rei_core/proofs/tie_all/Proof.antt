@@ -1,4 +1,4 @@
--- `equivalents::rei::tie_all` meets its contract: cleared slices are of the lengths that were given.
+-- `rei_core::tie_all` meets its contract: cleared slices are of the lengths that were given.
 -- Assumes nothing.
 use mathlib.Core.Path.{_∙_, ap}
 use Prim.Native.Nat.{ℕ}

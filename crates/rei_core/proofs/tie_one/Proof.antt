@@ -1,4 +1,4 @@
--- `equivalents::rei::tie_one` meets its contract.
+-- `rei_core::tie_one` meets its contract.
 -- Assumes nothing.
 use mathlib.Core.Path.{refl, ap, _∙_}
 use borrow.Author.Tests.{not-true, not-false}

@@ -1,4 +1,4 @@
--- `equivalents::rei::tie_row` meets its contract: the ties not yet written, written over what stands, are all of the row.
+-- `rei_core::tie_row` meets its contract: the ties not yet written, written over what stands, are all of the row.
 -- Assumes nothing.
 use mathlib.Core.Path.{_≡_, refl, sym, _∙_}
 use Prim.Native.Nat.{_≤_, _<_, _-_, _+_, _*_}

@@ -1,4 +1,4 @@
--- `equivalents::rei::tie_rows` meets its contract: the ties not yet written, written over what stands, are all of them.
+-- `rei_core::tie_rows` meets its contract: the ties not yet written, written over what stands, are all of them.
 -- Assumes nothing.
 use mathlib.Core.Path.{_≡_, refl, sym, ap, _∙_}
 use mathlib.Core.List.{List, _++_}

@@ -1,4 +1,4 @@
--- `equivalents::ward::compute` meets its contract.
+-- `ward_core::compute` meets its contract.
 -- Assumes nothing.
 use mathlib.Core.Path.{_∙_}
 use borrow.Author.Needs.{needs}

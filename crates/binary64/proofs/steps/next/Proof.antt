@@ -1,4 +1,4 @@
--- `complex::root::next` meets its contract: the next digit is 1 where the square grows by no more than there is.
+-- `binary64::steps::next` meets its contract: the next digit is 1 where the square grows by no more than there is.
 -- Assumes nothing.
 use mathlib.Core.Logic.{⊎-elim}
 use native.Mathlib.Omega.{arith}

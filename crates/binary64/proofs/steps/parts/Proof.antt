@@ -1,4 +1,4 @@
--- `complex::root::parts` meets its contract.
+-- `binary64::steps::parts` meets its contract.
 -- Assumes nothing.
 use borrow.Author.Needs.{needs}
 use Rattle.binary64.proofs.RootSteps.{not-nan, own-digits, field-digits}

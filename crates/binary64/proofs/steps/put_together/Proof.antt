@@ -1,4 +1,4 @@
--- `complex::root::put_together` meets its contract.
+-- `binary64::steps::put_together` meets its contract.
 -- Assumes nothing.
 use mathlib.Core.Path.{_≡_, ap, _∙_}
 use mathlib.Core.Logic.{inl, inr, ⊎-elim}

@@ -1,4 +1,4 @@
--- `complex::root::scaled` meets its contract.
+-- `binary64::steps::scaled` meets its contract.
 -- Assumes nothing.
 use mathlib.Core.Path.{refl}
 use native.Mathlib.Omega.{arith}

@@ -1,4 +1,4 @@
--- `complex::root::special` meets its contract.
+-- `binary64::steps::special` meets its contract.
 -- Assumes nothing.
 use lib.Ieee.{div, ofBits}
 use Rattle.binary64.proofs.RootSteps.{negative, other}

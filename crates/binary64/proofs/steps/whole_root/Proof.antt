@@ -1,4 +1,4 @@
--- `complex::root::whole_root` meets its contract. The invariant: q and r are the whole root of the pairs taken, and left has the others.
+-- `binary64::steps::whole_root` meets its contract. The invariant: q and r are the whole root of the pairs taken, and left has the others.
 -- The measure is the number of pairs to come. Assumes nothing.
 use mathlib.Core.Path.{_≡_}
 use Prim.Native.Nat.{_+_, _-_, _*_, _^_, _≤_, _<_}

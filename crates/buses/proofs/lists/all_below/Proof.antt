@@ -1,4 +1,4 @@
--- `equivalents::lists::all_below` meets its contract: all are below n exactly where those not yet passed are.
+-- `buses::lists::all_below` meets its contract: all are below n exactly where those not yet passed are.
 -- Assumes nothing.
 use mathlib.Core.Path.{_≡_, refl, sym, _∙_}
 use Prim.Native.Nat.{_≤_, _-_}

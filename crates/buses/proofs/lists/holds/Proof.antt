@@ -1,4 +1,4 @@
--- `equivalents::lists::holds` meets its contract: the bus is among all exactly where it is among those not yet passed.
+-- `buses::lists::holds` meets its contract: the bus is among all exactly where it is among those not yet passed.
 -- Assumes nothing.
 use mathlib.Core.Path.{_≡_, refl, sym, _∙_}
 use Prim.Native.Nat.{_≤_, _-_}

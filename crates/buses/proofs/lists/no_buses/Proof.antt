@@ -1,4 +1,4 @@
--- `equivalents::lists::no_buses` meets its contract: so many times 0 stand before what was there.
+-- `buses::lists::no_buses` meets its contract: so many times 0 stand before what was there.
 -- Assumes nothing.
 use mathlib.Core.Path.{_≡_, refl, _∙_}
 use mathlib.Core.List.{_++_}

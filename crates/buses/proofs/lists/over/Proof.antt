@@ -1,4 +1,4 @@
--- `equivalents::lists::over` meets its contract: each test is the definition's.
+-- `buses::lists::over` meets its contract: each test is the definition's.
 -- Assumes nothing.
 use Rattle.refusals.specs.Refusals.{limit}
 use borrow.Author.Tests.{lt-ltb, le-ltb}

@@ -1,4 +1,4 @@
--- `solver::blocks::place_row` meets its contract.
+-- `gauss_jordan::blocks::place_row` meets its contract.
 -- Assumes nothing.
 use mathlib.Core.Path.{_≡_, ap, _∙_}
 use mathlib.Core.List.{List}

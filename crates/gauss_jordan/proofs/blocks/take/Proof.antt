@@ -1,4 +1,4 @@
--- `solver::blocks::take` meets its contract. The invariant: the rows before row i are copied, the others as they were.
+-- `gauss_jordan::blocks::take` meets its contract. The invariant: the rows before row i are copied, the others as they were.
 -- Assumes nothing.
 use mathlib.Core.Path.{_≡_, refl, sym, _∙_}
 use Prim.Native.Nat.{ℕ, _*_, _-_, _≤_, _<_}

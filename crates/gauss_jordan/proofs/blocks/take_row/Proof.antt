@@ -1,4 +1,4 @@
--- `solver::blocks::take_row` meets its contract.
+-- `gauss_jordan::blocks::take_row` meets its contract.
 -- Assumes nothing.
 use mathlib.Core.Path.{_≡_, ap, _∙_}
 use Prim.Native.Nat.{_+_, _*_, _-_, _≤_}

@@ -1,4 +1,4 @@
--- `solver::rows::copy` meets its contract. The invariant: what stands below i is copied.
+-- `gauss_jordan::rows::copy` meets its contract. The invariant: what stands below i is copied.
 -- Assumes nothing.
 use mathlib.Core.Path.{_≡_, refl, _∙_}
 use Prim.Native.Nat.{ℕ, _-_, _≤_, _<_}

@@ -1,4 +1,4 @@
--- `solver::rows::exchange` meets its contract. The invariant: what stands below i has changed places.
+-- `gauss_jordan::rows::exchange` meets its contract. The invariant: what stands below i has changed places.
 -- Assumes nothing.
 use mathlib.Core.Path.{_≡_, refl, _∙_}
 use Prim.Native.Nat.{ℕ, _-_, _≤_, _<_}

@@ -1,4 +1,4 @@
--- `solver::rows::reduce` meets its contract.
+-- `gauss_jordan::rows::reduce` meets its contract.
 -- Assumes nothing.
 use Prim.Native.Nat.{ℕ, _<_}
 use borrow.Author.Needs.{needs}

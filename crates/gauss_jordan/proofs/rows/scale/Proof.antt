@@ -1,4 +1,4 @@
--- `solver::rows::scale` meets its contract. The invariant: the entries below j are multiplied, the others as they were.
+-- `gauss_jordan::rows::scale` meets its contract. The invariant: the entries below j are multiplied, the others as they were.
 -- Assumes nothing.
 use mathlib.Core.Path.{_≡_, ap, _∙_}
 use Prim.Native.Nat.{ℕ, _*_, _-_, _≤_, _<_}

@@ -1,4 +1,4 @@
--- `solver::rows::skipped` meets its contract. Both parts are tested.
+-- `gauss_jordan::rows::skipped` meets its contract. Both parts are tested.
 -- Assumes nothing.
 use mathlib.Core.Path.{_≡_, ap}
 use mathlib.Core.Bool.{Bool, true, false, _&&_}

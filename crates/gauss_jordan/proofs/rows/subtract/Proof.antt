@@ -1,4 +1,4 @@
--- `solver::rows::subtract` meets its contract. The invariant: the entries below j are reduced, the others as they were.
+-- `gauss_jordan::rows::subtract` meets its contract. The invariant: the entries below j are reduced, the others as they were.
 -- Assumes nothing.
 use mathlib.Core.Path.{_≡_, ap, _∙_}
 use Prim.Native.Nat.{ℕ, _*_, _-_, _≤_, _<_}

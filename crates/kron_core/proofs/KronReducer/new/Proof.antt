@@ -1,4 +1,4 @@
--- `equivalents::kron::KronReducer::new` meets its contract: each test picks a case of `afterNew`.
+-- `kron_core::KronReducer::new` meets its contract: each test picks a case of `afterNew`.
 -- Assumes nothing.
 use Prim.Native.Nat.{ℕ, _*_, _≤_}
 use native.Mathlib.Nat.{mul-le-mul}

@@ -1,4 +1,4 @@
--- `equivalents::impedance::between` meets its contract: the front of y is the matrix, and the work slice is cleared.
+-- `kron_core::thevenin::between` meets its contract: the front of y is the matrix, and the work slice is cleared.
 -- Assumes nothing.
 use mathlib.Core.Path.{_≡_, ap, ap₂, _∙_}
 use mathlib.Core.Bool.{Bool}

@@ -1,4 +1,4 @@
--- `equivalents::impedance::inverse_entry` meets its contract.
+-- `kron_core::thevenin::inverse_entry` meets its contract.
 -- Assumes nothing.
 use native.Mathlib.Omega.{arith}
 use Rattle.complex.specs.Matrices.{entryAt}

@@ -1,4 +1,4 @@
--- `equivalents::impedance::inverted_across` meets its contract: the columns beyond the matrix are its inverse's.
+-- `kron_core::thevenin::inverted_across` meets its contract: the columns beyond the matrix are its inverse's.
 -- Assumes nothing.
 use mathlib.Core.Path.{_≡_, refl, sym, ap, _∙_}
 use Prim.Native.Nat.{ℕ, _+_, _<_}

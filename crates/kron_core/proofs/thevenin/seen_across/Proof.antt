@@ -1,4 +1,4 @@
--- `equivalents::impedance::seen_across` meets its contract: the definition is the code's own expression.
+-- `kron_core::thevenin::seen_across` meets its contract: the definition is the code's own expression.
 -- Assumes nothing.
 use mathlib.Core.Path.{ap, ap₂, _∙_}
 use borrow.Author.Needs.{needs}

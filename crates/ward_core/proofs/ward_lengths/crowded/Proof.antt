@@ -1,4 +1,4 @@
--- `equivalents::ward_lengths::crowded` meets its contract.
+-- `ward_core::ward_lengths::crowded` meets its contract.
 -- Assumes nothing.
 use borrow.Author.Tests.{lt-ltb, le-ltb}
 use Rattle.refusals.specs.Refusals.{limit}

@@ -1,4 +1,4 @@
--- `equivalents::ward_lengths::told` meets its contract.
+-- `ward_core::ward_lengths::told` meets its contract.
 -- Assumes nothing.
 use mathlib.Core.Path.{sym, _∙_}
 use native.Mathlib.Omega.{arith}

@@ -1,4 +1,4 @@
--- `equivalents::ward_lengths::uneven` meets its contract.
+-- `ward_core::ward_lengths::uneven` meets its contract.
 -- Assumes nothing.
 use Prim.Native.Nat.{_+_, _*_, _≤_}
 use native.Mathlib.Omega.{arith}

@@ -1,4 +1,4 @@
--- `equivalents::ward_lists::copy` meets its contract. The invariant: what stands before i is copied.
+-- `ward_studies::ward_lists::copy` meets its contract. The invariant: what stands before i is copied.
 -- Assumes nothing.
 use mathlib.Core.Path.{_≡_, refl, _∙_}
 use Prim.Native.Nat.{_-_, _≤_}

@@ -1,4 +1,4 @@
--- `equivalents::ward_lists::join` meets its contract.
+-- `ward_studies::ward_lists::join` meets its contract.
 -- Assumes nothing.
 use mathlib.Core.Path.{ap, _∙_}
 use mathlib.Core.List.{List}

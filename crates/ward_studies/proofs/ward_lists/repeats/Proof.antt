@@ -1,4 +1,4 @@
--- `equivalents::ward_lists::repeats` meets its contract. The invariant: whether a bus stands twice is whether one does from i on.
+-- `ward_studies::ward_lists::repeats` meets its contract. The invariant: whether a bus stands twice is whether one does from i on.
 -- Assumes nothing.
 use mathlib.Core.Path.{sym, ap, _∙_}
 use mathlib.Core.Bool.{true}

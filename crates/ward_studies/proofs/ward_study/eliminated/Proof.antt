@@ -1,4 +1,4 @@
--- `equivalents::ward_study::eliminated` meets its contract.
+-- `ward_studies::ward_study::eliminated` meets its contract.
 -- Assumes nothing.
 use mathlib.Core.Path.{_≡_, refl, sym, ap, _∙_}
 use native.Mathlib.Omega.{arith}

@@ -1,4 +1,4 @@
--- `equivalents::ward_study::listed` meets its contract.
+-- `ward_studies::ward_study::listed` meets its contract.
 -- Assumes nothing.
 use mathlib.Core.Path.{_≡_, refl, sym, ap, subst, _∙_}
 use mathlib.Core.Bool.{true, false}

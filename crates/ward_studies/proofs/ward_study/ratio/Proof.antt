@@ -1,4 +1,4 @@
--- `equivalents::ward_study::ratio` meets its contract.
+-- `ward_studies::ward_study::ratio` meets its contract.
 -- Assumes nothing.
 use mathlib.Core.Path.{refl}
 use native.Mathlib.Omega.{arith}

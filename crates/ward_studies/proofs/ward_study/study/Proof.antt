@@ -1,4 +1,4 @@
--- `equivalents::ward_study::study` meets its contract.
+-- `ward_studies::ward_study::study` meets its contract.
 -- Assumes nothing.
 use mathlib.Core.Path.{_≡_, sym, ap, _∙_}
 use mathlib.Core.List.{List, _++_}

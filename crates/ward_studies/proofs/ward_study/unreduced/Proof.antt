@@ -1,4 +1,4 @@
--- `equivalents::ward_study::unreduced` meets its contract.
+-- `ward_studies::ward_study::unreduced` meets its contract.
 -- Assumes nothing.
 use mathlib.Core.Path.{ap, _∙_}
 use Prim.Native.Nat.{ℕ, _*_}
