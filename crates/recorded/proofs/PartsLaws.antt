@@ -7,12 +7,12 @@ use mathlib.Core.List.{List, _++_}
 use native.Mathlib.Omega.{arith}
 use lib.Dec.{eqb, leb}
 use lib.ListN.{length, take, drop, length-append, length-drop, length-replicate}
-use lib.Seq.{length-take-le, take-at, take-length}
+use lib.Seq.{length-take-le, take-length}
 use borrow.Author.Tests.{leb-true, le-leb, lt-leb, eq-eqb, ne-eqb}
 use Rattle.entry_slices.specs.Bytes.{word}
 use Rattle.recorded.specs.declared.parts.Part.{Part}
 use Rattle.recorded.specs.declared.parts.Part.the-variants.{Whole, Filled, Missing}
-use Rattle.recorded.specs.Parts.{partOf, partAt, spanOf, Spanned, sizeOf, contents, behind, within, Held, Agreed}
+use Rattle.recorded.specs.Parts.{partOf, partAt, spanOf, Spanned, sizeOf, contents, behind, within, loadedOf, inFront, Held, Agreed}
 
 -- ---- the slice at a byte
 
@@ -93,30 +93,31 @@ sized bs (Filled size byte end) h = length-replicate size byte
 sized bs Missing h = refl
 
 module _ (bs : List ℕ) (at : ℕ) (p : Part) (e : p ≡ partAt bs at) where
-  pub no-room : (room : ℕ) (left : List ℕ) → room < sizeOf p → Held bs at room (record { len = 0; next = 0 }) left
-  unfolding within contents behind
-  no-room room left h =
+  pub no-room : (room : List ℕ) → length room < sizeOf p → Held bs at room (record { len = 0; next = 0 }) room
+  unfolding sizeOf contents behind within
+  no-room room h =
       record {
+        is = rw (← e, lt-leb (sizeOf p) (length room) h);
+        holds = rw (← e, lt-leb (sizeOf p) (length room) h);
         fits = omega arith;
-        holds = rw (← e, lt-leb (sizeOf p) room h);
-        further = rw (← e, lt-leb (sizeOf p) room h);
       }
 
   -- a room of which the front is filled by the slice
-  pub held : (room left : List ℕ) → sizeOf p ≤ length room → left ≡ contents bs p ++ drop (sizeOf p) room
-      → Held bs at (length room) (record { len = sizeOf p; next = behind p }) left
+  pub held : (room left : List ℕ) → sizeOf p ≤ length room → left ≡ inFront bs p room → Held bs at room (loadedOf p) left
   unfolding within
   held room left h q =
       let l = sized bs p (subst (Below (length bs)) (sym e) (below bs at)) in
       record {
+        is = rw (← e, le-leb (sizeOf p) (length room) h);
+        holds = rw (← e, le-leb (sizeOf p) (length room) h) q;
         fits = rw q (omega (arith, l, length-append (contents bs p) (drop (sizeOf p) room)));
-        holds = rw (← e, le-leb (sizeOf p) (length room) h, q) (take-at (contents bs p) (drop (sizeOf p) room) (sizeOf p) l);
-        further = rw (← e, le-leb (sizeOf p) (length room) h);
       }
 
-  pub copied : (room left : List ℕ) → sizeOf p ≤ length room → left ≡ take (length (contents bs p)) (contents bs p) ++ drop (length (contents bs p)) room
-      → Held bs at (length room) (record { len = sizeOf p; next = behind p }) left
-  copied room left h q = held room left h (q ∙ rw (take-length (contents bs p), sized bs p (subst (Below (length bs)) (sym e) (below bs at))))
+  pub copied : (room left : List ℕ) → sizeOf p ≤ length room
+      → left ≡ take (length (contents bs p)) (contents bs p) ++ drop (length (contents bs p)) room
+      → Held bs at room (loadedOf p) left
+  copied room left h q =
+      held room left h (q ∙ rw (take-length (contents bs p), sized bs p (subst (Below (length bs)) (sym e) (below bs at))))
 
   pub agreed : (got : List ℕ) → got ≡ contents bs p → Agreed bs at got (behind p)
   agreed got h = record { same = λ _. rw (← e); other = λ no. absurd (no (rw (← e) h)) }

@@ -2,7 +2,7 @@
 use Prim.Native.Nat.{ℕ, _+_, _-_, _%_, _≤_}
 use mathlib.Core.Path.{_≡_}
 use mathlib.Core.Bool.{_&&_, cond}
-use mathlib.Core.List.{List, []}
+use mathlib.Core.List.{List, [], _++_}
 use lib.Dec.{eqb, leb}
 use lib.ListN.{length, take, drop, replicate}
 use Rattle.entry_slices.specs.Bytes.{word}
@@ -59,11 +59,17 @@ pub record Spanned (bs : List ℕ) (at : ℕ) (r : Bounds) : Type 0 where
   pub ordered : r .start ≤ r .end
   pub inside : r .end ≤ length bs
 
--- what `load` answers and leaves in a room of this length
-pub record Held (bs : List ℕ) (at room : ℕ) (r : Loaded) (left : List ℕ) : Type 0 where
+-- what `load` answers and leaves: the slice in the front of a room, if there is room for it, and behind it what stood there
+abbrev pub loadedOf : Part → Loaded
+loadedOf p = record { len = sizeOf p; next = behind p }
+
+abbrev pub inFront : List ℕ → Part → List ℕ → List ℕ
+inFront bs p room = contents bs p ++ drop (sizeOf p) room
+
+pub record Held (bs : List ℕ) (at : ℕ) (room : List ℕ) (r : Loaded) (left : List ℕ) : Type 0 where
+  pub is : r ≡ loadedOf (within (length room) (partAt bs at))
+  pub holds : left ≡ inFront bs (within (length room) (partAt bs at)) room
   pub fits : r .len ≤ length left
-  pub holds : take (r .len) left ≡ contents bs (within room (partAt bs at))
-  pub further : r .next ≡ behind (within room (partAt bs at))
 
 -- what `agree` answers: where the next slice stands, if the bytes are the slice's, else 0
 pub record Agreed (bs : List ℕ) (at : ℕ) (got : List ℕ) (r : ℕ) : Type 0 where

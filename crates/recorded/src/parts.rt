@@ -82,7 +82,7 @@ pub struct Loaded {
 
 // Reads the slice at a byte into the front of the room.
 pub fn load(s: &[u8], at: usize, room: &mut [u8]) -> Loaded
-    ensures { λ r. ⌜ spec.Held (now (s .entry)) at (length (now (room .entry))) r (now (room .exit)) ⌝ }
+    ensures { λ r. ⌜ spec.Held (now (s .entry)) at (now (room .entry)) r (now (room .exit)) ⌝ }
 {
     let part = part_at(s, at);
     match part {

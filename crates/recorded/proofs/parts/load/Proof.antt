@@ -23,7 +23,7 @@ returns : tie.Need-returns
 unfolding sizeOf contents behind
 returns c =
     let k = c .before .before in
-    no-room _ _ _ (sym (k .part .given .1) ∙ k .before .before .part-at .ensures) _ _ (c .if1 .taken)
+    no-room _ _ _ (sym (k .part .given .1) ∙ k .before .before .part-at .ensures) _ (c .if1 .taken)
 
 sub-copy : tie.Need-sub-copy
 sub-copy c =
@@ -50,7 +50,7 @@ returns-2 : tie.Need-returns-2
 unfolding sizeOf contents behind
 returns-2 c =
     let k = c .before .before in
-    no-room _ _ _ (sym (k .part2 .given .1) ∙ k .before .before .part-at .ensures) _ _ (c .if2 .taken)
+    no-room _ _ _ (sym (k .part2 .given .1) ∙ k .before .before .part-at .ensures) _ (c .if2 .taken)
 
 fill-requires : tie.Need-fill-requires
 fill-requires c κs = search needs
