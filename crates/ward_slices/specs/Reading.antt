@@ -1,5 +1,5 @@
 -- The two rooms that both studies read their byte slices into, each in three parts, and the study that stands there.
-use Prim.Native.Nat.{ℕ, _+_, _-_, _≤_, _<_}
+use Prim.Native.Nat.{ℕ, _+_, _*_, _-_, _≤_, _<_}
 use mathlib.Core.Path.{_≡_}
 use mathlib.Core.List.{List}
 use lib.ListN.{length, take, drop}
@@ -16,16 +16,16 @@ part a e xs = take (e - a) (drop a xs)
 
 -- where the second and the third part of each room begin, behind a list each, and where the rooms end
 abbrev pub second : ℕ
-second = 65
+second = listRoom
 
 abbrev pub third : ℕ
-third = 130
+third = 2 * listRoom
 
 abbrev pub listsRoom : ℕ
-listsRoom = 195
+listsRoom = 3 * listRoom
 
 abbrev pub numbersRoom : ℕ
-numbersRoom = 8323
+numbersRoom = third + matrixRoom
 
 -- the parts of a room of so many places end within them
 pub record Within (room : ℕ) (r : Ends) : Type 0 where

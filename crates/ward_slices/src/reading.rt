@@ -1,4 +1,6 @@
 // What both studies read, in two rooms: the three lists in one; P, Q and the matrix in the other.
+use entry_slices::rooms::LIST;
+use entry_slices::rooms::MATRIX;
 use entry_slices::slices::load_floats;
 use entry_slices::slices::load_words;
 ghost use mathlib.Core.Path.{_≡_};
@@ -6,13 +8,13 @@ ghost use lib.ListN.{length};
 ghost use Rattle.ward_slices.specs.Reading as spec;
 
 // Where the second and the third part of each room begin, and where the rooms end.
-pub const SECOND: usize = 65;
+pub const SECOND: usize = LIST;
 
-pub const THIRD: usize = 130;
+pub const THIRD: usize = 2 * LIST;
 
-pub const LISTS: usize = 195;
+pub const LISTS: usize = 3 * LIST;
 
-pub const NUMBERS: usize = 8323;
+pub const NUMBERS: usize = THIRD + MATRIX;
 
 // Where the numbers in each part of a room end, and how many bytes of the slices read there are spare.
 pub struct Ends {
