@@ -1,12 +1,12 @@
 // The exported entries of Kron reduction.
-use kron_entries::records::make_in;
-use kron_entries::removing::remove_all_in;
-use kron_entries::removing::remove_in;
+use kron_entries::remove_all_in;
+use kron_entries::remove_in;
 use reading_entries::see_in;
 use reading_entries::show_in;
-ghost use Rattle.kron_entries.specs.Records as records;
+use record_entries::make_in;
 ghost use Rattle.kron_entries.specs.Removing as removing;
 ghost use Rattle.reading_entries.specs.Reading as reading;
+ghost use Rattle.record_entries.specs.Records as records;
 
 #[no_mangle]
 pub extern "C" fn jeturipe_kron_new(n: usize, y: &[u8], rec: &mut [u8]) -> u32

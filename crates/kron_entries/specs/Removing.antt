@@ -10,7 +10,7 @@ use Rattle.refusals.specs.Refusals.{notActive, smallEntry, number}
 use Rattle.kron_core.specs.Reducer.{AfterBus, AfterBuses, afterBus, afterBuses}
 use Rattle.entry_slices.specs.Rooms.{listRoom, matrixRoom}
 use Rattle.entry_slices.specs.Slices.{floatsIn, wordsIn, spare, misfit, told, storedFloats, storedWords}
-use Rattle.kron_entries.specs.Records.{recordBytes, recordIn, storedRecord}
+use Rattle.record_entries.specs.Records.{recordBytes, recordIn, storedRecord}
 
 -- ---- one bus
 

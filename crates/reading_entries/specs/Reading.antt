@@ -12,7 +12,7 @@ use Rattle.kron_core.specs.Reading as reading
 use Rattle.kron_core.specs.Reading.{AfterMatrix, afterMatrix, AfterImpedance, afterImpedance}
 use Rattle.entry_slices.specs.Rooms.{matrixRoom, pairRoom}
 use Rattle.entry_slices.specs.Slices.{floatsIn, spare, misfit, told, storedFloats, workAfter}
-use Rattle.kron_entries.specs.Records.{recordBytes, recordIn}
+use Rattle.record_entries.specs.Records.{recordBytes, recordIn}
 
 -- ---- reduced_matrix
 

@@ -1,6 +1,7 @@
 // The entries that read a reduced matrix: its present rows, and the impedance between two buses. Byte slices are read into rooms for
 // the library; then the call, and what it leaves written.
 use complex::Complex;
+use refusals::number;
 use entry_slices::rooms::MATRIX;
 use entry_slices::rooms::PAIR;
 use entry_slices::slices::clear_work;
@@ -13,9 +14,8 @@ use equivalents::kron::KronReducer;
 use equivalents::kron::number_of;
 use equivalents::kron::reduced_matrix;
 use equivalents::kron::thevenin_impedance;
-use kron_entries::records::RECORD;
-use kron_entries::records::record_in;
-use refusals::number;
+use record_entries::RECORD;
+use record_entries::record_in;
 ghost use mathlib.Core.Path.{_≡_};
 ghost use mathlib.Core.List.{[], _∷_};
 ghost use Rattle.kron_core.specs.Reading.{afterMatrix, afterImpedance};
