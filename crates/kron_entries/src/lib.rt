@@ -1,5 +1,4 @@
 // The entries that remove buses: byte slices read into rooms for the library, the call, and what it leaves written.
-use refusals::number;
 use entry_slices::rooms::LIST;
 use entry_slices::rooms::MATRIX;
 use entry_slices::slices::load_floats;
@@ -14,6 +13,7 @@ use equivalents::kron::eliminated_buses;
 use record_entries::RECORD;
 use record_entries::record_in;
 use record_entries::store_record;
+use refusals::number;
 ghost use mathlib.Core.Path.{_≡_};
 ghost use Rattle.kron_core.specs.Reducer.{afterBus, afterBuses};
 ghost use Rattle.kron_entries.specs.Removing as spec;

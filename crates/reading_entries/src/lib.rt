@@ -1,7 +1,6 @@
 // The entries that read a reduced matrix: its present rows, and the impedance between two buses. Byte slices are read into rooms for
 // the library; then the call, and what it leaves written.
 use complex::Complex;
-use refusals::number;
 use entry_slices::rooms::MATRIX;
 use entry_slices::rooms::PAIR;
 use entry_slices::slices::clear_work;
@@ -16,6 +15,7 @@ use equivalents::kron::reduced_matrix;
 use equivalents::kron::thevenin_impedance;
 use record_entries::RECORD;
 use record_entries::record_in;
+use refusals::number;
 ghost use mathlib.Core.Path.{_≡_};
 ghost use mathlib.Core.List.{[], _∷_};
 ghost use Rattle.kron_core.specs.Reading.{afterMatrix, afterImpedance};
