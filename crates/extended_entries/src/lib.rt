@@ -22,8 +22,6 @@ ghost use mathlib.Core.Path.{_≡_};
 ghost use Prim.Native.Nat.{_+_, _<_};
 ghost use Rattle.ward_studies.specs.WardCalls as calls;
 ghost use Rattle.ward_studies.specs.WardExtended as extended;
-ghost use Rattle.entry_slices.specs.Rooms.{listRoom};
-ghost use Rattle.entry_slices.specs.Slices.{floatsIn};
 ghost use Rattle.ward_slices.specs.Outputs.{outputsOf, roomsOf, spareOf};
 ghost use Rattle.ward_slices.specs.Reading as reading;
 ghost use Rattle.extended_entries.specs.ExtendedEntry as spec;

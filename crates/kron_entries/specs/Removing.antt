@@ -1,11 +1,10 @@
 -- What the entries that remove buses answer and leave in their byte slices, by the library's own definitions.
 use Prim.Native.Nat.{ℕ, _+_}
 use mathlib.Core.Path.{_≡_}
-use mathlib.Core.Bool.{Bool, _||_, cond}
+use mathlib.Core.Bool.{_||_, cond}
 use mathlib.Core.List.{List, [], _∷_}
 use lib.Dec.{eqb}
 use lib.ListN.{length}
-use lib.Ieee.{Float}
 use Rattle.refusals.specs.Refusals.{notActive, smallEntry, number}
 use Rattle.kron_core.specs.Reducer.{AfterBus, AfterBuses, afterBus, afterBuses}
 use Rattle.entry_slices.specs.Rooms.{listRoom, matrixRoom}

@@ -2,7 +2,6 @@
 -- Assumes nothing.
 use borrow.Author.Tests.{eq-eqb, ne-eqb}
 use Rattle.kron_entries.specs.Removing.{stopped}
-use borrow.Author.Needs.{needs}
 use Rattle.kron_entries.proofs.stopped.Statement.{statement}
 use Rattle.kron_entries.proofs.stopped.Tie as tie
 

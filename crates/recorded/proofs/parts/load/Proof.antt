@@ -1,6 +1,6 @@
 -- `recorded::parts::load` meets its contract, for each kind of slice.
 -- Assumes nothing.
-use mathlib.Core.Path.{_≡_, refl, sym, _∙_}
+use mathlib.Core.Path.{refl, sym, _∙_}
 use native.Mathlib.Omega.{arith}
 use Rattle.recorded.specs.Parts.{sizeOf, contents, behind}
 use Rattle.recorded.proofs.PartsLaws.{inside, no-room, held, copied}
