@@ -1,0 +1,91 @@
+/* The reader of recorded calls (oracle/README.md has the format). What a file lacks reads as zeros and marks the reader. */
+#include <stdint.h>
+#include <stdlib.h>
+#include <string.h>
+
+/* Bytes on both sides of a slice, which no call may change. */
+enum { EDGE = 16, FILL = 0x5c };
+
+typedef struct {
+    const uint8_t *at, *end;
+    int cut_off;
+} Reader;
+
+typedef struct {
+    uint64_t function, outcome, whole[2];
+    double real[4];
+} Head;
+
+typedef struct {
+    uint8_t *buffer, *at;
+    size_t len;
+} Slice;
+
+static const uint8_t *take(Reader *r, size_t len) {
+    if (r->cut_off || (size_t)(r->end - r->at) < len) {
+        r->cut_off = 1;
+        return NULL;
+    }
+    r->at += len;
+    return r->at - len;
+}
+
+static uint64_t word(Reader *r) {
+    const uint8_t *bytes = take(r, 8);
+    uint64_t w = 0;
+    for (int i = 7; bytes && i >= 0; i--)
+        w = w << 8 | bytes[i];
+    return w;
+}
+
+static double real(Reader *r) {
+    uint64_t w = word(r);
+    double x;
+    memcpy(&x, &w, sizeof x);
+    return x;
+}
+
+static Head head(Reader *r) {
+    Head h;
+    h.function = word(r);
+    h.outcome = word(r);
+    for (int i = 0; i < 2; i++)
+        h.whole[i] = word(r);
+    for (int i = 0; i < 4; i++)
+        h.real[i] = real(r);
+    return h;
+}
+
+/* A slice within a buffer, at any alignment. */
+static Slice room(size_t len, size_t shift) {
+    Slice s = {malloc(EDGE + shift + len + EDGE), NULL, len};
+    if (!s.buffer)
+        abort();
+    memset(s.buffer, FILL, EDGE + shift + len + EDGE);
+    s.at = s.buffer + EDGE + shift;
+    return s;
+}
+
+/* A slice is its length and 0 and its bytes, or its length and one more than the byte that it repeats. */
+static Slice slice(Reader *r, size_t shift) {
+    size_t len = word(r);
+    uint64_t repeated = word(r);
+    const uint8_t *bytes = repeated ? NULL : take(r, len);
+    Slice s = room(r->cut_off ? 0 : len, shift);
+    if (bytes)
+        memcpy(s.at, bytes, s.len);
+    else
+        memset(s.at, (int)(repeated - 1), s.len);
+    return s;
+}
+
+/* The same bytes, and those around the first as they were. */
+static int same(const Slice *a, const Slice *b) {
+    size_t before = (size_t)(a->at - a->buffer);
+    int kept = a->len == b->len && memcmp(a->at, b->at, a->len) == 0;
+    for (size_t i = 0; i < before; i++)
+        kept &= a->buffer[i] == FILL;
+    for (size_t i = 0; i < EDGE; i++)
+        kept &= a->at[a->len + i] == FILL;
+    return kept;
+}
