@@ -1,4 +1,4 @@
-/* The reader of recorded calls (oracle/README.md has the format). What a file lacks reads as zeros and marks the reader. */
+/* The reader of recorded calls (oracle/README.md has the format). What a file lacks, or no recorder writes, marks the reader. */
 #include <stdint.h>
 #include <stdlib.h>
 #include <string.h>
@@ -71,6 +71,7 @@ static Slice slice(Reader *r, size_t shift) {
     size_t len = word(r);
     uint64_t repeated = word(r);
     const uint8_t *bytes = repeated ? NULL : take(r, len);
+    r->cut_off |= repeated > 256;
     Slice s = room(r->cut_off ? 0 : len, shift);
     if (bytes)
         memcpy(s.at, bytes, s.len);
