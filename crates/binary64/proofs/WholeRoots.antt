@@ -1,12 +1,11 @@
--- The whole root of a natural number: there is one, `wholeRoot` computes it, and of a radicand of 105 or 106 digits it has 53.
+-- The whole root of a natural number: there is one, `wholeRoot` computes it, and one division finds the second half of its digits.
 -- Assumes nothing.
-use mathlib.Core.Path.{_≡_, refl}
+use mathlib.Core.Path.{_≡_, refl, ap}
 use mathlib.Core.Bool.{Bool, true, false, cond}
 use Prim.Native.Nat.{ℕ, zero, suc, _+_, _-_, _*_, _/_, _%_, _^_, _≤_, _<_}
-use native.Mathlib.Nat.{mul-le-mul, mul-le-mul-left, mul-lt-mul-of-pos-right, mul-comm, lt-of-mul-lt-mul-right, lt-of-le-of-lt, lt-of-lt-of-le, le-trans, le-of-eq, le-add-right, pow-le-pow-right, pow-suc, div-lt-iff-lt-mul, div-add-mod', mod-lt, zero-lt-suc}
+use native.Mathlib.Nat.{mul-le-mul, mul-le-mul-left, mul-le-mul-right, le-of-lt, pow-suc, div-lt-iff-lt-mul, div-add-mod', mod-lt, zero-lt-suc}
 use native.Mathlib.Omega.{arith}
-use native.Mathlib.Numerals.{add-one}
-use lib.Dec.{leb, lit<}
+use lib.Dec.{leb}
 use borrow.Author.Tests.{leb-true, leb-false}
 use Rattle.binary64.specs.Root.{square, lastDigit, wholeRoot}
 use Rattle.binary64.specs.RootSteps.{WholeRoot}
@@ -46,29 +45,50 @@ whole-root (suc k) n h =
 
 -- ---- its size
 
-pub root-below : (n q r : ℕ) → WholeRoot n q r → n < 2 ^ 106 → q < 2 ^ 53
-root-below n q r w h =
-    let no : ¬ (2 ^ 53 ≤ q) = (λ (g : 2 ^ 53 ≤ q). let b : 2 ^ 53 * 2 ^ 53 ≤ q * q = mul-le-mul g g in omega arith) in
+pub root-below : (n q r b : ℕ) → WholeRoot n q r → n < b * b → q < b
+root-below n q r b w h =
+    let no : ¬ (b ≤ q) = (λ (g : b ≤ q). let k : b * b ≤ q * q = mul-le-mul g g in omega arith) in
     omega arith
 
-pub root-above : (n q r : ℕ) → WholeRoot n q r → 2 ^ 104 ≤ n → 2 ^ 52 ≤ q
-root-above n q r w h =
-    let no : ¬ (q < 2 ^ 52) = (λ (g : suc q ≤ 2 ^ 52). let b : suc q * suc q ≤ 2 ^ 52 * 2 ^ 52 = mul-le-mul g g in omega arith) in
+pub root-above : (n q r b : ℕ) → WholeRoot n q r → b * b ≤ n → b ≤ q
+root-above n q r b w h =
+    let no : ¬ (q < b) = (λ (g : suc q ≤ b). let k : suc q * suc q ≤ b * b = mul-le-mul g g in omega arith) in
     omega arith
 
--- ---- bit by bit: i pairs of digits of m * 2 ^ 52 are taken, and left holds the others of m, moved up by as many
+-- ---- the root s of n, with remainder r, has 26 more digits for n * 2 ^ 52: those of r * 2 ^ 26 over 2 * s, or one less
 
-pub taken-below : (m q r left i : ℕ) → m < 2 ^ 54 → i ≤ 53 → r ≤ 2 * q → (q * q + r) * 2 ^ 54 + left ≡ m * 4 ^ i → q < 2 ^ 53
-taken-below m q r left i few count small e =
-    root-below (q * q + r) q r (record { whole = refl; small = small })
-    (lt-of-mul-lt-mul-right (2 ^ 54)
-    (lt-of-le-of-lt (le-trans (le-add-right ((q * q + r) * 2 ^ 54) left) (le-trans (le-of-eq e) (mul-le-mul-left m (pow-le-pow-right (zero-lt-suc 3) count))))
-    (lt-of-lt-of-le (mul-lt-mul-of-pos-right few (lit< {m = 0} {n = 4 ^ 53} tt)) (le-of-eq (mul-comm (2 ^ 54) (4 ^ 53))))))
+-- one less, for a square that is too large
+one-less : (n p q rest square : ℕ) → p + 1 ≡ q → n + square ≡ q * q + rest → rest < square → square ≤ rest + 2 * p → WholeRoot n p (rest + (2 * p + 1) - square)
+one-less n p q rest square e v h k = let b : (p + 1) * (p + 1) ≡ q * q = ap (λ (x : ℕ). x * x) e in omega arith
 
-pub taken-more : (m n p left i : ℕ) → n * 2 ^ 54 + left ≡ m * 4 ^ i → p ≡ 4 * n + left / 2 ^ 52 → p * 2 ^ 54 + left % 2 ^ 52 * 4 ≡ m * 4 ^ (i + 1)
-taken-more m n p left i e d =
-    let s : m * 4 ^ (i + 1) ≡ 4 * (m * 4 ^ i) = rw (add-one, pow-suc) (omega arith) in
-    omega arith
+module _ (s r : ℕ) (least : 2 ^ 26 ≤ s) (small : r ≤ 2 * s) where
+  abbrev digits : ℕ
+  digits = r * 2 ^ 26 / (2 * s)
 
-pub taken-all : (m n left : ℕ) → left < 2 ^ 54 → n * 2 ^ 54 + left ≡ m * 4 ^ 53 → n ≡ m * 2 ^ 52
-taken-all m n left h e = omega arith
+  abbrev rest : ℕ
+  rest = r * 2 ^ 26 % (2 * s)
+
+  pub divided : (digits * (2 * s) + rest ≡ r * 2 ^ 26) × (rest < 2 * s)
+  divided = (div-add-mod' (r * 2 ^ 26) (2 * s), mod-lt (r * 2 ^ 26) (omega arith))
+
+  pub digits-few : (digits ≤ 2 ^ 26) × (digits * digits ≤ 2 ^ 26 * digits)
+  digits-few =
+      let (e, l) = divided in
+      let no : ¬ (2 ^ 26 < digits) = (λ (g : suc (2 ^ 26) ≤ digits). let k : suc (2 ^ 26) * (2 * s) ≤ digits * (2 * s) = mul-le-mul-right (2 * s) g in omega arith) in
+      let few : digits ≤ 2 ^ 26 = omega arith in
+      (few, mul-le-mul-right digits few)
+
+  pub digits-right : digits * digits ≤ rest * 2 ^ 26 → WholeRoot ((s * s + r) * 2 ^ 52) (s * 2 ^ 26 + digits) (rest * 2 ^ 26 - digits * digits)
+  digits-right h = let (e, l) = divided in omega arith
+
+  pub digits-over : rest * 2 ^ 26 < digits * digits
+      → WholeRoot ((s * s + r) * 2 ^ 52) (s * 2 ^ 26 + digits - 1) (rest * 2 ^ 26 + (2 * (s * 2 ^ 26 + digits - 1) + 1) - digits * digits)
+  digits-over h =
+      let (e, l) = divided in
+      let (few, f) = digits-few in
+      one-less ((s * s + r) * 2 ^ 52) (s * 2 ^ 26 + digits - 1) (s * 2 ^ 26 + digits) (rest * 2 ^ 26) (digits * digits) (omega arith) (omega arith) h (omega arith)
+
+-- ---- a product that fits
+
+pub product-fits : (a b : ℕ) → a < 2 ^ 32 → b < 2 ^ 32 → a * b < 2 ^ 64
+product-fits a b h k = let g : a * b ≤ a * 2 ^ 32 = mul-le-mul-left a (le-of-lt k) in omega arith

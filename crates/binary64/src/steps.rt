@@ -61,37 +61,78 @@ pub struct Rest {
     pub r: u64,
 }
 
-// Two more digits of the radicand, and one more of its root.
-pub fn next(q: u64, r: u64, pair: u64) -> Rest
-    requires { ⌜ (q < 2 ^ 53) × (r ≤ 2 * q) × (pair < 4) ⌝ }
-    ensures { λ s. ⌜ WholeRoot (4 * (q * q + r) + pair) (s .q) (s .r) ⌝ }
+// Newton's step from y towards 2^32 over the root of x = h / 2^30, less 3 for the digits that are cut off, so that it ends below.
+fn nearer(h: u64, y: u64) -> u64
+    requires { ⌜ (h < 2 ^ 32) × (y < 2 ^ 32) ⌝ }
+    ensures { λ r. ⌜ r < 2 ^ 32 ⌝ }
 {
-    let rest = 4 * r + pair;
-    let odd = 4 * q + 1;
-    let bit: u64 = if rest < odd { 0 } else { 1 };
+    let hy = h * y / 0x1_0000_0000;
+    let yy = y * y / 0x1_0000_0000;
+    (3 * y + 0xf_ffff_fffa - hy * yy / 0x4000_0000) / 2 % 0x1_0000_0000
+}
+
+// The whole root of an m of 53 or 54 digits, or one less, from h = m / 2^22. Two steps of Newton's start at
+// 1.749 - 1.123 x + 0.458 x^2 - 0.0935 x^3 + 0.00743 x^4, which is 1 over the root of x = h / 2^30 within 0.22 %.
+// Nothing is promised of how near it comes: `short_root` tests it, and only its time rests on it.
+fn guess(h: u64) -> u64
+    requires { ⌜ h < 2 ^ 32 ⌝ }
+    ensures { λ r. ⌜ r < 2 ^ 32 ⌝ }
+{
+    let hh = h * h / 0x1_0000_0000;
+    let high = 1967320785 - h * 401761978 / 0x4000_0000 + hh * 31913905 / 0x1000_0000;
+    let y = (41871701899 + hh * high / 0x1000_0000 - h * 1205891116 / 0x1000_0000) % 0x1_0000_0000;
+    h * nearer(h, nearer(h, y)) / 0x10_0000_0000
+}
+
+// From the guess upwards, or from 0 were it too high.
+pub fn short_root(m: u64) -> Rest
+    requires { ⌜ m < 2 ^ 54 ⌝ }
+    ensures { λ s. ⌜ WholeRoot m (s .q) (s .r) ⌝ }
+{
+    let low = guess(m / 0x40_0000);
+    let square = low * low;
+    let mut q: u64 = 0;
+    let mut r = m;
+    if square <= m {
+        q = low;
+        r = m - square;
+    }
+    while r > 2 * q {
+        r -= 2 * q + 1;
+        q += 1;
+    }
+    Rest { q, r }
+}
+
+// 52 zeros more behind the radicand, and 26 more digits of its root: those of r times 2^26 over 2 s, or one less.
+pub fn longer(s: u64, r: u64) -> Rest
+    requires { ⌜ (2 ^ 26 ≤ s) × (s < 2 ^ 27) × (r ≤ 2 * s) ⌝ }
+    ensures { λ t. ⌜ WholeRoot ((s * s + r) * 2 ^ 52) (t .q) (t .r) ⌝ }
+{
+    let digits = r * 0x400_0000 / (2 * s);
+    let rest = r * 0x400_0000 % (2 * s) * 0x400_0000;
+    let square = digits * digits;
+    let q = s * 0x400_0000 + digits;
+    if rest < square {
+        let less = q - 1;
+        return Rest {
+            q: less,
+            r: rest + (2 * less + 1) - square,
+        };
+    }
     Rest {
-        q: 2 * q + bit,
-        r: rest - odd * bit,
+        q,
+        r: rest - square,
     }
 }
 
-// Bit by bit, two digits of the radicand a step: 27 pairs of m's, then 26 of zeros.
+// 27 digits of the root, then the other 26.
 pub fn whole_root(m: u64) -> Rest
-    requires { ⌜ m < 2 ^ 54 ⌝ }
+    requires { ⌜ (2 ^ 52 ≤ m) × (m < 2 ^ 54) ⌝ }
     ensures { λ s. ⌜ WholeRoot (m * 2 ^ 52) (s .q) (s .r) ⌝ }
 {
-    let mut q: u64 = 0;
-    let mut r: u64 = 0;
-    let mut left = m;
-    let mut i: u64 = 0;
-    while i < 53 {
-        let s = next(q, r, left / 0x10_0000_0000_0000);
-        q = s.q;
-        r = s.r;
-        left = left % 0x10_0000_0000_0000 * 4;
-        i += 1;
-    }
-    Rest { q, r }
+    let s = short_root(m);
+    longer(s.q, s.r)
 }
 
 // One rounding, and the bits put together: a carry out of the 53 digits adds one to the exponent's field.

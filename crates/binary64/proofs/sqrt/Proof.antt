@@ -40,7 +40,9 @@ put-together-requires c κs =
     let n = c .before .scaled .result .m * 2 ^ 52 in
     let least = s .enough in
     let few = s .few in
-    (root-above n (c .whole-root .result .q) (c .whole-root .result .r) w (omega arith), root-below n (c .whole-root .result .q) (c .whole-root .result .r) w (omega arith), s .below)
+    let q = c .whole-root .result .q in
+    let r = c .whole-root .result .r in
+    (root-above n q r (2 ^ 52) w (omega arith), root-below n q r (2 ^ 53) w (omega arith), s .below)
 
 returns : tie.Need-returns
 returns c =
