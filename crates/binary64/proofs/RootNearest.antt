@@ -4,7 +4,7 @@ use mathlib.Core.Path.{_≡_, refl, sym, ap, ap₂, subst, _∙_}
 use mathlib.Core.Logic.{inl, inr}
 use mathlib.Core.Bool.{true, false}
 use Prim.Native.Nat.{ℕ, zero, suc, _+_, _-_, _*_, _^_, _≤_, _<_, zero-le}
-use native.Mathlib.Nat.{zero-mul, mul-pos, mul-assoc, mul-comm, mul-left-comm, mul-le-mul-right, lt-of-mul-lt-mul-right, mul-lt-mul-of-pos-right, le-trans, le-of-eq, le-of-lt, lt-of-not-le, sub-add-cancel, zero-lt-suc, pow-suc, lt-irrefl, lt-trans, add-comm, mul-mul-mul-comm}
+use native.Mathlib.Nat.{zero-mul, mul-pos, mul-assoc, mul-comm, mul-left-comm, mul-le-mul, mul-le-mul-left, mul-le-mul-right, lt-of-mul-lt-mul-right, mul-lt-mul-of-pos-right, le-trans, le-of-eq, le-of-lt, not-le-of-lt, lt-of-not-le, sub-add-cancel, zero-lt-suc, pow-suc, lt-irrefl, lt-trans, add-comm, mul-mul-mul-comm}
 use native.Mathlib.Decide.{decLe}
 use native.Mathlib.Omega.{arith}
 use lib.IntN.{ℤ}
@@ -212,6 +212,17 @@ root-only (inf false) r h e = e ∙ sym (root-is (inf false) h)
 root-only (fin s zero e) r h p = p ∙ sym (root-is (fin s zero e) h)
 root-only (fin true (suc m) e) r h p = p ∙ sym (root-is (fin true (suc m) e) h)
 root-only (fin false (suc m) e) r h p = nearest-only (fin false (suc m) e) r (root (fin false (suc m) e)) p (root-is (fin false (suc m) e) h)
+
+-- ---- and it is not below a number whose square is at most x
+
+middle-most : (a b c d n k : ℕ) → n * n * b ≤ a * (k * k) → c * k ≤ n * d → square (n * d + c * k) * b ≤ 4 * square (k * d) * a
+middle-most a b c d n k h l =
+    let s : n * d + c * k ≤ 2 * (n * d) = omega arith in
+    omega (arith, mul-le-mul-right b (mul-le-mul s s), mul-le-mul-left (4 * (d * d)) h)
+
+pub root-least : (x r : Float) (n : ℕ) (e : ℤ) → NearestRoot x r → T (fits binary64 (fin false n e)) → n * up e * (n * up e) * den x ≤ num x * (down e * down e) → T (lt r (fin false n e)) → ⊥
+root-least x r n e v f h l =
+    not-le-of-lt (v .under n e f l) (middle-most (num x) (den x) (num r) (den r) (n * up e) (down e) h (le-of-lt (above→cross n e r (v .above) l)))
 
 -- ---- and what the steps of the code come to
 

@@ -10,16 +10,19 @@ use complex::entry::put;
 use complex::magnitude::abs;
 use complex::magnitude::magnitude;
 use complex::slices::clear;
+use complex::sqmag;
 ghost use mathlib.Core.Path.{_≡_};
 ghost use mathlib.Core.Bool.{cond};
 ghost use mathlib.Core.List.{_++_};
 ghost use Prim.Native.Nat.{_<_, _≤_, _*_, _+_, _-_};
 ghost use lib.ListN.{length, set, replicate, drop};
-ghost use lib.Ieee.{binary64, ofInt};
+ghost use lib.Ieee.{binary64, lt, ofInt};
 ghost use lib.IntN.{pos};
 ghost use Rattle.complex.specs.Entries as entries;
 ghost use Rattle.complex.specs.Matrices as matrices;
 ghost use Rattle.complex.specs.Arithmetic as arithmetic;
+ghost use Rattle.complex.specs.Magnitude as magnitudes;
+ghost use Rattle.complex.specs.Constants.{weak};
 ghost use Rattle.refusals.specs.Refusals as refusals;
 ghost use Rattle.rei_core.specs.Rei as spec;
 ghost use Rattle.rei_core.specs.ReiWriting as writing;
@@ -211,13 +214,23 @@ fn spoke_all(n: usize, y: &[f64], spokes: &mut [f64])
 fn spoke(n: f64, y: Complex) -> Complex
     ensures { λ r. ⌜ r ≡ spec.spoke n y ⌝ }
 {
-    if magnitude(y) > WEAK {
+    if has_spoke(y) {
         return Complex {
             re: y.re / n,
             im: y.im / n,
         };
     }
     Complex { re: 0.0, im: 0.0 }
+}
+
+// Whether the magnitude is above WEAK. Of a square above 2^-78 no root is taken: it is not below 2^-39, which is above WEAK.
+fn has_spoke(y: Complex) -> bool
+    ensures { λ r. ⌜ r ≡ lt weak (magnitudes.magnitude y) ⌝ }
+{
+    if sqmag(y) > 3.308722450212111e-24 {
+        return true;
+    }
+    magnitude(y) > WEAK
 }
 
 fn is_tie(y: Complex) -> bool

@@ -6,16 +6,16 @@ use borrow.Author.Needs.{needs}
 use Rattle.rei_core.proofs.spoke.Statement.{statement}
 use Rattle.rei_core.proofs.spoke.Tie as tie
 
-magnitude-requires : tie.Need-magnitude-requires
-magnitude-requires c κs = search needs
+has-spoke-requires : tie.Need-has-spoke-requires
+has-spoke-requires c κs = search needs
 
 returns : tie.Need-returns
 unfolding spoke weak plus0
-returns c = rw (← c .before .before .before .magnitude .ensures, c .before .before .if1 .taken)
+returns c = rw (← c .before .before .before .has-spoke .ensures, c .before .before .if1 .taken)
 
 returns-2 : tie.Need-returns-2
 unfolding spoke weak plus0
-returns-2 c = rw (← c .before .magnitude .ensures, c .if1 .left)
+returns-2 c = rw (← c .before .has-spoke .ensures, c .if1 .left)
 
 pub spoke-spec : {M : Type 1} → statement M
-spoke-spec = tie.close (tie.spec magnitude-requires returns returns-2)
+spoke-spec = tie.close (tie.spec has-spoke-requires returns returns-2)
