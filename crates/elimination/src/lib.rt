@@ -2,6 +2,8 @@
 // The functions here have a `requires`, which their callers prove.
 use complex::constants::TINY;
 use complex::entry::get;
+use gauss_jordan::blocks::Span;
+use gauss_jordan::blocks::span_of;
 use gauss_jordan::rows;
 use refusals::LIMIT;
 ghost use mathlib.Core.Path.{_≡_};
@@ -47,9 +49,8 @@ fn read_row(work: &[f64], n: usize, w: usize, r: usize, row: &mut [f64])
     requires { ⌜ (Augmented n w (length (now work))) × (r < n) × (length (now row) ≡ 2 * w) ⌝ }
     ensures { λ _. ⌜ ((j : ℕ) → j < w → entry (now (row .exit)) j ≡ entryAt w (now (work .entry)) r j) ⌝ }
 {
-    let a = 2 * (r * w);
-    let e = a + 2 * w;
-    rows::copy(&work[a..e], row);
+    let Span { start, end } = span_of(n, w, 0, w, r);
+    rows::copy(&work[start..end], row);
 }
 
 // Row r becomes `row`.
@@ -57,9 +58,8 @@ fn write_row(work: &mut [f64], n: usize, w: usize, r: usize, row: &[f64])
     requires { ⌜ (Augmented n w (length (now work))) × (r < n) × (length (now row) ≡ 2 * w) ⌝ }
     ensures { λ _. ⌜ ((i j : ℕ) → j < w → entryAt w (now (work .exit)) i j ≡ withRow r (entry (now (row .entry))) (entryAt w (now (work .entry))) i j) ⌝ }
 {
-    let a = 2 * (r * w);
-    let e = a + 2 * w;
-    rows::copy(row, &mut work[a..e]);
+    let Span { start, end } = span_of(n, w, 0, w, r);
+    rows::copy(row, &mut work[start..end]);
 }
 
 // Row r becomes `row`, and `row` what it was.
@@ -67,9 +67,8 @@ fn exchange_row(work: &mut [f64], n: usize, w: usize, r: usize, row: &mut [f64])
     requires { ⌜ (Augmented n w (length (now work))) × (r < n) × (length (now row) ≡ 2 * w) ⌝ }
     ensures { λ _. ⌜ ((i j : ℕ) → j < w → entryAt w (now (work .exit)) i j ≡ withRow r (entry (now (row .entry))) (entryAt w (now (work .entry))) i j) × ((j : ℕ) → j < w → entry (now (row .exit)) j ≡ entryAt w (now (work .entry)) r j) ⌝ }
 {
-    let a = 2 * (r * w);
-    let e = a + 2 * w;
-    rows::exchange(&mut work[a..e], row);
+    let Span { start, end } = span_of(n, w, 0, w, r);
+    rows::exchange(&mut work[start..end], row);
 }
 
 // Rows c and p change places; `row` then holds row c.
@@ -90,9 +89,8 @@ fn reduce_row(work: &mut [f64], n: usize, w: usize, i: usize, c: usize, pivot: &
     if i == c {
         return;
     }
-    let a = 2 * (i * w);
-    let e = a + 2 * w;
-    rows::reduce(&mut work[a..e], w, c, pivot);
+    let Span { start, end } = span_of(n, w, 0, w, i);
+    rows::reduce(&mut work[start..end], w, c, pivot);
 }
 
 // All rows but row c are reduced by the pivot row, which is row c.

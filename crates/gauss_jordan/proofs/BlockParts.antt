@@ -1,15 +1,16 @@
--- Blocks of columns in a slice of rows: where a row's block lies, the slice when it came back, a block read, and a single entry stored.
+-- Blocks of columns in a slice of rows: a row's block read, the slice when it came back, and a single entry stored.
 -- Assumes nothing.
-use mathlib.Core.Path.{_≡_, refl, sym, ap, _∙_}
+use mathlib.Core.Path.{_≡_, refl, ap, _∙_}
 use mathlib.Core.Logic.{_⊎_, inl, inr}
 use mathlib.Core.Bool.{Bool, true, false, _&&_, cond}
 use mathlib.Core.List.{List}
 use Prim.Native.Nat.{ℕ, zero, suc, _+_, _*_, _-_, _≤_, _<_}
-use native.Mathlib.Nat.{add-assoc, mul-add}
+use native.Mathlib.Nat.{add-assoc}
 use native.Mathlib.Omega.{arith}
 use borrow.Author.Tests.{eqb-true, eqb-false, leb-true, leb-false, ltb-true, ltb-false, le-leb, lt-leb, lt-ltb, le-ltb}
 use lib.Dec.{eqb, leb, ltb}
-use lib.ListN.{length, take, drop}
+use lib.ListN.{length, take, drop, length-drop}
+use lib.Seq.{length-take-le}
 use lib.Arith.{digits-lt}
 use lib.Ieee.{Float}
 use Rattle.complex.specs.declared.Complex.{Complex}
@@ -19,8 +20,7 @@ use Rattle.complex.specs.Matrices.{Matrix, entryAt}
 use Rattle.complex.proofs.Parts.{back}
 use Rattle.complex.proofs.Entries.{entry-take, entry-drop, entry-back-before, entry-back-in, entry-back-after, entry-put-same, entry-put-other}
 use Rattle.complex.proofs.Matrices.{row-within, entry-within}
-use Rattle.gauss_jordan.specs.Work.{withRow, placed, beyond, diagonal}
-use Rattle.gauss_jordan.proofs.RowParts.{row-end, row-written}
+use Rattle.gauss_jordan.specs.Work.{Lies, withRow, placed, beyond, diagonal}
 
 apart : (a b : ℕ) → (a ≡ b → ⊥) → (a < b) ⊎ (b < a)
 apart zero zero m = absurd (m refl)
@@ -28,33 +28,35 @@ apart zero (suc b) m = inl (omega arith)
 apart (suc a) zero m = inr (omega arith)
 apart (suc a) (suc b) m = elim (apart a b (λ (e : a ≡ b). m (ap suc e))) [ inl l ↦ inl (omega arith) | inr l ↦ inr (omega arith) ]
 
--- row i's block ends within the slice
-pub block-end : (n w at m i : ℕ) → i < n → at + m ≤ w → 2 * (i * w) + 2 * at + 2 * m ≤ 2 * (n * w)
-block-end n w at m i h k = let b = row-end n w i h in omega arith
-
 -- ---- a block read
 
-pub block-read : (w at m i k : ℕ) (xs : List Float) → k ≡ 2 * m → (j : ℕ) → j < m → entry (take k (drop (2 * (i * w) + 2 * at) xs)) j ≡ beyond at (entryAt w xs) i j
-unfolding beyond entryAt
-block-read w at m i k xs e j h =
-    ap (λ (l : ℕ). entry (take l (drop (2 * (i * w) + 2 * at) xs)) j) e
-    ∙ ap (λ (p : ℕ). entry (take (2 * m) (drop p xs)) j) (sym (mul-add 2 (i * w) at))
-    ∙ entry-take m (drop (2 * (i * w + at)) xs) j h
-    ∙ entry-drop (i * w + at) xs j
-    ∙ ap (entry xs) (add-assoc (i * w) at j)
+module _ {n w at m i a e : ℕ} (lies : Lies n w at m i a e) (xs : List Float) where
+  count : e - a ≡ 2 * m
+  count = omega arith
+
+  block-long : length xs ≡ 2 * (n * w) → length (take (e - a) (drop a xs)) ≡ 2 * m
+  block-long full = length-take-le (e - a) (drop a xs) (rw length-drop (omega arith)) ∙ count
+
+  pub block-read : (j : ℕ) → j < m → entry (take (e - a) (drop a xs)) j ≡ beyond at (entryAt w xs) i j
+  unfolding beyond entryAt
+  block-read j h =
+      rw (count, lies .begins) (entry-take m (drop (2 * (i * w + at)) xs) j h ∙ entry-drop (i * w + at) xs j ∙ ap (entry xs) (add-assoc (i * w) at j))
 
 -- ---- a block that came back
 
-module _ (n w at m i : ℕ) (xs vs : List Float) (h : i < n) (within : at + m ≤ w) (full : length xs ≡ 2 * (n * w)) (long : length vs ≡ 2 * m) where
+module _ {n w at m i a e : ℕ} (lies : Lies n w at m i a e) (xs vs : List Float) (full : length xs ≡ 2 * (n * w)) (kept : length vs ≡ length (take (e - a) (drop a xs))) where
   zs : List Float
   zs = back (2 * (i * w + at)) (2 * m) xs vs
 
   fits : 2 * (i * w + at + m) ≤ length xs
-  fits = let b = block-end n w at m i h within in omega arith
+  fits = omega arith
+
+  long : length vs ≡ 2 * m
+  long = kept ∙ block-long lies xs full
 
   other : (r j : ℕ) → (r ≡ i → ⊥) → j < w → entryAt w zs r j ≡ entryAt w xs r j
   unfolding entryAt zs
-  other r j a k = pick (apart r i a)
+  other r j d k = pick (apart r i d)
     where
       pick : (r < i) ⊎ (i < r) → entry (back (2 * (i * w + at)) (2 * m) xs vs) (r * w + j) ≡ entry xs (r * w + j)
       pick (inl l) = let b : r * w + j < i * w = digits-lt l k in entry-back-before (i * w + at) m xs vs fits long (r * w + j) (omega arith)
@@ -91,13 +93,10 @@ module _ (n w at m i : ℕ) (xs vs : List Float) (h : i < n) (within : at + m �
       pick true t = ap (λ (x : ℕ). entryAt w zs x j) (eqb-true r i t) ∙ own B same j
       pick false t = other r j (eqb-false r i t) k
 
-  pub block-written : (k : ℕ) → k ≡ 2 * m → (B : Matrix) → ((q : ℕ) → q < m → entry vs q ≡ B i q) → (r j : ℕ) → j < w
-      → entryAt w (back (2 * (i * w) + 2 * at) k xs vs) r j ≡ withRow i (placed at m B (entryAt w xs) i) (entryAt w xs) r j
+  pub block-written : (B : Matrix) → ((q : ℕ) → q < m → entry vs q ≡ B i q) → (r j : ℕ) → j < w
+      → entryAt w (back a (e - a) xs vs) r j ≡ withRow i (placed at m B (entryAt w xs) i) (entryAt w xs) r j
   unfolding zs
-  block-written k e B same r j hj =
-      ap (λ (l : ℕ). entryAt w (back (2 * (i * w) + 2 * at) l xs vs) r j) e
-      ∙ ap (λ (p : ℕ). entryAt w (back p (2 * m) xs vs) r j) (sym (mul-add 2 (i * w) at))
-      ∙ written B same r j hj
+  block-written B same r j h = rw (count lies xs, lies .begins) (written B same r j h)
 
 -- the block's row as it was before the first was put in
 pub placed-same : (at m i w : ℕ) (B A C : Matrix) → ((q : ℕ) → q < w → A i q ≡ C i q) → (q : ℕ) → q < w → placed at m B A i q ≡ placed at m B C i q
@@ -115,15 +114,6 @@ placed-left at m B A i j h = rw (lt-leb at j h)
 pub placed-right : (at m : ℕ) (B A : Matrix) (i j : ℕ) → at + m ≤ j → placed at m B A i j ≡ A i j
 unfolding placed
 placed-right at m B A i j h = rw (le-leb at j (omega arith), le-ltb j (at + m) h)
-
--- a row of the other slice came back with the block's
-pub block-taken : (n w at m i k l : ℕ) (xs ys vs : List Float) → i < n → k ≡ 2 * m → l ≡ 2 * m → length ys ≡ 2 * (n * m) → length vs ≡ 2 * m
-    → vs ≡ take l (drop (2 * (i * w) + 2 * at) xs)
-    → (r j : ℕ) → j < m → entryAt m (back (2 * (i * m)) k ys vs) r j ≡ withRow i (beyond at (entryAt w xs) i) (entryAt m ys) r j
-unfolding withRow
-block-taken n w at m i k l xs ys vs h e d full long is r j hj =
-    row-written n m i k ys vs e full h long r j hj
-    ∙ ap (λ (x : Complex). cond (eqb r i) x (entryAt m ys r j)) (ap (λ (zs : List Float). entry zs j) is ∙ block-read w at m i l xs d j hj)
 
 -- ---- one entry stored
 

@@ -1,48 +1,38 @@
--- Rows as parts of the work slice: where a row lies, the slice when its row came back, rows swapped, scaled and reduced.
+-- Rows as parts of the work slice: a row read, the slice when its row came back, rows swapped, scaled and reduced.
 -- Assumes nothing.
 use mathlib.Core.Path.{_≡_, refl, sym, ap, _∙_}
 use mathlib.Core.Bool.{Bool, true, false, _||_, cond}
 use mathlib.Core.List.{List}
-use Prim.Native.Nat.{ℕ, _+_, _*_, _≤_, _<_}
+use Prim.Native.Nat.{ℕ, _*_, _-_, _<_}
+use native.Mathlib.Nat.{zero-add, sub-zero}
 use native.Mathlib.Omega.{arith}
-use borrow.Author.Tests.{eqb-true, eqb-false, eq-eqb, ne-eqb}
+use borrow.Author.Tests.{eqb-true, eq-eqb, ne-eqb}
 use lib.Dec.{eqb}
-use lib.ListN.{length, take, drop, length-drop}
-use lib.Seq.{length-take-le}
+use lib.ListN.{length, take, drop}
 use lib.Ieee.{Float}
 use Rattle.complex.specs.declared.Complex.{Complex}
 use Rattle.complex.specs.Arithmetic.{cmul, csub, complexInv}
 use Rattle.complex.specs.Entries.{entry}
 use Rattle.complex.specs.Matrices.{Matrix, entryAt}
 use Rattle.complex.proofs.Parts.{back}
-use Rattle.complex.proofs.Matrices.{row-within, entry-part, row-back-same, row-back-other}
 use Rattle.gauss_jordan.specs.GaussJordan.{swapped, scaled, reduced}
 use Rattle.gauss_jordan.specs.Solving.{operations, skipped}
-use Rattle.gauss_jordan.specs.Work.{withRow, reducedEntry, reducedRow}
+use Rattle.gauss_jordan.specs.Work.{Lies, withRow, beyond, reducedEntry, reducedRow}
+use Rattle.gauss_jordan.proofs.BlockParts.{block-read, block-written, placed-in}
 
--- row r ends within the slice
-pub row-end : (n w r : ℕ) → r < n → 2 * (r * w) + 2 * w ≤ 2 * (n * w)
-row-end n w r h = let b = row-within n w r h in omega arith
+-- ---- a row read, and a row that came back: a row is the block of its w entries from column 0 on
 
-pub length-part : (a k : ℕ) (xs : List Float) → a + k ≤ length xs → length (take k (drop a xs)) ≡ k
-length-part a k xs h = length-take-le k (drop a xs) (rw length-drop (omega arith))
+module _ {n w r a e : ℕ} (lies : Lies n w 0 w r a e) (xs : List Float) where
+  pub row-read : (j : ℕ) → j < w → entry (take (e - a) (drop a xs)) j ≡ entryAt w xs r j
+  unfolding beyond
+  row-read j h = block-read lies xs j h ∙ ap (entryAt w xs r) (zero-add j)
 
--- ---- a row read, and a row that came back
-
-pub row-read : (w r k : ℕ) (xs : List Float) → k ≡ 2 * w → (j : ℕ) → j < w → entry (take k (drop (2 * (r * w)) xs)) j ≡ entryAt w xs r j
-row-read w r k xs e j h = ap (λ (m : ℕ). entry (take m (drop (2 * (r * w)) xs)) j) e ∙ entry-part w xs r j h
-
-pub row-written : (n w r k : ℕ) (xs ys : List Float) → k ≡ 2 * w → length xs ≡ 2 * (n * w) → r < n → length ys ≡ 2 * w
-    → (i j : ℕ) → j < w → entryAt w (back (2 * (r * w)) k xs ys) i j ≡ withRow r (entry ys) (entryAt w xs) i j
-unfolding withRow
-row-written n w r k xs ys e full h long i j hj = ap (λ (m : ℕ). entryAt w (back (2 * (r * w)) m xs ys) i j) e ∙ pick (eqb i r) refl
-  where
-    fits : 2 * (r * w + w) ≤ length xs
-    fits = let b = row-end n w r h in omega arith
-
-    pick : (b : Bool) → eqb i r ≡ b → entryAt w (back (2 * (r * w)) (2 * w) xs ys) i j ≡ cond b (entry ys j) (entryAt w xs i j)
-    pick true t = ap (λ (m : ℕ). entryAt w (back (2 * (r * w)) (2 * w) xs ys) m j) (eqb-true i r t) ∙ row-back-same w r xs ys fits long j hj
-    pick false t = row-back-other w r xs ys fits long i j (eqb-false i r t) hj
+  pub row-written : (vs : List Float) → length xs ≡ 2 * (n * w) → length vs ≡ length (take (e - a) (drop a xs)) → (f : ℕ → Complex) → ((q : ℕ) → q < w → entry vs q ≡ f q)
+      → (i j : ℕ) → j < w → entryAt w (back a (e - a) xs vs) i j ≡ withRow r f (entryAt w xs) i j
+  unfolding withRow
+  row-written vs full kept f same i j h =
+      block-written lies xs vs full kept (λ (p : ℕ). f) same i j h
+      ∙ ap (λ (x : Complex). cond (eqb i r) x (entryAt w xs i j)) (placed-in 0 w (λ (p : ℕ). f) (entryAt w xs) r j (omega arith) (omega arith) ∙ ap f (sub-zero j))
 
 -- ---- row c copied, put in the place of row p, and what stood there put in the place of row c
 
@@ -84,22 +74,16 @@ row-kept w c i f A e r j = pick (eqb r i) refl
     pick false t = refl
 
 -- another row came back reduced
-pub row-reduced : (n w c i k : ℕ) (pivot xs vs : List Float) → c < w → i < n → (i ≡ c → ⊥) → k ≡ 2 * w → length xs ≡ 2 * (n * w)
-    → length vs ≡ length (take k (drop (2 * (i * w)) xs))
-    → ((q : ℕ) → q < w → entry vs q ≡ reducedEntry (entry (take k (drop (2 * (i * w)) xs)) c) (entry pivot q) (entry (take k (drop (2 * (i * w)) xs)) q))
-    → (r j : ℕ) → j < w → entryAt w (back (2 * (i * w)) k xs vs) r j ≡ withRow i (reducedRow c (entry pivot) (entryAt w xs) i) (entryAt w xs) r j
-unfolding withRow reducedRow
-row-reduced n w c i k pivot xs vs hc hi apart ek full kept done r j hj =
-    let inside : 2 * (i * w) + k ≤ length xs = let b = row-end n w i hi in omega arith in
-    let long : length vs ≡ 2 * w = kept ∙ length-part (2 * (i * w)) k xs inside ∙ ek in
-    let here : entry vs j ≡ reducedEntry (entryAt w xs i c) (entry pivot j) (entryAt w xs i j) =
-    done j hj
-    ∙ ap (λ (x : Complex). reducedEntry x (entry pivot j) (entry (take k (drop (2 * (i * w)) xs)) j)) (row-read w i k xs ek c hc)
-    ∙ ap (reducedEntry (entryAt w xs i c) (entry pivot j)) (row-read w i k xs ek j hj) in
-    let other : cond (eqb i c) (entryAt w xs i j) (reducedEntry (entryAt w xs i c) (entry pivot j) (entryAt w xs i j)) ≡ reducedEntry (entryAt w xs i c) (entry pivot j) (entryAt w xs i j) =
-    ap (λ (b : Bool). cond b (entryAt w xs i j) (reducedEntry (entryAt w xs i c) (entry pivot j) (entryAt w xs i j))) (ne-eqb i c apart) in
-    row-written n w i k xs vs ek full hi long r j hj
-    ∙ ap (λ (x : Complex). cond (eqb r i) x (entryAt w xs r j)) (here ∙ sym other)
+pub row-reduced : {n w i a e : ℕ} → Lies n w 0 w i a e → (c : ℕ) (pivot xs vs : List Float) → c < w → (i ≡ c → ⊥) → length xs ≡ 2 * (n * w)
+    → length vs ≡ length (take (e - a) (drop a xs))
+    → ((q : ℕ) → q < w → entry vs q ≡ reducedEntry (entry (take (e - a) (drop a xs)) c) (entry pivot q) (entry (take (e - a) (drop a xs)) q))
+    → (r j : ℕ) → j < w → entryAt w (back a (e - a) xs vs) r j ≡ withRow i (reducedRow c (entry pivot) (entryAt w xs) i) (entryAt w xs) r j
+unfolding reducedRow
+row-reduced {w = w} {i = i} lies c pivot xs vs hc apart full kept done =
+    row-written lies xs vs full kept (reducedRow c (entry pivot) (entryAt w xs) i) changed
+  where
+    changed : (q : ℕ) → q < w → entry vs q ≡ reducedRow c (entry pivot) (entryAt w xs) i q
+    changed q h = rw (ne-eqb i c apart, ← row-read lies xs c hc, ← row-read lies xs q h) (done q h)
 
 -- the row to be reduced is as it was before the first was
 pub same-row : (w c i : ℕ) (f : ℕ → Complex) (A B : Matrix) → c < w → ((q : ℕ) → q < w → A i q ≡ B i q) → (q : ℕ) → q < w → reducedRow c f A i q ≡ reducedRow c f B i q

@@ -39,6 +39,13 @@ pub record Column (n w c : ℕ) (small : Bool) (before after : List Float) : Typ
 
 -- ---- blocks of m columns from column `at` on
 
+-- row i's lies from start to end in a slice of n rows of w entries
+pub record Lies (n w at m i start end : ℕ) : Type 0 where
+  pub within : at + m ≤ w
+  pub begins : start ≡ 2 * (i * w + at)
+  pub ends : end ≡ 2 * (i * w + at + m)
+  pub fits : end ≤ 2 * (n * w)
+
 -- of a slice of n rows of w entries, and one of n rows of m
 pub record Block (n w at m long part : ℕ) : Type 0 where
   pub within : at + m ≤ w

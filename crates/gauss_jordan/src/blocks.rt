@@ -6,18 +6,34 @@ use complex::entry::put;
 ghost use mathlib.Core.Path.{_≡_};
 ghost use Prim.Native.Nat.{ℕ, _+_, _*_, _<_, _≤_};
 ghost use lib.ListN.{length};
+ghost use mir.Syntax.{w64};
+ghost use mir.Val.{Fits};
 ghost use Rattle.complex.specs.Matrices.{entryAt, grid};
-ghost use Rattle.gauss_jordan.specs.Work.{Block, withRow, placed, diagonal, beyond};
+ghost use Rattle.gauss_jordan.specs.Work.{Block, Lies, withRow, placed, diagonal, beyond};
+
+// A part of a slice.
+pub struct Span {
+    pub start: usize,
+    pub end: usize,
+}
+
+// Where row i's m entries from column `at` on lie, in a slice of n rows of w entries. A whole row is the w from column 0 on.
+pub fn span_of(n: usize, w: usize, at: usize, m: usize, i: usize) -> Span
+    requires { ⌜ (i < n) × (at + m ≤ w) × Fits w64 (2 * (n * w)) ⌝ }
+    ensures { λ s. ⌜ Lies n w at m i (s .start) (s .end) ⌝ }
+{
+    let start = 2 * (i * w + at);
+    let end = start + 2 * m;
+    Span { start, end }
+}
 
 fn place_row(work: &mut [f64], n: usize, w: usize, at: usize, m: usize, i: usize, from: &[f64])
     requires { ⌜ (Block n w at m (length (now work)) (length (now from))) × (i < n) ⌝ }
     ensures { λ _. ⌜ ((r j : ℕ) → j < w → entryAt w (now (work .exit)) r j ≡ withRow i (placed at m (entryAt m (now (from .entry))) (entryAt w (now (work .entry))) i) (entryAt w (now (work .entry))) r j) ⌝ }
 {
-    let p = 2 * (i * w) + 2 * at;
-    let pe = p + 2 * m;
-    let q = 2 * (i * m);
-    let qe = q + 2 * m;
-    rows::copy(&from[q..qe], &mut work[p..pe]);
+    let Span { start: a, end: b } = span_of(n, m, 0, m, i);
+    let Span { start, end } = span_of(n, w, at, m, i);
+    rows::copy(&from[a..b], &mut work[start..end]);
 }
 
 // The matrix `from`, n rows of m entries, is put into the columns from `at` on.
@@ -36,11 +52,9 @@ fn take_row(work: &[f64], n: usize, w: usize, at: usize, m: usize, i: usize, to:
     requires { ⌜ (Block n w at m (length (now work)) (length (now to))) × (i < n) ⌝ }
     ensures { λ _. ⌜ ((r j : ℕ) → j < m → entryAt m (now (to .exit)) r j ≡ withRow i (beyond at (entryAt w (now (work .entry))) i) (entryAt m (now (to .entry))) r j) ⌝ }
 {
-    let p = 2 * (i * w) + 2 * at;
-    let pe = p + 2 * m;
-    let q = 2 * (i * m);
-    let qe = q + 2 * m;
-    rows::copy(&work[p..pe], &mut to[q..qe]);
+    let Span { start: a, end: b } = span_of(n, m, 0, m, i);
+    let Span { start, end } = span_of(n, w, at, m, i);
+    rows::copy(&work[start..end], &mut to[a..b]);
 }
 
 // The m columns from `at` on are copied to `to`, n rows of m entries.

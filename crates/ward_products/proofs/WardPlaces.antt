@@ -4,23 +4,20 @@ use mathlib.Core.Path.{_≡_, refl, sym, ap, subst, _∙_}
 use mathlib.Core.List.{List, [], _∷_, _++_, map}
 use Prim.Native.Nat.{ℕ, zero, suc, _+_, _*_, _<_, _≤_}
 use native.Mathlib.Omega.{arith}
-use lib.Dec.{eqb, ltb}
-use lib.ListN.{length, getD, take, drop, length-map}
+use lib.Dec.{ltb}
+use lib.ListN.{length, getD, length-map}
 use lib.Seq.{ext-getD}
 use lib.Ieee.{Float, nan}
 use native.Mathlib.Numerals.{add-one}
-use native.Mathlib.Nat.{eq-or-lt-of-le, add-assoc}
+use native.Mathlib.Nat.{eq-or-lt-of-le}
 use borrow.Author.Tests.{lt-ltb, le-ltb}
 use mathlib.Core.Logic.{_⊎_, inl, inr}
 use mathlib.Core.Bool.{cond}
-use Rattle.complex.proofs.Parts.{back}
-use Rattle.gauss_jordan.specs.Work.{withRow}
-use Rattle.gauss_jordan.proofs.RowParts.{row-written}
 use Rattle.complex.specs.declared.Complex.{Complex}
 use Rattle.complex.specs.Arithmetic.{cadd, cmul}
 use Rattle.complex.specs.Entries.{entry, put}
 use Rattle.complex.specs.Matrices.{Matrix, entryAt, row, zeros}
-use Rattle.complex.proofs.Entries.{parts-same, length-put, entry-put-same, entry-put-other, entry-append-left, entry-take, entry-drop}
+use Rattle.complex.proofs.Entries.{parts-same, length-put, entry-put-same, entry-put-other, entry-append-left}
 use Rattle.complex.proofs.Matrices.{entry-within, length-row, entry-row, getD-zeros}
 use Rattle.gauss_jordan.proofs.Passed.{Put, put-more, Stored}
 use Rattle.ward_products.specs.WardArithmetic.{sumUp}
@@ -77,21 +74,6 @@ augmented-row n ys bs k c zs f g j h = pick (eq-or-lt-of-le {n = j} {m = length 
     pick : (j ≡ length bs) ⊎ (j < length bs) → entry zs j ≡ cond (ltb j (length bs)) (entryAt n ys (getD bs k 0) (getD bs j 0)) c
     pick (inl e) = rw (le-ltb j (length bs) (omega arith)) (ap (entry zs) e ∙ g)
     pick (inr l) = rw (lt-ltb j (length bs) l) (f j l)
-
--- row r came back with the entries f
-pub row-became : (n w r k : ℕ) (xs ys : List Float) → k ≡ 2 * w → length xs ≡ 2 * (n * w) → r < n → length ys ≡ 2 * w
-    → (f : ℕ → Complex) → ((j : ℕ) → j < w → entry ys j ≡ f j) → (i j : ℕ) → j < w → entryAt w (back (2 * (r * w)) k xs ys) i j ≡ withRow r f (entryAt w xs) i j
-unfolding withRow
-row-became n w r k xs ys e full h long f g i j l = row-written n w r k xs ys e full h long i j l ∙ ap (λ (x : Complex). cond (eqb i r) x (entryAt w xs i j)) (g j l)
-
--- the r entries of row k behind the first e
-pub part-entry : (w k e r m : ℕ) (ws : List Float) → m ≡ 2 * r → (q : ℕ) → q < r → entry (take m (drop (2 * (k * w + e)) ws)) q ≡ entryAt w ws k (e + q)
-unfolding entryAt
-part-entry w k e r m ws p q h =
-    ap (λ (l : ℕ). entry (take l (drop (2 * (k * w + e)) ws)) q) p
-    ∙ entry-take r (drop (2 * (k * w + e)) ws) q h
-    ∙ entry-drop (k * w + e) ws q
-    ∙ ap (entry ws) (add-assoc (k * w) e q)
 
 -- ---- one number for each of a list of buses
 

@@ -4,6 +4,8 @@ use complex::Complex;
 use complex::entry::get;
 use complex::entry::put;
 use complex::slices::clear;
+use gauss_jordan::blocks::Span;
+use gauss_jordan::blocks::span_of;
 ghost use mathlib.Core.Path.{_≡_};
 ghost use mathlib.Core.List.{map};
 ghost use Prim.Native.Nat.{ℕ, _+_, _*_, _<_, _≤_};
@@ -52,9 +54,8 @@ fn fill_at(y: &[f64], n: usize, buses: &[usize], e: usize, k: usize, c: Complex,
     ensures { λ _. ⌜ ((r j : ℕ) → j < length (now (buses .entry)) + 1 → matrices.entryAt (length (now (buses .entry)) + 1) (now (work .exit)) r j ≡ withRow k (spec.augmentedRow n (now (y .entry)) (now (buses .entry)) k c) (matrices.entryAt (length (now (buses .entry)) + 1) (now (work .entry))) r j) ⌝ }
 {
     let w = buses.len() + 1;
-    let a = 2 * (k * w);
-    let end = a + 2 * w;
-    fill_row(y, n, buses[k], buses, c, &mut work[a..end]);
+    let Span { start, end } = span_of(e, w, 0, w, k);
+    fill_row(y, n, buses[k], buses, c, &mut work[start..end]);
 }
 
 // The work slice before the elimination. The external buses are the first e of the list; p and q are in MW and MVAr, base in MVA.
@@ -111,9 +112,9 @@ fn add_term(
     requires { ⌜ (spec.Listing n (now y) (now outer)) × (bus < n) × (k < length (now outer)) × (spec.Rows (now outer) w (now work)) × (length (now outer) + r ≤ w) × (length (now to) ≡ 2 * r) ⌝ }
     ensures { λ _. ⌜ ((q : ℕ) → q < r → entry (now (to .exit)) q ≡ arithmetic.cadd (entry (now (to .entry)) q) (arithmetic.cmul (matrices.entryAt n (now (y .entry)) bus (getD (now (outer .entry)) k 0)) (matrices.entryAt w (now (work .entry)) k (length (now (outer .entry)) + q)))) ⌝ }
 {
-    let a = 2 * (k * w + outer.len());
-    let end = a + 2 * r;
-    add_scaled(to, r, at(y, n, bus, outer[k]), &work[a..end]);
+    let e = outer.len();
+    let Span { start, end } = span_of(e, w, e, r, k);
+    add_scaled(to, r, at(y, n, bus, outer[k]), &work[start..end]);
 }
 
 // The row of a bus in Y_re times the columns behind the system's, added to what the row holds.
@@ -185,9 +186,8 @@ fn reduce_at(
     ensures { λ _. ⌜ ((r q : ℕ) → q < length (now (kept .entry)) → matrices.entryAt (length (now (kept .entry))) (now (to .exit)) r q ≡ withRow p (spec.lessProduct n (now (y .entry)) (now (outer .entry)) (now (kept .entry)) w (now (work .entry)) (getD (now (kept .entry)) p 0)) (matrices.entryAt (length (now (kept .entry))) (now (to .entry))) r q) ⌝ }
 {
     let r = kept.len();
-    let a = 2 * (p * r);
-    let end = a + 2 * r;
-    reduce_row(y, n, kept[p], outer, kept, work, w, &mut to[a..end]);
+    let Span { start, end } = span_of(r, r, 0, r, p);
+    reduce_row(y, n, kept[p], outer, kept, work, w, &mut to[start..end]);
 }
 
 // The reduced matrix: Y_rr - Y_re X, where X stands in the work slice behind the system's columns.
@@ -215,9 +215,8 @@ fn pick_at(y: &[f64], n: usize, kept: &[usize], p: usize, to: &mut [f64])
     ensures { λ _. ⌜ ((r q : ℕ) → q < length (now (kept .entry)) → matrices.entryAt (length (now (kept .entry))) (now (to .exit)) r q ≡ withRow p (spec.pickedRow n (now (y .entry)) (now (kept .entry)) p) (matrices.entryAt (length (now (kept .entry))) (now (to .entry))) r q) ⌝ }
 {
     let r = kept.len();
-    let a = 2 * (p * r);
-    let end = a + 2 * r;
-    pick(y, n, kept[p], kept, &mut to[a..end]);
+    let Span { start, end } = span_of(r, r, 0, r, p);
+    pick(y, n, kept[p], kept, &mut to[start..end]);
 }
 
 // The given matrix in the rows and columns of the listed buses.

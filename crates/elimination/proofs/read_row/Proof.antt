@@ -2,41 +2,19 @@
 -- Assumes nothing.
 use mathlib.Core.Path.{ap, _∙_}
 use mathlib.Core.List.{List}
-use Prim.Native.Nat.{ℕ, _+_, _*_, _-_, _<_}
-use native.Mathlib.Omega.{arith}
+use Prim.Native.Nat.{ℕ, _<_}
 use borrow.Author.Needs.{needs}
 use lib.Ieee.{Float}
 use Rattle.complex.specs.Entries.{entry}
-use Rattle.gauss_jordan.proofs.RowParts.{row-end, row-read}
+use Rattle.gauss_jordan.proofs.RowParts.{row-read}
 use Rattle.elimination.proofs.read_row.Statement.{statement}
 use Rattle.elimination.proofs.read_row.Tie as tie
 
-mul-a : tie.Need-mul-a
-mul-a c =
-    let s = c .before .before in
-    let h = row-end (s .args .n) (s .args .w) (s .args .r) (s .pre .1) in
-    omega (arith, s .pre .0 .full, s .good .0 .0, s .good .0 .1)
-
-mul-a-2 : tie.Need-mul-a-2
-mul-a-2 c =
-    let s = c .before .before in
-    let h = row-end (s .args .n) (s .args .w) (s .args .r) (s .pre .1) in
-    omega (arith, s .pre .0 .full, s .good .0 .0, s .good .0 .1)
-
-mul-e : tie.Need-mul-e
-mul-e c = search needs
-
-add-e : tie.Need-add-e
-add-e c =
-    let s = c .before .before in
-    let h = row-end (s .args .n) (s .args .w) (s .args .r) (s .pre .1) in
-    omega (arith, s .pre .0 .full, s .good .0 .0, s .good .0 .1)
+span-of-requires : tie.Need-span-of-requires
+span-of-requires c κs = search needs
 
 mul-copy : tie.Need-mul-copy
-mul-copy c =
-    let s = c .before .before in
-    let h = row-end (s .args .n) (s .args .w) (s .args .r) (s .pre .1) in
-    omega (arith, s .pre .0 .full, s .good .0 .0, s .good .0 .1)
+mul-copy c = search needs
 
 sub-copy : tie.Need-sub-copy
 sub-copy c = search needs
@@ -45,10 +23,7 @@ part-copy-start : tie.Need-part-copy-start
 part-copy-start c = search needs
 
 part-copy-end : tie.Need-part-copy-end
-part-copy-end c =
-    let s = c .before .before in
-    let h = row-end (s .args .n) (s .args .w) (s .args .r) (s .pre .1) in
-    omega (arith, s .pre .0 .full, s .good .0 .0, s .good .0 .1)
+part-copy-end c = search needs
 
 copy-requires : tie.Need-copy-requires
 copy-requires c κs = search needs
@@ -58,19 +33,16 @@ same-length c = search needs
 
 returns : tie.Need-returns
 returns c =
-    let s = c .before .before .before .before .before .before .before in
-    let a = 2 * (s .args .r * s .args .w) in
-    λ (j : ℕ) (h : j < s .args .w).
-    ap (λ (l : List Float). entry l j) (c .before .before .copy .ensures) ∙ row-read (s .args .w) (s .args .r) (a + 2 * s .args .w - a) (s .args .work .now) (omega arith) j h
+    let x = c .before .before .copy in
+    let lies = c .before .before .before .before .before .span-of .ensures in
+    let a = c .before .before .before .before .before .before .before .before .args in
+    λ (j : ℕ) (h : j < a .w). ap (λ (l : List Float). entry l j) (x .ensures) ∙ row-read lies (a .work .now) j h
 
 pub read-row-spec : {M : Type 1} → statement M
 read-row-spec =
     tie.close
     (tie.spec
-    mul-a
-    mul-a-2
-    mul-e
-    add-e
+    span-of-requires
     mul-copy
     sub-copy
     part-copy-start

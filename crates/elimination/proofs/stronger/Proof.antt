@@ -5,6 +5,7 @@ use mathlib.Core.Bool.{true, false, cond}
 use Prim.Native.Nat.{ℕ, _+_, _*_, _<_}
 use native.Mathlib.Omega.{arith}
 use lib.Ieee.{Float, lt}
+use lib.ListN.{length}
 use borrow.Author.Needs.{needs}
 use Rattle.complex.specs.Arithmetic.{sqmag}
 use Rattle.complex.specs.Matrices.{entryAt}
@@ -21,62 +22,30 @@ yields : (h x H X : Float) (a b : ℕ) → h ≡ H → x ≡ X → lt x h ≡ fa
 unfolding stays
 yields h x H X a b p q t = rw (← p, ← q, t)
 
+-- the entry in column c of row i is within the slice
+inside : (s : tie.Start) (i : ℕ) → i < s .args .n → 2 * (i * s .args .w + s .args .c) + 1 < length (s .args .work .now)
+inside s i h = let within = entry-within (s .args .n) (s .args .w) i (s .args .c) h (omega (arith, s .pre .1, s .pre .0 .wide)) in omega (arith, s .pre .0 .full)
+
 mul-get : tie.Need-mul-get
-mul-get c =
-    let start = c .before in
-    let a = start .args in
-    let within : a .held * a .w + a .c < a .n * a .w = entry-within (a .n) (a .w) (a .held) (a .c) (start .pre .2) (omega (arith, start .pre .1, start .pre .0 .wide)) in
-    let full = start .pre .0 .full in
-    let small = start .good .0 .0 in
-    omega arith
+mul-get c = omega (arith, inside (c .before) _ (c .before .pre .2))
 
 add-get : tie.Need-add-get
-add-get c =
-    let start = c .before in
-    let a = start .args in
-    let within : a .held * a .w + a .c < a .n * a .w = entry-within (a .n) (a .w) (a .held) (a .c) (start .pre .2) (omega (arith, start .pre .1, start .pre .0 .wide)) in
-    let full = start .pre .0 .full in
-    let small = start .good .0 .0 in
-    omega arith
+add-get c = omega (arith, inside (c .before) _ (c .before .pre .2))
 
 get-requires : tie.Need-get-requires
-get-requires c κs =
-    let start = c .before in
-    let a = start .args in
-    let within : a .held * a .w + a .c < a .n * a .w = entry-within (a .n) (a .w) (a .held) (a .c) (start .pre .2) (omega (arith, start .pre .1, start .pre .0 .wide)) in
-    let full = start .pre .0 .full in
-    let small = start .good .0 .0 in
-    omega arith
+get-requires c κs = inside (c .before) _ (c .before .pre .2)
 
 sqmag-requires : tie.Need-sqmag-requires
 sqmag-requires c κs = search needs
 
 mul-get-2 : tie.Need-mul-get-2
-mul-get-2 c =
-    let start = c .before .before .before in
-    let a = start .args in
-    let within : a .next * a .w + a .c < a .n * a .w = entry-within (a .n) (a .w) (a .next) (a .c) (start .pre .3) (omega (arith, start .pre .1, start .pre .0 .wide)) in
-    let full = start .pre .0 .full in
-    let small = start .good .0 .0 in
-    omega arith
+mul-get-2 c = omega (arith, inside (c .before .before .before) _ (c .before .before .before .pre .3))
 
 add-get-2 : tie.Need-add-get-2
-add-get-2 c =
-    let start = c .before .before .before in
-    let a = start .args in
-    let within : a .next * a .w + a .c < a .n * a .w = entry-within (a .n) (a .w) (a .next) (a .c) (start .pre .3) (omega (arith, start .pre .1, start .pre .0 .wide)) in
-    let full = start .pre .0 .full in
-    let small = start .good .0 .0 in
-    omega arith
+add-get-2 c = omega (arith, inside (c .before .before .before) _ (c .before .before .before .pre .3))
 
 get-requires-2 : tie.Need-get-requires-2
-get-requires-2 c κs =
-    let start = c .before .before .before in
-    let a = start .args in
-    let within : a .next * a .w + a .c < a .n * a .w = entry-within (a .n) (a .w) (a .next) (a .c) (start .pre .3) (omega (arith, start .pre .1, start .pre .0 .wide)) in
-    let full = start .pre .0 .full in
-    let small = start .good .0 .0 in
-    omega arith
+get-requires-2 c κs = inside (c .before .before .before) _ (c .before .before .before .pre .3)
 
 sqmag-requires-2 : tie.Need-sqmag-requires-2
 sqmag-requires-2 c κs = search needs

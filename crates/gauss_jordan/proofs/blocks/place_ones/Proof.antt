@@ -1,6 +1,6 @@
 -- `gauss_jordan::blocks::place_ones` meets its contract. The invariant: the rows before row i have their one, the others are as they were.
 -- Assumes nothing.
-use mathlib.Core.Path.{_≡_, refl, sym, _∙_}
+use mathlib.Core.Path.{_≡_, refl, sym, subst, _∙_}
 use Prim.Native.Nat.{ℕ, _+_, _*_, _-_, _≤_, _<_}
 use native.Mathlib.Omega.{arith}
 use borrow.Author.Needs.{needs}
@@ -13,7 +13,6 @@ use Rattle.complex.specs.Entries.{put}
 use Rattle.complex.proofs.Matrices.{entry-within}
 use mathlib.Core.Bool.{cond}
 use mathlib.Core.List.{List}
-use mathlib.Core.Path.{subst}
 use lib.Dec.{eqb}
 use lib.Ieee.{Float}
 use Rattle.gauss_jordan.specs.Work.{diagonal}
@@ -34,49 +33,26 @@ loop-holds c =
     let a = s .args in
     (omega arith, s .pre .0, rows-none (a .w) (a .work .now) (diagonal (a .at) (entryAt (a .w) (a .work .now))))
 
-mul-put : tie.Need-mul-put Inv-loop μ-loop
-mul-put c =
-    let t = c .before in
+-- the entry is within the slice
+room : (t : tie.In-loop Inv-loop μ-loop) → 2 * (t .before .loop .i * t .before .before .before .args .w + (t .before .before .before .args .at + t .before .loop .i)) + 1 < length (t .before .loop .work)
+room t =
     let l = t .before .loop in
     let s = t .before .before .before in
     let a = s .args in
-    let more : l .i < a .n = t .loop-test .taken in
-    let col : a .at + l .i < a .w = omega (arith, s .pre .1) in
-    let within : l .i * a .w + (a .at + l .i) < a .n * a .w = entry-within (a .n) (a .w) (l .i) (a .at + l .i) more col in
-    omega (arith, s .pre .0, s .good .0 .0, l .inv .1)
+    let within = entry-within (a .n) (a .w) (l .i) (a .at + l .i) (t .loop-test .taken) (omega arith) in
+    omega arith
+
+mul-put : tie.Need-mul-put Inv-loop μ-loop
+mul-put c = omega (arith, room (c .before))
 
 add-put : tie.Need-add-put Inv-loop μ-loop
-add-put c =
-    let t = c .before in
-    let l = t .before .loop in
-    let s = t .before .before .before in
-    let a = s .args in
-    let more : l .i < a .n = t .loop-test .taken in
-    let col : a .at + l .i < a .w = omega (arith, s .pre .1) in
-    let within : l .i * a .w + (a .at + l .i) < a .n * a .w = entry-within (a .n) (a .w) (l .i) (a .at + l .i) more col in
-    omega (arith, s .pre .0, s .good .0 .0, l .inv .1)
+add-put c = omega (arith, room (c .before))
 
 add-put-2 : tie.Need-add-put-2 Inv-loop μ-loop
-add-put-2 c =
-    let t = c .before in
-    let l = t .before .loop in
-    let s = t .before .before .before in
-    let a = s .args in
-    let more : l .i < a .n = t .loop-test .taken in
-    let col : a .at + l .i < a .w = omega (arith, s .pre .1) in
-    let within : l .i * a .w + (a .at + l .i) < a .n * a .w = entry-within (a .n) (a .w) (l .i) (a .at + l .i) more col in
-    omega (arith, s .pre .0, s .good .0 .0, l .inv .1)
+add-put-2 c = omega (arith, room (c .before))
 
 put-requires : tie.Need-put-requires Inv-loop μ-loop
-put-requires c κs =
-    let t = c .before in
-    let l = t .before .loop in
-    let s = t .before .before .before in
-    let a = s .args in
-    let more : l .i < a .n = t .loop-test .taken in
-    let col : a .at + l .i < a .w = omega (arith, s .pre .1) in
-    let within : l .i * a .w + (a .at + l .i) < a .n * a .w = entry-within (a .n) (a .w) (l .i) (a .at + l .i) more col in
-    omega (arith, s .pre .0, s .good .0 .0, l .inv .1)
+put-requires c κs = room (c .before)
 
 add-i : tie.Need-add-i Inv-loop μ-loop
 add-i c = search needs
