@@ -44,41 +44,16 @@ fn pivot_row(work: &[f64], n: usize, w: usize, c: usize) -> usize
     row
 }
 
-// Row r is copied out.
-fn read_row(work: &[f64], n: usize, w: usize, r: usize, row: &mut [f64])
-    requires { ⌜ (Augmented n w (length (now work))) × (r < n) × (length (now row) ≡ 2 * w) ⌝ }
-    ensures { λ _. ⌜ ((j : ℕ) → j < w → entry (now (row .exit)) j ≡ entryAt w (now (work .entry)) r j) ⌝ }
-{
-    let Span { start, end } = span_of(n, w, 0, w, r);
-    rows::copy(&work[start..end], row);
-}
-
-// Row r becomes `row`.
-fn write_row(work: &mut [f64], n: usize, w: usize, r: usize, row: &[f64])
-    requires { ⌜ (Augmented n w (length (now work))) × (r < n) × (length (now row) ≡ 2 * w) ⌝ }
-    ensures { λ _. ⌜ ((i j : ℕ) → j < w → entryAt w (now (work .exit)) i j ≡ withRow r (entry (now (row .entry))) (entryAt w (now (work .entry))) i j) ⌝ }
-{
-    let Span { start, end } = span_of(n, w, 0, w, r);
-    rows::copy(row, &mut work[start..end]);
-}
-
-// Row r becomes `row`, and `row` what it was.
-fn exchange_row(work: &mut [f64], n: usize, w: usize, r: usize, row: &mut [f64])
-    requires { ⌜ (Augmented n w (length (now work))) × (r < n) × (length (now row) ≡ 2 * w) ⌝ }
-    ensures { λ _. ⌜ ((i j : ℕ) → j < w → entryAt w (now (work .exit)) i j ≡ withRow r (entry (now (row .entry))) (entryAt w (now (work .entry))) i j) × ((j : ℕ) → j < w → entry (now (row .exit)) j ≡ entryAt w (now (work .entry)) r j) ⌝ }
-{
-    let Span { start, end } = span_of(n, w, 0, w, r);
-    rows::exchange(&mut work[start..end], row);
-}
-
 // Rows c and p change places; `row` then holds row c.
 fn swap(work: &mut [f64], n: usize, w: usize, c: usize, p: usize, row: &mut [f64])
     requires { ⌜ (Augmented n w (length (now work))) × (c < n) × (p < n) × (length (now row) ≡ 2 * w) ⌝ }
     ensures { λ _. ⌜ ((i j : ℕ) → j < w → entryAt w (now (work .exit)) i j ≡ spec.swapped operations c p (entryAt w (now (work .entry))) i j) × ((j : ℕ) → j < w → entry (now (row .exit)) j ≡ entryAt w (now (work .exit)) c j) ⌝ }
 {
-    read_row(work, n, w, c, row);
-    exchange_row(work, n, w, p, row);
-    write_row(work, n, w, c, row);
+    let Span { start: a, end: b } = span_of(n, w, 0, w, c);
+    let Span { start, end } = span_of(n, w, 0, w, p);
+    rows::copy(&work[a..b], row);
+    rows::exchange(&mut work[start..end], row);
+    rows::copy(row, &mut work[a..b]);
 }
 
 // Row i is reduced by the pivot row in column c, unless it is row c itself.
@@ -111,7 +86,8 @@ fn clear_column(work: &mut [f64], n: usize, w: usize, c: usize, row: &mut [f64])
     ensures { λ _. ⌜ ((i j : ℕ) → i < n → j < w → entryAt w (now (work .exit)) i j ≡ spec.cleared operations c (entryAt w (now (work .entry))) i j) ⌝ }
 {
     rows::scale(row, w, complex::complex_inv(get(row, c)));
-    write_row(work, n, w, c, row);
+    let Span { start, end } = span_of(n, w, 0, w, c);
+    rows::copy(row, &mut work[start..end]);
     reduce_others(work, n, w, c, row);
 }
 

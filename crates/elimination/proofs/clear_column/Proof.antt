@@ -1,15 +1,17 @@
 -- `elimination::clear_column` meets its contract.
 -- Assumes nothing.
-use mathlib.Core.Path.{_∙_}
+use mathlib.Core.Path.{ap, _∙_}
+use mathlib.Core.List.{List}
 use Prim.Native.Nat.{ℕ, _≤_, _<_}
 use native.Mathlib.Omega.{arith}
 use borrow.Author.Needs.{needs}
+use lib.Ieee.{Float}
 use Rattle.complex.specs.Entries.{entry}
 use Rattle.complex.specs.Matrices.{entryAt}
 use Rattle.gauss_jordan.specs.GaussJordan.{scaled, cleared}
 use Rattle.gauss_jordan.specs.Solving.{operations}
 use Rattle.gauss_jordan.proofs.GaussJordan.{reduced-same}
-use Rattle.gauss_jordan.proofs.RowParts.{scaled-is, row-put}
+use Rattle.gauss_jordan.proofs.RowParts.{row-written, scaled-is, row-put}
 use Rattle.elimination.proofs.clear_column.Statement.{statement}
 use Rattle.elimination.proofs.clear_column.Tie as tie
 
@@ -22,20 +24,32 @@ complex-inv-requires c κs = search needs
 scale-requires : tie.Need-scale-requires
 scale-requires c κs = search needs
 
-write-row-requires : tie.Need-write-row-requires
-write-row-requires c κs = search needs
+span-of-requires : tie.Need-span-of-requires
+span-of-requires c κs = search needs
+
+mul-copy : tie.Need-mul-copy
+mul-copy c = search needs
+
+sub-copy : tie.Need-sub-copy
+sub-copy c = search needs
+
+part-copy-start : tie.Need-part-copy-start
+part-copy-start c = search needs
+
+part-copy-end : tie.Need-part-copy-end
+part-copy-end c = search needs
+
+copy-requires : tie.Need-copy-requires
+copy-requires c κs = search needs
 
 reduce-others-requires : tie.Need-reduce-others-requires
 reduce-others-requires c κs =
-    let p = c .before .before .before .before .write-row in
-    let x = c .before .before .before .before .before .before .before .before .before .scale in
-    let s = c .before .before .before .before .before .before .before .before .before .before .before .before .before .before .before .before in
-    let a = s .args in (
-      record { wide = s .pre .0 .wide; full = p .kept .0 ∙ s .pre .0 .full },
-      s .pre .1,
-      x .kept .0 ∙ s .pre .2,
-      row-put (a .w) (a .c) (entry (x .last .0)) (entryAt (a .w) (a .work .now)) (entryAt (a .w) (p .last .0)) (p .ensures),
-    )
+    let p = c .before .before .before .before .copy in
+    let x = c .before .before .before .before .before .before .before .before .before .before .scale in
+    let s = c .before .before .before .before .before .before .before .before .before .before .before .before .before .before .before .before .before in
+    let a = s .args in
+    let put = row-written (c .before .before .before .before .before .before .before .span-of .ensures) (a .work .now) (p .last .1 .0) (s .pre .0 .full) (p .kept .1 .0) (entry (x .last .0)) (λ (j : ℕ) (h : j < a .w). ap (λ (l : List Float). entry l j) (p .ensures)) in
+    (record { wide = s .pre .0 .wide; full = search needs }, s .pre .1, x .kept .0 ∙ s .pre .2, row-put (a .w) (a .c) (entry (x .last .0)) (entryAt (a .w) (a .work .now)) _ put)
 
 same-length : tie.Need-same-length
 same-length c = search needs
@@ -47,21 +61,21 @@ returns : tie.Need-returns
 unfolding cleared
 returns c =
     let o = c .before .before .reduce-others in
-    let p = c .before .before .before .before .before .before .before .write-row in
-    let x = c .before .before .before .before .before .before .before .before .before .before .before .before .scale in
-    let v = c .before .before .before .before .before .before .before .before .before .before .before .before .before .complex-inv in
-    let g = c .before .before .before .before .before .before .before .before .before .before .before .before .before .before .get in
-    let s = c .before .before .before .before .before .before .before .before .before .before .before .before .before .before .before .before .before .before .before in
+    let p = c .before .before .before .before .before .before .before .copy in
+    let x = c .before .before .before .before .before .before .before .before .before .before .before .before .before .scale in
+    let v = c .before .before .before .before .before .before .before .before .before .before .before .before .before .before .complex-inv in
+    let g = c .before .before .before .before .before .before .before .before .before .before .before .before .before .before .before .get in
+    let s = c .before .before .before .before .before .before .before .before .before .before .before .before .before .before .before .before .before .before .before .before in
     let a = s .args in
     let A = entryAt (a .w) (a .work .now) in
-    let A₁ = entryAt (a .w) (p .last .0) in
     let wide : a .n ≤ a .w = s .pre .0 .wide in
     let here : a .c < a .n = s .pre .1 in
+    let put = row-written (c .before .before .before .before .before .before .before .before .before .before .span-of .ensures) (a .work .now) (p .last .1 .0) (s .pre .0 .full) (p .kept .1 .0) (entry (x .last .0)) (λ (j : ℕ) (h : j < a .w). ap (λ (l : List Float). entry l j) (p .ensures)) in
     λ (i j : ℕ) (h : i < a .n) (k : j < a .w).
     o .ensures i j h k
-    ∙ reduced-same operations (a .n) (a .w) wide A₁ (scaled operations (a .c) A)
+    ∙ reduced-same operations (a .n) (a .w) wide _ (scaled operations (a .c) A)
     (λ (r q : ℕ) (y : r < a .n) (z : q < a .w).
-    scaled-is (a .w) (a .c) (entry (a .row .now)) (entry (x .last .0)) A A₁ (g .result) (v .result) (omega arith) (s .pre .3) (g .ensures) (v .ensures) (x .ensures) (p .ensures) r q z)
+    scaled-is (a .w) (a .c) (entry (a .row .now)) (entry (x .last .0)) A _ (g .result) (v .result) (omega arith) (s .pre .3) (g .ensures) (v .ensures) (x .ensures) put r q z)
     (a .c) here i j h k
 
 pub clear-column-spec : {M : Type 1} → statement M
@@ -71,7 +85,12 @@ clear-column-spec =
     get-requires
     complex-inv-requires
     scale-requires
-    write-row-requires
+    span-of-requires
+    mul-copy
+    sub-copy
+    part-copy-start
+    part-copy-end
+    copy-requires
     reduce-others-requires
     same-length
     same-length-2

@@ -1,7 +1,7 @@
 -- `elimination::stronger` meets its contract.
 -- Assumes nothing.
 use mathlib.Core.Path.{_≡_, ap, _∙_}
-use mathlib.Core.Bool.{true, false, cond}
+use mathlib.Core.Bool.{Bool, true, false, cond}
 use Prim.Native.Nat.{ℕ, _+_, _*_, _<_}
 use native.Mathlib.Omega.{arith}
 use lib.Ieee.{Float, lt}
@@ -14,13 +14,9 @@ use Rattle.gauss_jordan.specs.GaussJordan.{stays}
 use Rattle.elimination.proofs.stronger.Statement.{statement}
 use Rattle.elimination.proofs.stronger.Tie as tie
 
-keeps : (h x H X : Float) (a b : ℕ) → h ≡ H → x ≡ X → lt x h ≡ true → a ≡ cond (stays H X) a b
+held : (h x H X : Float) (a b : ℕ) (t : Bool) → h ≡ H → x ≡ X → lt x h ≡ t → cond t a b ≡ cond (stays H X) a b
 unfolding stays
-keeps h x H X a b p q t = rw (← p, ← q, t)
-
-yields : (h x H X : Float) (a b : ℕ) → h ≡ H → x ≡ X → lt x h ≡ false → b ≡ cond (stays H X) a b
-unfolding stays
-yields h x H X a b p q t = rw (← p, ← q, t)
+held h x H X a b t p q e = rw (← p, ← q, e)
 
 -- the entry in column c of row i is within the slice
 inside : (s : tie.Start) (i : ℕ) → i < s .args .n → 2 * (i * s .args .w + s .args .c) + 1 < length (s .args .work .now)
@@ -53,7 +49,7 @@ sqmag-requires-2 c κs = search needs
 returns : tie.Need-returns
 unfolding entryAt
 returns c =
-    keeps _ _ _ _ _ _
+    held _ _ _ _ _ _ true
     (c .before .before .before .sqmag .ensures ∙ ap sqmag (c .before .before .before .before .get .ensures))
     (c .before .sqmag2 .ensures ∙ ap sqmag (c .before .before .get2 .ensures))
     (c .if1 .taken)
@@ -61,7 +57,7 @@ returns c =
 returns-2 : tie.Need-returns-2
 unfolding entryAt
 returns-2 c =
-    yields _ _ _ _ _ _
+    held _ _ _ _ _ _ false
     (c .before .before .before .sqmag .ensures ∙ ap sqmag (c .before .before .before .before .get .ensures))
     (c .before .sqmag2 .ensures ∙ ap sqmag (c .before .before .get2 .ensures))
     (c .if1 .left)
