@@ -7,28 +7,12 @@ use lib.Ieee.{Float}
 use Rattle.rei_core.specs.declared.ReiAnswer.{ReiAnswer}
 use Rattle.rei_core.specs.Rei.{Given}
 use Rattle.entry_slices.specs.declared.parts.Lists.{Lists}
+use Rattle.entry_slices.specs.declared.parts.Numbers.{Numbers}
+use Rattle.entry_slices.specs.Parts.{qPlace, numbersRoom}
 use Rattle.entry_slices.specs.Rooms.{listRoom, vectorRoom, matrixRoom, tiesRoom}
-use Rattle.entry_slices.specs.Slices.{floatsIn, spare, held, misfit, storedFloats, storedWords}
-use Rattle.rei_entries.specs.declared.Numbers.{Numbers}
+use Rattle.entry_slices.specs.Slices.{held, misfit, storedFloats, storedWords}
 use Rattle.rei_entries.specs.declared.Places.{Places}
 use Rattle.rei_entries.specs.ReiCall.{Outputs, ReadyBy, givenOf, storedSummary}
-
--- Q begins behind the matrix and P
-abbrev pub qPlace : ℕ
-qPlace = matrixRoom + listRoom
-
-abbrev pub numbersRoom : ℕ
-numbersRoom = matrixRoom + (listRoom + listRoom)
-
--- The byte slices of the matrix, P and Q in the room xs.
-pub record NumbersRead (ys ps qs : List ℕ) (r : Numbers) (xs : List Float) : Type 0 where
-  pub yFew : r .y ≤ matrixRoom
-  pub pFew : r .p ≤ listRoom
-  pub qFew : r .q ≤ listRoom
-  pub yIs : take (r .y) xs ≡ floatsIn matrixRoom ys
-  pub pIs : take (r .p) (drop matrixRoom xs) ≡ floatsIn listRoom ps
-  pub qIs : take (r .q) (drop qPlace xs) ≡ floatsIn listRoom qs
-  pub spareIs : r .spare ≡ spare ys + spare ps + spare qs
 
 -- Rooms of their lengths, and no more in use than there are places.
 pub record Read (ws : List ℕ) (lists : Lists) (xs : List Float) (given : Numbers) : Type 0 where

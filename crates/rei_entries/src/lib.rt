@@ -1,10 +1,13 @@
 // The entry of the REI equivalent: byte slices read into rooms for the library, the call, and the outputs written.
 use complex::words::to_word;
 use entry_slices::parts::Lists;
-use entry_slices::parts::load_floats_at;
+use entry_slices::parts::NUMBERS;
+use entry_slices::parts::Numbers;
+use entry_slices::parts::P;
+use entry_slices::parts::Q;
 use entry_slices::parts::load_lists;
+use entry_slices::parts::load_numbers;
 use entry_slices::rooms::LIST;
-use entry_slices::rooms::MATRIX;
 use entry_slices::rooms::TIES;
 use entry_slices::rooms::VECTOR;
 use entry_slices::slices::at_most;
@@ -23,21 +26,6 @@ ghost use Rattle.rei_core.specs.Rei.{After};
 ghost use Rattle.rei_entries.specs.ReiCall as spec;
 ghost use Rattle.rei_entries.specs.ReiRooms as rooms;
 ghost use Rattle.entry_slices.specs.Slices.{storedWords};
-
-// In the room of the numbers that are read P begins behind the matrix, and Q behind P.
-const P: usize = MATRIX;
-
-const Q: usize = MATRIX + LIST;
-
-const NUMBERS: usize = MATRIX + 2 * LIST;
-
-// How many numbers the matrix and the injections have there, and their spare bytes.
-struct Numbers {
-    y: usize,
-    p: usize,
-    q: usize,
-    spare: usize,
-}
 
 // How many numbers of each output there is room for, and the spare bytes of the outputs.
 struct Places {
@@ -67,21 +55,6 @@ fn store_summary(s: &mut [u8], answer: ReiAnswer, refusal: u32)
     match answer {
         ReiAnswer::Done(e) => store_equivalent(s, e, refusal),
         ReiAnswer::Refused(_) => {}
-    }
-}
-
-fn read_numbers(y_sub: &[u8], p_inj: &[u8], q_inj: &[u8], room: &mut [f64]) -> Numbers
-    requires { ⌜ length (now room) ≡ rooms.numbersRoom ⌝ }
-    ensures { λ r. ⌜ rooms.NumbersRead (now («y_sub» .entry)) (now («p_inj» .entry)) (now («q_inj» .entry)) r (now (room .exit)) ⌝ }
-{
-    let y = load_floats_at(y_sub, room, 0, MATRIX);
-    let p = load_floats_at(p_inj, room, P, LIST);
-    let q = load_floats_at(q_inj, room, Q, LIST);
-    Numbers {
-        y: y,
-        p: p,
-        q: q,
-        spare: y_sub.len() % 8 + p_inj.len() % 8 + q_inj.len() % 8,
     }
 }
 
@@ -258,7 +231,7 @@ pub fn reduce_in(
     let mut words = [0usize; 2 * LIST];
     let mut numbers = [0.0; NUMBERS];
     let lists = load_lists(generator_buses, load_buses, &mut words);
-    let given = read_numbers(y_sub, p_inj, q_inj, &mut numbers);
+    let given = load_numbers(y_sub, p_inj, q_inj, &mut numbers);
     reduce(
         &words,
         lists,

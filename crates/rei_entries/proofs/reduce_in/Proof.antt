@@ -15,11 +15,11 @@ slice-aggregate-load-lists c = search needs
 load-lists-requires : tie.Need-load-lists-requires
 load-lists-requires c κs = search needs
 
-slice-aggregate-read-numbers : tie.Need-slice-aggregate-read-numbers
-slice-aggregate-read-numbers c = search needs
+slice-aggregate-load-numbers : tie.Need-slice-aggregate-load-numbers
+slice-aggregate-load-numbers c = search needs
 
-read-numbers-requires : tie.Need-read-numbers-requires
-read-numbers-requires c κs = search needs
+load-numbers-requires : tie.Need-load-numbers-requires
+load-numbers-requires c κs = search needs
 
 slice-aggregate-reduce : tie.Need-slice-aggregate-reduce
 slice-aggregate-reduce c = search needs
@@ -52,7 +52,7 @@ returns : tie.Need-returns
 returns c =
     let a = c .before .before .before .before .before .before .before .before .before .before .before .before .before .before .before .before .before .before .before .before .before .before .before .before .before .before .before .before .before .before .before .before .before .before .before .before .args in
     let l = c .before .before .before .before .before .before .before .before .before .before .before .before .before .before .before .before .before .before .before .before .before .before .before .before .load-lists in
-    let m = c .before .before .before .before .before .before .before .before .before .before .before .before .before .before .before .before .before .before .before .before .before .read-numbers in
+    let m = c .before .before .before .before .before .before .before .before .before .before .before .before .before .before .before .before .before .before .before .before .before .load-numbers in
     let sum : l .result .spare + m .result .spare ≡ length (now (a .generator-buses)) % 8 + length (now (a .load-buses)) % 8 + length (now (a .y-sub)) % 8 + length (now (a .p-inj)) % 8 + length (now (a .q-inj)) % 8 = omega (arith, l .ensures .spareIs, m .ensures .spareIs) in
     rw (← sum, ← l .ensures .firstIs, ← l .ensures .secondIs, ← m .ensures .yIs, ← m .ensures .pIs, ← m .ensures .qIs) (c .before .before .before .before .before .before .before .before .before .before .reduce .ensures)
 
@@ -62,8 +62,8 @@ reduce-in-spec =
     (tie.spec
     slice-aggregate-load-lists
     load-lists-requires
-    slice-aggregate-read-numbers
-    read-numbers-requires
+    slice-aggregate-load-numbers
+    load-numbers-requires
     slice-aggregate-reduce
     slice-aggregate-reduce-2
     add-reduce

@@ -1,13 +1,13 @@
--- `rei_entries::read_numbers` meets its contract: what is read later leaves the earlier numbers where they stand.
+-- `entry_slices::parts::load_numbers` meets its contract: what is read later leaves the earlier numbers where they stand.
 -- Assumes nothing.
 use mathlib.Core.Path.{refl, _∙_}
 use native.Mathlib.Omega.{arith}
 use Rattle.entry_slices.specs.Rooms.{matrixRoom}
 use Rattle.entry_slices.proofs.PartsLaws.{kept-front, kept-part}
-use Rattle.rei_entries.specs.ReiRooms.{qPlace}
+use Rattle.entry_slices.specs.Parts.{qPlace}
 use borrow.Author.Needs.{needs}
-use Rattle.rei_entries.proofs.read_numbers.Statement.{statement}
-use Rattle.rei_entries.proofs.read_numbers.Tie as tie
+use Rattle.entry_slices.proofs.parts.load_numbers.Statement.{statement}
+use Rattle.entry_slices.proofs.parts.load_numbers.Tie as tie
 
 load-floats-at-requires : tie.Need-load-floats-at-requires
 load-floats-at-requires c κs = search needs
@@ -44,8 +44,8 @@ returns c =
       spareIs = refl;
     }
 
-pub read-numbers-spec : {M : Type 1} → statement M
-read-numbers-spec =
+pub load-numbers-spec : {M : Type 1} → statement M
+load-numbers-spec =
     tie.close
     (tie.spec
     load-floats-at-requires
