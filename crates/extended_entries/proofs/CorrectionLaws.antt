@@ -9,13 +9,13 @@ use lib.Dec.{eqb}
 use lib.ListN.{length}
 use lib.Ieee.{Float}
 use Rattle.ward_studies.specs.declared.WardAnswer.{WardAnswer}
-use Rattle.ward_studies.specs.Ward.{Study, Room, summary, number, answered, roomAfter}
+use Rattle.ward_studies.specs.Ward.{summary, number, answered, roomAfter}
 use Rattle.ward_studies.specs.WardExtended.{Extended, ExtendedRoom, voltageCorrection, qCompensation, inputRefusalX, refusalX, roomAfterX, AfterExtended, afterExtended}
-use Rattle.ward_studies.specs.WardCalls.{roomOf, extendedOf, extendedRoomOf, afterX}
+use Rattle.ward_studies.specs.WardCalls.{studyOf, roomOf, extendedOf, afterX}
 use Rattle.entry_slices.specs.Slices.{told, storedFloats}
 use Rattle.entry_slices.proofs.StoredLaws.{floats-stored}
 use Rattle.ward_slices.specs.Outputs.{Outputs, Written}
-use Rattle.ward_slices.proofs.OutputsLaws.{number-told, left-by, SameLengths, misfit-same}
+use Rattle.ward_slices.proofs.OutputsLaws.{number-told, filled-by, computed-by, left-by, SameLengths, misfit-same}
 use Rattle.extended_entries.specs.ExtendedEntry.{ComputedBy, CorrectedBy}
 
 answer-after : (S : Extended) (r : ExtendedRoom) → afterExtended S r .answer ≡ answered (refusalX S r) (summary (S .study))
@@ -34,54 +34,56 @@ compensation-after : (S : Extended) (r : ExtendedRoom) → afterExtended S r .ro
 unfolding afterExtended roomAfterX
 compensation-after S r = refl
 
-pub computed-by : {S : Extended} {r : ExtendedRoom} {over : ℕ} {o o′ : Outputs} {f : ℕ} {a : WardAnswer} {yw pw qw ws vs qs : List Float}
-    → f ≡ told over (number a) → afterX a (roomOf yw pw qw ws) vs qs ≡ afterExtended S r → Written a f yw pw qw o o′ → ComputedBy S r over o f o′ vs qs
-computed-by {S} {r} {over} {o} {o′} {f} {a} p e w =
-    let q : a ≡ answered (refusalX S r) (summary (S .study)) = ap (λ (x : AfterExtended). x .answer) e ∙ answer-after S r in
-    let g : f ≡ told over (refusalX S r) = p ∙ ap (told over) (number-told (refusalX S r) (summary (S .study)) q) in
-    record {
-      number = g;
-      left = left-by (S .study) (r .room) over (refusalX S r) g q (ap (λ (x : AfterExtended). x .room .room) e ∙ room-after S r) w;
-      correction = ap (λ (x : AfterExtended). x .room .correction) e ∙ correction-after S r;
-      compensation = ap (λ (x : AfterExtended). x .room .compensation) e ∙ compensation-after S r;
-    }
-
 -- ---- rooms as long
 
-refusal-same : (S : Extended) (r r′ : Room) (cs ks cs′ ks′ : List Float) → SameLengths r r′ → length cs ≡ length cs′ → length ks ≡ length ks′
-    → refusalX S (extendedRoomOf r cs ks) ≡ refusalX S (extendedRoomOf r′ cs′ ks′)
+pub record SameLengthsX (r r′ : ExtendedRoom) : Type 0 where
+  pub room : SameLengths (r .room) (r′ .room)
+  pub correction : length (r .correction) ≡ length (r′ .correction)
+  pub compensation : length (r .compensation) ≡ length (r′ .compensation)
+
+refusal-same : (S : Extended) (r r′ : ExtendedRoom) → SameLengthsX r r′ → refusalX S r ≡ refusalX S r′
 unfolding refusalX inputRefusalX
-refusal-same S r r′ cs ks cs′ ks′ h d e = rw (misfit-same (S .study) r r′ h, d, e) refl
+refusal-same S r r′ h = rw (misfit-same (S .study) (r .room) (r′ .room) (h .room), h .correction, h .compensation) refl
 
-pub ready-by : {S : Extended} {r r′ : Room} {cs ks : List Float} {over over′ : ℕ} {o o′ : Outputs} {f : ℕ} {vs qs : List Float}
-    → SameLengths r r′ → over ≡ over′ → ComputedBy S (extendedRoomOf r cs ks) over o f o′ vs qs → ComputedBy S (extendedRoomOf r′ cs ks) over′ o f o′ vs qs
-ready-by {S} {r} {r′} {cs} {ks} {over} h e k =
-    let q = refusal-same S r r′ cs ks cs ks h refl refl in
-    let n = k .number ∙ ap (told over) q in
-    record { number = rw e at n; left = k .left; correction = rw q at (k .correction); compensation = rw q at (k .compensation) }
+pub gathered : (over c k : ℕ) {n o : ℕ} → n ≡ o → over + n + c + k ≡ over + (o + c + k)
+gathered over c k e = omega arith
 
--- the correction and the compensation stored
-pub stored-by : {S : Extended} {r : Room} {cs ks cs′ ks′ : List Float} {over over′ : ℕ} {o o′ : Outputs} {f : ℕ} {vs qs : List Float} {bs ds bs′ ds′ : List ℕ}
-    → length cs ≡ length cs′ → length ks ≡ length ks′ → over ≡ over′
-    → ComputedBy S (extendedRoomOf r cs ks) over o f o′ vs qs → bs′ ≡ storedFloats f vs bs → ds′ ≡ storedFloats f qs ds
-    → CorrectedBy S (extendedRoomOf r cs′ ks′) over′ o bs ds f o′ bs′ ds′
-stored-by {S} {r} {cs} {ks} {cs′} {ks′} {over} {bs = bs} {ds = ds} d e p k u v =
-    let j = refusalX S (extendedRoomOf r cs ks) in
-    let n = k .number ∙ ap (told over) (refusal-same S r r cs ks cs′ ks′ (record { y-ward = refl; p-ward = refl; q-ward = refl; work = refl }) d e) in
-    record {
-      number = rw p at n;
-      left = k .left;
-      correction = u ∙ floats-stored over j (map (voltageCorrection S) (S .study .boundary)) cs bs (k .number) (k .correction);
-      compensation = v ∙ floats-stored over j (map (qCompensation S) (S .study .boundary)) ks ds (k .number) (k .compensation);
-    }
+-- ---- the outputs as numbers, and stored
 
-pub gathered : (over c k o : ℕ) → over + c + k + o ≡ over + (o + c + k)
-gathered over c k o = omega arith
+-- the same study, in the places that the entry has
+pub extended-same : {n : ℕ} {base : Float} {ys ys′ ps ps′ qs qs′ vs vs′ : List Float} {is is′ es es′ bs bs′ : List ℕ}
+    → ys ≡ ys′ → is ≡ is′ → es ≡ es′ → bs ≡ bs′ → ps ≡ ps′ → qs ≡ qs′ → vs ≡ vs′
+    → extendedOf (studyOf n ys is es bs base ps qs) vs ≡ extendedOf (studyOf n ys′ is′ es′ bs′ base ps′ qs′) vs′
+extended-same y i e b p q v = rw (y, i, e, b, p, q, v) refl
+
+module _ {S : Extended} {r r′ : ExtendedRoom} (h : SameLengthsX r r′) where
+  pub called-by : {S′ : Extended} {a : WardAnswer} {yw pw qw ws vs qs yw′ pw′ qw′ vs′ qs′ : List Float}
+      → S ≡ S′ → afterX a (roomOf yw pw qw ws) vs qs ≡ afterExtended S r
+      → yw′ ≡ yw → pw′ ≡ pw → qw′ ≡ qw → vs′ ≡ vs → qs′ ≡ qs → ComputedBy S′ (refusalX S′ r′) a yw′ pw′ qw′ vs′ qs′
+  called-by {a = a} {yw} {pw} {qw} {ws} {vs} {qs} s p ey ep eq ev ec =
+      let k = refusalX S r in
+      let here : ComputedBy S k a yw pw qw vs qs = record {
+        ward = computed-by (S .study) (r .room) k (ap (λ (x : AfterExtended). x .answer) p ∙ answer-after S r) (ap (λ (x : AfterExtended). x .room .room) p ∙ room-after S r);
+        correction = filled-by k _ (r .correction) (ap (λ (x : AfterExtended). x .room .correction) p ∙ correction-after S r);
+        compensation = filled-by k _ (r .compensation) (ap (λ (x : AfterExtended). x .room .compensation) p ∙ compensation-after S r);
+      } in
+      rw (refusal-same S r r′ h, s, ← ey, ← ep, ← eq, ← ev, ← ec) at here
+
+  pub corrected-by : {over over′ f : ℕ} {o o′ : Outputs} {a : WardAnswer} {yw pw qw vs qs : List Float} {bs ds bs′ ds′ : List ℕ}
+      → f ≡ told over (number a) → over ≡ over′ → ComputedBy S (refusalX S r) a yw pw qw vs qs
+      → Written a f yw pw qw o o′ → (bs′ ≡ storedFloats f vs bs) × (ds′ ≡ storedFloats f qs ds)
+      → CorrectedBy S r′ over′ o bs ds f o′ bs′ ds′
+  corrected-by {over} {over′} {f} {vs = vs} {qs} {bs} {ds} p g c w u =
+      let k = refusalX S r in
+      let n : f ≡ told over′ k = p ∙ ap (told over) (number-told k (summary (S .study)) (c .ward .answer)) ∙ ap (λ (x : ℕ). told x k) g in
+      record {
+        number = n ∙ ap (told over′) (refusal-same S r r′ h);
+        left = left-by (S .study) over′ k n (c .ward) w;
+        correction = u .0 ∙ floats-stored over′ k (map (voltageCorrection S) (S .study .boundary)) vs bs n (c .correction);
+        compensation = u .1 ∙ floats-stored over′ k (map (qCompensation S) (S .study .boundary)) qs ds n (c .compensation);
+      }
 
 -- ---- the same study and spare bytes
-
-pub extended-same : {S S′ : Study} {vs vs′ : List Float} → S ≡ S′ → vs ≡ vs′ → extendedOf S vs ≡ extendedOf S′ vs′
-extended-same p q = rw (p, q) refl
 
 pub read-by : {S S′ : Extended} {r : ExtendedRoom} {over over′ : ℕ} {o o′ : Outputs} {f : ℕ} {bs ds bs′ ds′ : List ℕ}
     → S ≡ S′ → over ≡ over′ → CorrectedBy S r over o bs ds f o′ bs′ ds′ → CorrectedBy S′ r over′ o bs ds f o′ bs′ ds′

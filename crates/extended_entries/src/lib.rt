@@ -1,216 +1,128 @@
 // The extended study: its lists and numbers are read first, then rooms are made for what is written.
+use entry_slices::parts::NUMBERS;
+use entry_slices::parts::Numbers;
+use entry_slices::parts::P;
+use entry_slices::parts::Q;
+use entry_slices::parts::floats_at;
+use entry_slices::parts::load_numbers;
+use entry_slices::parts::words_at;
 use entry_slices::rooms::LIST;
 use entry_slices::rooms::WARD_MATRIX;
 use entry_slices::rooms::WARD_WORK;
+use entry_slices::slices::at_most;
 use entry_slices::slices::load_floats;
 use entry_slices::slices::store_floats;
 use entry_slices::slices::told;
 use ward_core::compute_extended;
-use ward_slices::places::held;
+use ward_slices::places::Taken;
 use ward_slices::places::places;
-use ward_slices::reading::Ends;
-use ward_slices::reading::LISTS;
-use ward_slices::reading::NUMBERS;
-use ward_slices::reading::SECOND;
-use ward_slices::reading::THIRD;
-use ward_slices::reading::read_lists;
-use ward_slices::reading::read_numbers;
+use ward_slices::reading::BOUNDARY;
+use ward_slices::reading::Buses;
+use ward_slices::reading::read_buses;
+use ward_slices::stored::Kept;
 use ward_slices::stored::store_study;
-use ward_studies::WardAnswer;
 use ward_studies::number_of;
 ghost use mathlib.Core.Path.{_≡_};
-ghost use Prim.Native.Nat.{_+_, _<_};
+ghost use Prim.Native.Nat.{_+_, _≤_};
+ghost use lib.ListN.{length, take};
+ghost use Rattle.entry_slices.specs.Rooms.{listRoom};
+ghost use Rattle.entry_slices.specs.Slices.{floatsIn, spare, storedFloats};
 ghost use Rattle.ward_studies.specs.WardCalls as calls;
-ghost use Rattle.ward_studies.specs.WardExtended as extended;
-ghost use Rattle.ward_slices.specs.Outputs.{outputsOf, roomsOf, spareOf};
+ghost use Rattle.ward_slices.specs.Outputs.{Within, outputsOf};
 ghost use Rattle.ward_slices.specs.Reading as reading;
 ghost use Rattle.extended_entries.specs.ExtendedEntry as spec;
 
-// The call, on the parts of the two rooms.
+// What the call leaves of Ward's outputs, and the rooms of the correction and the compensation.
+struct Left {
+    kept: Kept,
+    correction: [f64; LIST],
+    compensation: [f64; LIST],
+}
+
+// The call, on what was read and on as many places of the rooms as are taken: c of the correction, k of the compensation.
 fn called(
     n: usize,
     base_mva: f64,
-    l: Ends,
-    lists: &[usize],
-    m: Ends,
+    l: Buses,
+    m: Numbers,
     numbers: &[f64],
-    v: &[f64],
-    y_ward: &mut [f64],
-    p_ward: &mut [f64],
-    q_ward: &mut [f64],
-    correction: &mut [f64],
-    compensation: &mut [f64],
-    work: &mut [f64],
-) -> WardAnswer
-    requires { ⌜ reading.Standing l (now lists) m (now numbers) ⌝ }
-    ensures { λ r. ⌜ calls.afterX r (calls.roomOf (now («y_ward» .exit)) (now («p_ward» .exit)) (now («q_ward» .exit)) (now (work .exit))) (now (correction .exit)) (now (compensation .exit))
-        ≡ extended.afterExtended (calls.extendedOf (reading.studyIn n «base_mva» l (now (lists .entry)) m (now (numbers .entry))) (now (v .entry))) (calls.extendedRoomOf (calls.roomOf (now («y_ward» .entry)) (now («p_ward» .entry)) (now («q_ward» .entry)) (now (work .entry))) (now (correction .entry)) (now (compensation .entry))) ⌝ }
+    v_ext: &[u8],
+    taken: Taken,
+    c: usize,
+    k: usize,
+    matrix: &mut [f64],
+) -> Left
+    requires { ⌜ reading.Standing l m (now numbers) × Within (length (now matrix)) taken × (c ≤ listRoom) × (k ≤ listRoom) ⌝ }
+    ensures { λ r. ⌜ spec.CalledBy (calls.extendedOf (reading.studyIn n «base_mva» l m (now (numbers .entry))) (floatsIn listRoom (now («v_ext» .entry)))) taken c k
+        (r .kept .answer) (take (taken .y) (now (matrix .exit))) (take (taken .p) (r .kept .p)) (take (taken .q) (r .kept .q)) (take c (r .correction)) (take k (r .compensation)) ⌝ }
 {
-    let internal = l.first;
-    let external = l.second;
-    let boundary = l.third;
-    let p = m.first;
-    let q = m.second;
-    let y = m.third;
-    compute_extended(
-        n,
-        &numbers[THIRD..y],
-        &lists[0..internal],
-        &lists[SECOND..external],
-        &lists[THIRD..boundary],
-        base_mva,
-        &numbers[0..p],
-        &numbers[SECOND..q],
-        v,
-        y_ward,
-        p_ward,
-        q_ward,
-        correction,
-        compensation,
-        work,
-    )
-}
-
-// The call, and what it leaves written of Ward's outputs.
-fn corrected(
-    n: usize,
-    base_mva: f64,
-    l: Ends,
-    lists: &[usize],
-    m: Ends,
-    numbers: &[f64],
-    v: &[f64],
-    kept_y: &mut [f64],
-    kept_p: &mut [f64],
-    kept_q: &mut [f64],
-    correction: &mut [f64],
-    compensation: &mut [f64],
-    solved: &mut [f64],
-    spare: usize,
-    y_ward: &mut [u8],
-    p_ward: &mut [u8],
-    q_ward: &mut [u8],
-    work: &mut [u8],
-    summary: &mut [u8],
-) -> u32
-    requires { ⌜ reading.Standing l (now lists) m (now numbers) ⌝ }
-    ensures { λ r. ⌜ spec.ComputedBy
-        (calls.extendedOf (reading.studyIn n «base_mva» l (now (lists .entry)) m (now (numbers .entry))) (now (v .entry)))
-        (calls.extendedRoomOf (calls.roomOf (now («kept_y» .entry)) (now («kept_p» .entry)) (now («kept_q» .entry)) (now (solved .entry))) (now (correction .entry)) (now (compensation .entry)))
-        spare
-        (outputsOf (now («y_ward» .entry)) (now («p_ward» .entry)) (now («q_ward» .entry)) (now (work .entry)) (now (summary .entry)))
-        r
-        (outputsOf (now («y_ward» .exit)) (now («p_ward» .exit)) (now («q_ward» .exit)) (now (work .exit)) (now (summary .exit)))
-        (now (correction .exit)) (now (compensation .exit)) ⌝ }
-{
-    let answer = called(
-        n,
-        base_mva,
-        l,
-        lists,
-        m,
-        numbers,
-        v,
-        kept_y,
-        kept_p,
-        kept_q,
-        correction,
-        compensation,
-        solved,
-    );
-    let refusal = told(spare, number_of(answer));
-    store_study(
-        answer,
-        refusal,
-        kept_y,
-        kept_p,
-        kept_q,
-        y_ward,
-        p_ward,
-        q_ward,
-        work,
-        summary,
-    );
-    refusal
-}
-
-// With rooms for the correction and the compensation: rooms for Ward's outputs, as long as these are.
-fn corrected_rooms(
-    n: usize,
-    base_mva: f64,
-    l: Ends,
-    lists: &[usize],
-    m: Ends,
-    numbers: &[f64],
-    v: &[f64],
-    correction: &mut [f64],
-    compensation: &mut [f64],
-    spare: usize,
-    y_ward: &mut [u8],
-    p_ward: &mut [u8],
-    q_ward: &mut [u8],
-    work: &mut [u8],
-    summary: &mut [u8],
-) -> u32
-    requires { ⌜ reading.Standing l (now lists) m (now numbers) × (spare < 256) ⌝ }
-    ensures { λ r. ⌜ spec.ComputedBy
-        (calls.extendedOf (reading.studyIn n «base_mva» l (now (lists .entry)) m (now (numbers .entry))) (now (v .entry)))
-        (calls.extendedRoomOf (roomsOf (outputsOf (now («y_ward» .entry)) (now («p_ward» .entry)) (now («q_ward» .entry)) (now (work .entry)) (now (summary .entry)))) (now (correction .entry)) (now (compensation .entry)))
-        (spare + spareOf (outputsOf (now («y_ward» .entry)) (now («p_ward» .entry)) (now («q_ward» .entry)) (now (work .entry)) (now (summary .entry))))
-        (outputsOf (now («y_ward» .entry)) (now («p_ward» .entry)) (now («q_ward» .entry)) (now (work .entry)) (now (summary .entry)))
-        r
-        (outputsOf (now («y_ward» .exit)) (now («p_ward» .exit)) (now («q_ward» .exit)) (now (work .exit)) (now (summary .exit)))
-        (now (correction .exit)) (now (compensation .exit)) ⌝ }
-{
-    let mut kept_y = [0.0; WARD_MATRIX];
-    let mut kept_p = [0.0; LIST];
-    let mut kept_q = [0.0; LIST];
-    let mut solved = [0.0; WARD_WORK];
-    let taken = places(
-        y_ward.len(),
-        p_ward.len(),
-        q_ward.len(),
-        work.len(),
-        summary.len(),
-    );
+    let mut voltages = [0.0; LIST];
+    let mut p = [0.0; LIST];
+    let mut q = [0.0; LIST];
+    let mut correction = [0.0; LIST];
+    let mut compensation = [0.0; LIST];
+    let mut work = [0.0; WARD_WORK];
+    let v = load_floats(v_ext, &mut voltages);
+    let room = l.room;
+    let words = &room[..];
     let a = taken.y;
     let b = taken.p;
     let d = taken.q;
     let e = taken.work;
-    let over = spare + taken.spare;
-    corrected(
+    let answer = compute_extended(
         n,
+        floats_at(numbers, 0, m.y),
+        words_at(words, 0, l.internal),
+        words_at(words, LIST, l.external),
+        words_at(words, BOUNDARY, l.boundary),
         base_mva,
-        l,
-        lists,
-        m,
-        numbers,
-        v,
-        &mut kept_y[0..a],
-        &mut kept_p[0..b],
-        &mut kept_q[0..d],
-        correction,
-        compensation,
-        &mut solved[0..e],
-        over,
-        y_ward,
-        p_ward,
-        q_ward,
-        work,
-        summary,
-    )
+        floats_at(numbers, P, m.p),
+        floats_at(numbers, Q, m.q),
+        &voltages[0..v],
+        &mut matrix[0..a],
+        &mut p[0..b],
+        &mut q[0..d],
+        &mut correction[0..c],
+        &mut compensation[0..k],
+        &mut work[0..e],
+    );
+    Left {
+        kept: Kept {
+            answer: answer,
+            p: p,
+            q: q,
+        },
+        correction: correction,
+        compensation: compensation,
+    }
 }
 
-// With all that is read in its rooms: rooms for the correction and the compensation, and what is written of them.
+fn store_beside(
+    left: Left,
+    c: usize,
+    k: usize,
+    refusal: u32,
+    voltage_correction: &mut [u8],
+    q_compensation: &mut [u8],
+)
+    requires { ⌜ (c ≤ listRoom) × (k ≤ listRoom) ⌝ }
+    ensures { λ _. ⌜ (now («voltage_correction» .exit) ≡ storedFloats refusal (take c (left .correction)) (now («voltage_correction» .entry)))
+        × (now («q_compensation» .exit) ≡ storedFloats refusal (take k (left .compensation)) (now («q_compensation» .entry))) ⌝ }
+{
+    let correction = left.correction;
+    let compensation = left.compensation;
+    store_floats(voltage_correction, floats_at(&correction, 0, c), refusal);
+    store_floats(q_compensation, floats_at(&compensation, 0, k), refusal);
+}
+
+// With the lists and numbers in their rooms: the call, and what it leaves written.
 fn corrected_out(
     n: usize,
     base_mva: f64,
-    l: Ends,
-    lists: &[usize],
-    m: Ends,
+    l: Buses,
+    m: Numbers,
     numbers: &[f64],
-    v: &[f64],
-    spare: usize,
+    v_ext: &[u8],
     y_ward: &mut [u8],
     p_ward: &mut [u8],
     q_ward: &mut [u8],
@@ -219,39 +131,43 @@ fn corrected_out(
     work: &mut [u8],
     summary: &mut [u8],
 ) -> u32
-    requires { ⌜ reading.Standing l (now lists) m (now numbers) × (spare < 128) ⌝ }
+    requires { ⌜ reading.Standing l m (now numbers) ⌝ }
     ensures { λ r. ⌜ spec.ReadyBy
-        (calls.extendedOf (reading.studyIn n «base_mva» l (now (lists .entry)) m (now (numbers .entry))) (now (v .entry)))
-        spare
+        (calls.extendedOf (reading.studyIn n «base_mva» l m (now (numbers .entry))) (floatsIn listRoom (now («v_ext» .entry))))
+        (l .spare + m .spare + spare (now («v_ext» .entry)))
         (outputsOf (now («y_ward» .entry)) (now («p_ward» .entry)) (now («q_ward» .entry)) (now (work .entry)) (now (summary .entry)))
         (now («voltage_correction» .entry)) (now («q_compensation» .entry))
         r
         (outputsOf (now («y_ward» .exit)) (now («p_ward» .exit)) (now («q_ward» .exit)) (now (work .exit)) (now (summary .exit))) (now («voltage_correction» .exit)) (now («q_compensation» .exit)) ⌝ }
 {
-    let mut correction = [0.0; LIST];
-    let mut compensation = [0.0; LIST];
-    let a = held(voltage_correction.len(), LIST);
-    let b = held(q_compensation.len(), LIST);
-    let over = spare + voltage_correction.len() % 8 + q_compensation.len() % 8;
-    let refusal = corrected_rooms(
-        n,
-        base_mva,
-        l,
-        lists,
-        m,
-        numbers,
-        v,
-        &mut correction[0..a],
-        &mut compensation[0..b],
-        over,
+    let mut matrix = [0.0; WARD_MATRIX];
+    let taken = places(
+        y_ward.len(),
+        p_ward.len(),
+        q_ward.len(),
+        work.len(),
+        summary.len(),
+    );
+    let c = at_most(voltage_correction.len() / 8, LIST);
+    let k = at_most(q_compensation.len() / 8, LIST);
+    let left = called(n, base_mva, l, m, numbers, v_ext, taken, c, k, &mut matrix);
+    let kept = left.kept;
+    let answer = kept.answer;
+    let read = l.spare + m.spare + v_ext.len() % 8;
+    let spare = read + taken.spare + voltage_correction.len() % 8 + q_compensation.len() % 8;
+    let refusal = told(spare, number_of(answer));
+    store_study(
+        kept,
+        taken,
+        &matrix,
+        refusal,
         y_ward,
         p_ward,
         q_ward,
         work,
         summary,
     );
-    store_floats(voltage_correction, &correction[0..a], refusal);
-    store_floats(q_compensation, &compensation[0..b], refusal);
+    store_beside(left, c, k, refusal, voltage_correction, q_compensation);
     refusal
 }
 
@@ -279,22 +195,16 @@ pub fn corrected_bytes(
         r
         (outputsOf (now («y_ward» .exit)) (now («p_ward» .exit)) (now («q_ward» .exit)) (now (work .exit)) (now (summary .exit))) (now («voltage_correction» .exit)) (now («q_compensation» .exit)) ⌝ }
 {
-    let mut lists = [0usize; LISTS];
     let mut numbers = [0.0; NUMBERS];
-    let mut voltages = [0.0; LIST];
-    let l = read_lists(internal, external, boundary, &mut lists);
-    let m = read_numbers(p_ext, q_ext, y, &mut numbers);
-    let a = load_floats(v_ext, &mut voltages);
-    let spare = l.spare + m.spare + v_ext.len() % 8;
+    let l = read_buses(internal, external, boundary);
+    let m = load_numbers(y, p_ext, q_ext, &mut numbers);
     corrected_out(
         n,
         base_mva,
         l,
-        &lists,
         m,
         &numbers,
-        &voltages[0..a],
-        spare,
+        v_ext,
         y_ward,
         p_ward,
         q_ward,

@@ -1,3 +1,2 @@
 pub mod OutputsLaws
-pub mod Parts
 pub mod ReadingLaws

@@ -1,14 +1,16 @@
 -- The byte slices that both Ward studies write: what is left in them, by the library's own definitions.
 use Prim.Native.Nat.{ℕ, _+_, _/_, _%_, _≤_, _<_}
 use mathlib.Core.Path.{_≡_}
+use mathlib.Core.Bool.{cond}
 use mathlib.Core.List.{List, [], _∷_, map}
+use lib.Dec.{eqb}
 use lib.ListN.{length}
 use lib.Ieee.{Float, binary64, toBits}
-use Rattle.complex.specs.Matrices.{rows}
+use Rattle.complex.specs.Matrices.{rows, zeros}
 use Rattle.ward_studies.specs.declared.WardSummary.{WardSummary}
 use Rattle.ward_studies.specs.declared.WardAnswer.{WardAnswer}
 use Rattle.ward_studies.specs.declared.WardAnswer.the-variants.{Done, Refused}
-use Rattle.ward_studies.specs.Ward.{Study, Room, retained, equivalent, injectionP, injectionQ, summary}
+use Rattle.ward_studies.specs.Ward.{Study, Room, retained, equivalent, injectionP, injectionQ, summary, answered}
 use Rattle.ward_studies.specs.WardCalls.{roomOf}
 use Rattle.entry_slices.specs.Rooms.{listRoom, wardMatrixRoom, wardWorkRoom}
 use Rattle.entry_slices.specs.Slices.{held, floatsIn, spare, misfit, storedFloats, storedWords, workAfter}
@@ -39,7 +41,18 @@ pub record Outputs : Type 0 where
 abbrev pub outputsOf : List ℕ → List ℕ → List ℕ → List ℕ → List ℕ → Outputs
 outputsOf yw pw qw ws sm = record { y-ward = yw; p-ward = pw; q-ward = qw; work = ws; summary = sm }
 
--- the library's rooms as numbers, with its answer a, stored after the refusal f
+-- xs is the numbers given where the refusal k is none
+abbrev pub Filled : ℕ → List Float → List Float → Type 0
+Filled k new xs = xs ≡ cond (eqb k 0) new xs
+
+-- the library's answer a to a study that it refuses by k, and its outputs as numbers
+pub record Computed (S : Study) (k : ℕ) (a : WardAnswer) (yw pw qw : List Float) : Type 0 where
+  pub answer : a ≡ answered k (summary S)
+  pub matrix : Filled k (rows (equivalent S) (retained S) (retained S)) yw
+  pub activePower : Filled k (map (injectionP S) (S .boundary)) pw
+  pub reactivePower : Filled k (map (injectionQ S) (S .boundary)) qw
+
+-- its outputs, with its answer a, stored after the refusal f
 pub record Written (a : WardAnswer) (f : ℕ) (yw pw qw : List Float) (o o′ : Outputs) : Type 0 where
   pub y-ward : o′ .y-ward ≡ storedFloats f yw (o .y-ward)
   pub p-ward : o′ .p-ward ≡ storedFloats f pw (o .p-ward)
@@ -65,6 +78,17 @@ roomsOf o = roomOf (floatsIn wardMatrixRoom (o .y-ward)) (floatsIn listRoom (o .
 abbrev pub spareOf : Outputs → ℕ
 spareOf o = spare (o .y-ward) + spare (o .p-ward) + spare (o .q-ward) + spare (o .work) + misfit (length (o .summary)) 24
 
+-- rooms of so many places; a study is refused by how long its rooms are, whatever stands there
+abbrev pub roomsTaken : Taken → Room
+roomsTaken t = roomOf (zeros (t .y)) (zeros (t .p)) (zeros (t .q)) (zeros (t .work))
+
+-- no more places than the rooms have, of which the matrix's has n
+pub record Within (n : ℕ) (t : Taken) : Type 0 where
+  pub y-ward : t .y ≤ n
+  pub p-ward : t .p ≤ listRoom
+  pub q-ward : t .q ≤ listRoom
+  pub work : t .work ≤ wardWorkRoom
+
 -- the numbers of outputs of so many bytes in their rooms, and the spare bytes
 pub record Placed (yw pw qw ws sm : ℕ) (r : Taken) : Type 0 where
   pub y-ward : r .y ≡ held wardMatrixRoom (yw / 8)
@@ -72,8 +96,5 @@ pub record Placed (yw pw qw ws sm : ℕ) (r : Taken) : Type 0 where
   pub q-ward : r .q ≡ held listRoom (qw / 8)
   pub work : r .work ≡ held wardWorkRoom (ws / 8)
   pub over : r .spare ≡ yw % 8 + pw % 8 + qw % 8 + ws % 8 + misfit sm 24
-  pub y-fits : r .y ≤ wardMatrixRoom
-  pub p-fits : r .p ≤ listRoom
-  pub q-fits : r .q ≤ listRoom
-  pub work-fits : r .work ≤ wardWorkRoom
+  pub within : Within wardMatrixRoom r
   pub few : r .spare < 32

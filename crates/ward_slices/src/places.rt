@@ -2,10 +2,8 @@
 use entry_slices::rooms::LIST;
 use entry_slices::rooms::WARD_MATRIX;
 use entry_slices::rooms::WARD_WORK;
+use entry_slices::slices::at_most;
 use entry_slices::slices::misfit;
-ghost use mathlib.Core.Path.{_≡_};
-ghost use Prim.Native.Nat.{_/_, _≤_};
-ghost use Rattle.entry_slices.specs.Slices as slices;
 ghost use Rattle.ward_slices.specs.Outputs as spec;
 
 // How many numbers each room holds, and how many bytes of the outputs are spare; a summary that is not of 24 bytes counts as one.
@@ -17,24 +15,16 @@ pub struct Taken {
     pub spare: usize,
 }
 
-// How many numbers of so many bytes a room holds.
-pub fn held(len: usize, room: usize) -> usize
-    ensures { λ r. ⌜ (r ≡ slices.held room (len / 8)) × (r ≤ room) ⌝ }
-{
-    let n = len / 8;
-    if n < room { n } else { room }
-}
-
 // By the lengths of the byte slices.
 pub fn places(y_ward: usize, p_ward: usize, q_ward: usize, work: usize, summary: usize) -> Taken
     ensures { λ r. ⌜ spec.Placed «y_ward» «p_ward» «q_ward» work summary r ⌝ }
 {
     let over = y_ward % 8 + p_ward % 8 + q_ward % 8 + work % 8 + misfit(summary, 24);
     Taken {
-        y: held(y_ward, WARD_MATRIX),
-        p: held(p_ward, LIST),
-        q: held(q_ward, LIST),
-        work: held(work, WARD_WORK),
+        y: at_most(y_ward / 8, WARD_MATRIX),
+        p: at_most(p_ward / 8, LIST),
+        q: at_most(q_ward / 8, LIST),
+        work: at_most(work / 8, WARD_WORK),
         spare: over,
     }
 }

@@ -1,55 +1,34 @@
-// What both studies read, in two rooms: the three lists in one; P, Q and the matrix in the other.
+// The lists of both studies: their byte slices read into one room.
+use entry_slices::parts::load_words_at;
 use entry_slices::rooms::LIST;
-use entry_slices::rooms::MATRIX;
-use entry_slices::slices::load_floats;
-use entry_slices::slices::load_words;
-ghost use mathlib.Core.Path.{_≡_};
-ghost use lib.ListN.{length};
 ghost use Rattle.ward_slices.specs.Reading as spec;
 
-// Where the second and the third part of each room begin, and where the rooms end.
-pub const SECOND: usize = LIST;
-
-pub const THIRD: usize = 2 * LIST;
+// In the room the external list begins at place LIST, and the boundary list here.
+pub const BOUNDARY: usize = 2 * LIST;
 
 pub const LISTS: usize = 3 * LIST;
 
-pub const NUMBERS: usize = THIRD + MATRIX;
-
-// Where the numbers in each part of a room end, and how many bytes of the slices read there are spare.
-pub struct Ends {
-    pub first: usize,
-    pub second: usize,
-    pub third: usize,
+// The room, how many buses of each list stand there, and the spare bytes of the lists.
+pub struct Buses {
+    pub room: [usize; LISTS],
+    pub internal: usize,
+    pub external: usize,
+    pub boundary: usize,
     pub spare: usize,
 }
 
-pub fn read_lists(internal: &[u8], external: &[u8], boundary: &[u8], lists: &mut [usize]) -> Ends
-    requires { ⌜ length (now lists) ≡ spec.listsRoom ⌝ }
-    ensures { λ r. ⌜ spec.ListsRead (now (internal .entry)) (now (external .entry)) (now (boundary .entry)) r (now (lists .exit)) ⌝ }
+pub fn read_buses(internal: &[u8], external: &[u8], boundary: &[u8]) -> Buses
+    ensures { λ r. ⌜ spec.BusesRead (now (internal .entry)) (now (external .entry)) (now (boundary .entry)) r ⌝ }
 {
-    let a = load_words(internal, &mut lists[0..SECOND]);
-    let b = load_words(external, &mut lists[SECOND..THIRD]);
-    let d = load_words(boundary, &mut lists[THIRD..LISTS]);
-    Ends {
-        first: a,
-        second: SECOND + b,
-        third: THIRD + d,
+    let mut room = [0usize; LISTS];
+    let a = load_words_at(internal, &mut room, 0, LIST);
+    let b = load_words_at(external, &mut room, LIST, LIST);
+    let d = load_words_at(boundary, &mut room, BOUNDARY, LIST);
+    Buses {
+        room: room,
+        internal: a,
+        external: b,
+        boundary: d,
         spare: internal.len() % 8 + external.len() % 8 + boundary.len() % 8,
-    }
-}
-
-pub fn read_numbers(p_ext: &[u8], q_ext: &[u8], y: &[u8], numbers: &mut [f64]) -> Ends
-    requires { ⌜ length (now numbers) ≡ spec.numbersRoom ⌝ }
-    ensures { λ r. ⌜ spec.NumbersRead (now («p_ext» .entry)) (now («q_ext» .entry)) (now (y .entry)) r (now (numbers .exit)) ⌝ }
-{
-    let a = load_floats(p_ext, &mut numbers[0..SECOND]);
-    let b = load_floats(q_ext, &mut numbers[SECOND..THIRD]);
-    let d = load_floats(y, &mut numbers[THIRD..NUMBERS]);
-    Ends {
-        first: a,
-        second: SECOND + b,
-        third: THIRD + d,
-        spare: y.len() % 8 + p_ext.len() % 8 + q_ext.len() % 8,
     }
 }

@@ -1,81 +1,72 @@
 -- `extended_entries::corrected_out` meets its contract.
 -- Assumes nothing.
 use mathlib.Core.Path.{ap, _∙_}
-use mathlib.Core.List.{List}
-use lib.Ieee.{Float, binary64, ofBits}
+use Prim.Native.Nat.{_+_, _/_}
+use native.Mathlib.Omega.{arith}
+use lib.ListN.{length}
 use denote.Ref.{now}
 use Rattle.entry_slices.specs.Rooms.{listRoom}
-use Rattle.entry_slices.specs.Slices.{spare, storedFloats}
-use Rattle.ward_slices.specs.Outputs.{outputsOf, spareOf}
-use Rattle.ward_slices.proofs.OutputsLaws.{as-long}
-use Rattle.ward_slices.proofs.Parts.{back-fits, back-front}
-use Rattle.extended_entries.proofs.CorrectionLaws.{stored-by, gathered}
+use Rattle.entry_slices.specs.Slices.{spare, told}
+use Rattle.entry_slices.proofs.SlicesLaws.{held-room}
+use Rattle.ward_slices.specs.Outputs.{outputsOf}
+use Rattle.ward_slices.proofs.OutputsLaws.{length-taken, placed-lengths}
+use Rattle.extended_entries.proofs.CorrectionLaws.{gathered, corrected-by}
 use borrow.Author.Needs.{needs}
 use Rattle.extended_entries.proofs.corrected_out.Statement.{statement}
 use Rattle.extended_entries.proofs.corrected_out.Tie as tie
 
-held-requires : tie.Need-held-requires
-held-requires c κs = search needs
+places-requires : tie.Need-places-requires
+places-requires c κs = search needs
 
-held-requires-2 : tie.Need-held-requires-2
-held-requires-2 c κs = search needs
+at-most-requires : tie.Need-at-most-requires
+at-most-requires c κs = search needs
 
-add-over : tie.Need-add-over
-add-over c = search needs
+at-most-requires-2 : tie.Need-at-most-requires-2
+at-most-requires-2 c κs = search needs
 
-add-over-2 : tie.Need-add-over-2
-add-over-2 c = search needs
+slice-aggregate-called : tie.Need-slice-aggregate-called
+slice-aggregate-called c = search needs
 
-sub-corrected-rooms : tie.Need-sub-corrected-rooms
-sub-corrected-rooms c = search needs
+called-requires : tie.Need-called-requires
+called-requires c κs =
+    let start = c .before .before .before .before .before .before .before .before .before .before .before .before .before in
+    let n = length (now (start .args .voltage-correction)) / 8 in
+    let m = length (now (start .args .q-compensation)) / 8 in
+    (start .pre, c .before .before .before .places .ensures .within, omega (arith, c .before .before .at-most .ensures, held-room listRoom n), omega (arith, c .before .at-most2 .ensures, held-room listRoom m))
 
-part-correction-start : tie.Need-part-correction-start
-part-correction-start c = search needs
+add-read : tie.Need-add-read
+add-read c = let few = c .before .before .before .before .before .before .before .before .before .before .before .before .before .before .before .before .before .before .pre .few in search needs
 
-part-correction-end : tie.Need-part-correction-end
-part-correction-end c = search needs
+add-read-2 : tie.Need-add-read-2
+add-read-2 c = let few = c .before .before .before .before .before .before .before .before .before .before .before .before .before .before .before .before .before .before .pre .few in search needs
 
-sub-corrected-rooms-2 : tie.Need-sub-corrected-rooms-2
-sub-corrected-rooms-2 c = search needs
+add-spare : tie.Need-add-spare
+add-spare c = let few = c .before .before .before .before .before .before .before .before .before .before .before .before .before .before .before .before .before .before .before .pre .few in let more = c .before .before .before .before .before .before .before .before .before .places .ensures .few in search needs
 
-part-compensation-start : tie.Need-part-compensation-start
-part-compensation-start c = search needs
+add-spare-2 : tie.Need-add-spare-2
+add-spare-2 c = let few = c .before .before .before .before .before .before .before .before .before .before .before .before .before .before .before .before .before .before .before .pre .few in let more = c .before .before .before .before .before .before .before .before .before .places .ensures .few in search needs
 
-part-compensation-end : tie.Need-part-compensation-end
-part-compensation-end c = search needs
+add-spare-3 : tie.Need-add-spare-3
+add-spare-3 c = let few = c .before .before .before .before .before .before .before .before .before .before .before .before .before .before .before .before .before .before .before .pre .few in let more = c .before .before .before .before .before .before .before .before .before .places .ensures .few in search needs
 
-corrected-rooms-requires : tie.Need-corrected-rooms-requires
-corrected-rooms-requires c κs = search needs
+number-of-requires : tie.Need-number-of-requires
+number-of-requires c κs = search needs
 
-sub-store-floats : tie.Need-sub-store-floats
-sub-store-floats c = search needs
+told-requires : tie.Need-told-requires
+told-requires c κs = search needs
 
-part-store-floats-start : tie.Need-part-store-floats-start
-part-store-floats-start c = search needs
+slice-aggregate-store-study : tie.Need-slice-aggregate-store-study
+slice-aggregate-store-study c = search needs
 
-part-store-floats-end : tie.Need-part-store-floats-end
-part-store-floats-end c =
-    let h = c .before .before .before .before .before .before .before .before .before .before .before .before .before .before .before .before .before .before .before .before .before .before .before .held in
-    let k = c .before .before .before .before .before .before .before .before .before .before .before .before .before .before .corrected-rooms in
-    back-fits listRoom (h .result) (ofBits binary64 0) (k .last .1 .1 .1 .1 .1 .1 .1 .0) (h .ensures .1) (k .kept .1 .1 .1 .1 .1 .1 .1 .0)
+store-study-requires : tie.Need-store-study-requires
+store-study-requires c κs = search needs
 
-store-floats-requires : tie.Need-store-floats-requires
-store-floats-requires c κs = search needs
-
-sub-store-floats-2 : tie.Need-sub-store-floats-2
-sub-store-floats-2 c = search needs
-
-part-store-floats-start-2 : tie.Need-part-store-floats-start-2
-part-store-floats-start-2 c = search needs
-
-part-store-floats-end-2 : tie.Need-part-store-floats-end-2
-part-store-floats-end-2 c =
-    let h = c .before .before .before .before .before .before .before .before .before .before .before .before .before .before .before .before .before .before .before .before .before .before .before .before .before .before .before .before .held2 in
-    let k = c .before .before .before .before .before .before .before .before .before .before .before .before .before .before .before .before .before .before .before .before .corrected-rooms in
-    back-fits listRoom (h .result) (ofBits binary64 0) (k .last .1 .1 .1 .1 .1 .1 .1 .1 .0) (h .ensures .1) (k .kept .1 .1 .1 .1 .1 .1 .1 .1 .0)
-
-store-floats-requires-2 : tie.Need-store-floats-requires-2
-store-floats-requires-2 c κs = search needs
+store-beside-requires : tie.Need-store-beside-requires
+store-beside-requires c κs =
+    let a = c .before .before .before .before .before .before .before .before .before .before .before .before .before .before .before .before .before .before .before .before .before .before .before .before .before .before .before .before .before .before .before .before .before .before .before .before .before .before .before .before .args in
+    let n = length (now (a .voltage-correction)) / 8 in
+    let m = length (now (a .q-compensation)) / 8 in
+    (omega (arith, c .before .before .before .before .before .before .before .before .before .before .before .before .before .before .before .before .before .before .before .before .before .before .before .before .before .before .before .before .before .at-most .ensures, held-room listRoom n), omega (arith, c .before .before .before .before .before .before .before .before .before .before .before .before .before .before .before .before .before .before .before .before .before .before .before .before .before .before .before .before .at-most2 .ensures, held-room listRoom m))
 
 same-length : tie.Need-same-length
 same-length c = search needs
@@ -100,46 +91,43 @@ same-length-7 c = search needs
 
 returns : tie.Need-returns
 returns c =
-    let a = c .before .before .before .before .before .before .before .before .before .before .before .before .before .before .before .before .before .before .before .before .before .before .before .before .before .before .before .before .before .before .before .before .before .before .before .before .before .before .before .before .before .before .before .before .args in
-    let h = c .before .before .before .before .before .before .before .before .before .before .before .before .before .before .before .before .before .before .before .before .before .before .before .before .before .before .before .before .before .before .before .before .before .held in
-    let j = c .before .before .before .before .before .before .before .before .before .before .before .before .before .before .before .before .before .before .before .before .before .before .before .before .before .before .before .before .before .before .before .before .held2 in
-    let k = c .before .before .before .before .before .before .before .before .before .before .before .before .before .before .before .before .before .before .before .before .before .before .before .before .corrected-rooms in
+    let a = c .before .before .before .before .before .before .before .before .before .before .before .before .before .before .before .before .before .before .before .before .before .before .before .before .before .before .before .before .before .before .before .before .before .before .before .before .before .before .before .before .before .before .before .before .before .args in
     let cs = now (a .voltage-correction) in
     let ks = now (a .q-compensation) in
-    let o = outputsOf (now (a .y-ward)) (now (a .p-ward)) (now (a .q-ward)) (now (a .work)) (now (a .summary)) in
-    let vs = back-front listRoom (h .result) (ofBits binary64 0) (k .last .1 .1 .1 .1 .1 .1 .1 .0) (h .ensures .1) (k .kept .1 .1 .1 .1 .1 .1 .1 .0) in
-    let qs = back-front listRoom (j .result) (ofBits binary64 0) (k .last .1 .1 .1 .1 .1 .1 .1 .1 .0) (j .ensures .1) (k .kept .1 .1 .1 .1 .1 .1 .1 .1 .0) in
-    stored-by
-    (as-long listRoom (h .result) cs (ofBits binary64 0) (h .ensures .1) (h .ensures .0))
-    (as-long listRoom (j .result) ks (ofBits binary64 0) (j .ensures .1) (j .ensures .0))
-    (gathered (a .spare) (spare cs) (spare ks) (spareOf o))
-    (k .ensures)
-    (c .before .before .before .before .before .before .before .before .store-floats .ensures ∙ ap (λ (xs : List Float). storedFloats (k .result) xs cs) vs)
-    (c .before .before .store-floats2 .ensures ∙ ap (λ (xs : List Float). storedFloats (k .result) xs ks) qs)
+    let h = c .before .before .before .before .before .before .before .before .before .before .before .before .before .before .before .before .before .before .before .before .before .before .before .before .before .before .before .before .before .before .before .before .before .before .before .places in
+    let n = c .before .before .before .before .before .before .before .before .before .before .before .before .before .before .before .before .before .before .before .before .before .before .before .before .before .before .before .before .before .before .before .before .before .before .at-most in
+    let m = c .before .before .before .before .before .before .before .before .before .before .before .before .before .before .before .before .before .before .before .before .before .before .before .before .before .before .before .before .before .before .before .before .before .at-most2 in
+    corrected-by
+    (record {
+      room = placed-lengths (outputsOf (now (a .y-ward)) (now (a .p-ward)) (now (a .q-ward)) (now (a .work)) (now (a .summary))) (h .result) (h .ensures);
+      correction = length-taken listRoom (n .result) cs (n .ensures);
+      compensation = length-taken listRoom (m .result) ks (m .ensures);
+    })
+    (c .before .before .before .before .before .before .before .before .before .before .before .before .before .before .before .before .before .before .before .before .before .before .before .before .told .ensures ∙ ap (told _) (c .before .before .before .before .before .before .before .before .before .before .before .before .before .before .before .before .before .before .before .before .before .before .before .before .before .number-of .ensures))
+    (gathered (a .l .spare + a .m .spare + spare (now (a .v-ext))) (spare cs) (spare ks) (h .ensures .over))
+    (c .before .before .before .before .before .before .before .before .before .before .before .before .before .before .before .before .before .before .before .before .before .before .before .before .before .before .before .before .before .before .before .called .ensures)
+    (c .before .before .before .before .before .before .before .before .before .before .before .before .before .before .before .before .before .store-study .ensures)
+    (c .before .before .before .before .store-beside .ensures)
 
 pub corrected-out-spec : {M : Type 1} → statement M
 corrected-out-spec =
     tie.close
     (tie.spec
-    held-requires
-    held-requires-2
-    add-over
-    add-over-2
-    sub-corrected-rooms
-    part-correction-start
-    part-correction-end
-    sub-corrected-rooms-2
-    part-compensation-start
-    part-compensation-end
-    corrected-rooms-requires
-    sub-store-floats
-    part-store-floats-start
-    part-store-floats-end
-    store-floats-requires
-    sub-store-floats-2
-    part-store-floats-start-2
-    part-store-floats-end-2
-    store-floats-requires-2
+    places-requires
+    at-most-requires
+    at-most-requires-2
+    slice-aggregate-called
+    called-requires
+    add-read
+    add-read-2
+    add-spare
+    add-spare-2
+    add-spare-3
+    number-of-requires
+    told-requires
+    slice-aggregate-store-study
+    store-study-requires
+    store-beside-requires
     same-length
     same-length-2
     same-length-3

@@ -10,23 +10,17 @@ use borrow.Author.Needs.{needs}
 use Rattle.ward_entries.proofs.study_bytes.Statement.{statement}
 use Rattle.ward_entries.proofs.study_bytes.Tie as tie
 
-slice-aggregate-read-lists : tie.Need-slice-aggregate-read-lists
-slice-aggregate-read-lists c = search needs
+read-buses-requires : tie.Need-read-buses-requires
+read-buses-requires c κs = search needs
 
-read-lists-requires : tie.Need-read-lists-requires
-read-lists-requires c κs = search needs
+slice-aggregate-load-numbers : tie.Need-slice-aggregate-load-numbers
+slice-aggregate-load-numbers c = search needs
 
-slice-aggregate-read-numbers : tie.Need-slice-aggregate-read-numbers
-slice-aggregate-read-numbers c = search needs
-
-read-numbers-requires : tie.Need-read-numbers-requires
-read-numbers-requires c κs = search needs
+load-numbers-requires : tie.Need-load-numbers-requires
+load-numbers-requires c κs = search needs
 
 slice-aggregate-study-out : tie.Need-slice-aggregate-study-out
 slice-aggregate-study-out c = search needs
-
-slice-aggregate-study-out-2 : tie.Need-slice-aggregate-study-out-2
-slice-aggregate-study-out-2 c = search needs
 
 study-out-requires : tie.Need-study-out-requires
 study-out-requires c κs = search needs
@@ -48,21 +42,20 @@ same-length-5 c = search needs
 
 returns : tie.Need-returns
 returns c =
-    let u = c .before .before .before .before .before .before .before .before .before .before .before .before .before .before .before .before .before .before .before .before .before .before .read-lists .ensures in
-    let v = c .before .before .before .before .before .before .before .before .before .before .before .before .before .before .before .before .before .before .before .read-numbers .ensures in
-    let o = outputsOf (now (c .before .before .before .before .before .before .before .before .before .before .before .before .before .before .before .before .before .before .before .before .before .before .before .before .before .before .before .before .before .before .before .before .before .before .before .args .y-ward)) (now (c .before .before .before .before .before .before .before .before .before .before .before .before .before .before .before .before .before .before .before .before .before .before .before .before .before .before .before .before .before .before .before .before .before .before .before .args .p-ward)) (now (c .before .before .before .before .before .before .before .before .before .before .before .before .before .before .before .before .before .before .before .before .before .before .before .before .before .before .before .before .before .before .before .before .before .before .before .args .q-ward)) (now (c .before .before .before .before .before .before .before .before .before .before .before .before .before .before .before .before .before .before .before .before .before .before .before .before .before .before .before .before .before .before .before .before .before .before .before .args .work)) (now (c .before .before .before .before .before .before .before .before .before .before .before .before .before .before .before .before .before .before .before .before .before .before .before .before .before .before .before .before .before .before .before .before .before .before .before .args .summary)) in
+    let a = c .before .before .before .before .before .before .before .before .before .before .before .before .before .before .before .before .before .before .before .before .before .before .before .before .before .before .before .before .before .before .before .before .args in
+    let u = c .before .before .before .before .before .before .before .before .before .before .before .before .before .before .before .before .before .before .before .before .read-buses .ensures in
+    let v = c .before .before .before .before .before .before .before .before .before .before .before .before .before .before .before .before .before .before .load-numbers .ensures in
+    let o = outputsOf (now (a .y-ward)) (now (a .p-ward)) (now (a .q-ward)) (now (a .work)) (now (a .summary)) in
     read-by (study-read u v) (ap (λ (n : ℕ). n + spareOf o) (spare-read u v)) (c .before .before .before .before .before .before .before .before .before .before .study-out .ensures)
 
 pub study-bytes-spec : {M : Type 1} → statement M
 study-bytes-spec =
     tie.close
     (tie.spec
-    slice-aggregate-read-lists
-    read-lists-requires
-    slice-aggregate-read-numbers
-    read-numbers-requires
+    read-buses-requires
+    slice-aggregate-load-numbers
+    load-numbers-requires
     slice-aggregate-study-out
-    slice-aggregate-study-out-2
     study-out-requires
     same-length
     same-length-2
