@@ -5,7 +5,7 @@ use Rattle.refusals.specs.declared.Outcome.{Outcome}
 use Rattle.refusals.specs.declared.Outcome.the-variants.{Done, Refused}
 
 -- the library's limit on buses, branches and lists
-unfoldable pub limit : ℕ
+abbrev pub limit : ℕ
 limit = 64
 
 -- ---- told from the input
