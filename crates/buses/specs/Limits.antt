@@ -6,5 +6,4 @@ use Rattle.refusals.specs.Refusals.{limit}
 
 -- one of these counts is above the limit
 abbrev pub over : ℕ → ℕ → ℕ → ℕ → Bool
-unfolding limit
 over n a b c = ltb limit n || (ltb limit a || (ltb limit b || ltb limit c))

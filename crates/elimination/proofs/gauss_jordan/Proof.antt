@@ -1,13 +1,11 @@
 -- `elimination::gauss_jordan` meets its contract.
 -- Assumes nothing.
 use native.Mathlib.Omega.{arith}
-use Rattle.refusals.specs.Refusals.{limit}
 use borrow.Author.Needs.{needs}
 use Rattle.elimination.proofs.gauss_jordan.Statement.{statement}
 use Rattle.elimination.proofs.gauss_jordan.Tie as tie
 
 mul-e : tie.Need-mul-e
-unfolding limit
 mul-e c = omega arith
 
 sub-columns : tie.Need-sub-columns
@@ -17,7 +15,6 @@ part-buffer-start : tie.Need-part-buffer-start
 part-buffer-start c = search needs
 
 part-buffer-end : tie.Need-part-buffer-end
-unfolding limit
 part-buffer-end c = omega arith
 
 columns-requires : tie.Need-columns-requires

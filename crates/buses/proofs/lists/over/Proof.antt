@@ -1,24 +1,19 @@
 -- `buses::lists::over` meets its contract: each test is the definition's.
 -- Assumes nothing.
-use Rattle.refusals.specs.Refusals.{limit}
 use borrow.Author.Tests.{lt-ltb, le-ltb}
 use Rattle.buses.proofs.lists.over.Statement.{statement}
 use Rattle.buses.proofs.lists.over.Tie as tie
 
 returns : tie.Need-returns
-unfolding limit
 returns c = rw (lt-ltb _ _ (c .if1 .taken))
 
 returns-2 : tie.Need-returns-2
-unfolding limit
 returns-2 c = rw (le-ltb _ _ (c .before .if1 .left), lt-ltb _ _ (c .if2 .taken))
 
 returns-3 : tie.Need-returns-3
-unfolding limit
 returns-3 c = rw (le-ltb _ _ (c .before .before .if1 .left), le-ltb _ _ (c .before .if2 .left), lt-ltb _ _ (c .if3 .taken))
 
 returns-4 : tie.Need-returns-4
-unfolding limit
 returns-4 c = rw (le-ltb _ _ (c .before .before .if1 .left), le-ltb _ _ (c .before .if2 .left), le-ltb _ _ (c .if3 .left))
 
 pub over-spec : {M : Type 1} → statement M
