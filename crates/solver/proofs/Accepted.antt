@@ -4,7 +4,7 @@ use mathlib.Core.Path.{_≡_, refl, sym, ap, subst, _∙_}
 use mathlib.Core.Bool.{Bool, true, false, not, _&&_, _||_, cond}
 use mathlib.Core.List.{List}
 use Prim.Native.Nat.{ℕ, zero, suc, _+_, _*_, _≤_}
-use native.Mathlib.Nat.{mul-le-mul, mul-add}
+use native.Mathlib.Nat.{mul-add}
 use native.Mathlib.Omega.{arith}
 use borrow.Author.Tests.{ltb-false, eqb-true, ne-eqb, not-false}
 use lib.Dec.{eqb, ltb}
@@ -15,10 +15,6 @@ use Rattle.refusals.specs.declared.Outcome.{Outcome}
 use Rattle.refusals.specs.declared.Outcome.the-variants.{Done, Refused}
 use Rattle.refusals.specs.Refusals.{limit, refuse, outcome}
 use Rattle.solver.specs.Calls.{afterElimination, solveRefusal, inverseRefusal}
-
--- within the limit no length wraps
-pub small : (a b : ℕ) → a ≤ 64 → b ≤ 65 → a * b ≤ 4160
-small a b h k = mul-le-mul {n₁ = a} {m₁ = b} {n₂ = 64} {m₂ = 65} h k
 
 -- ---- from 0 to the tests
 

@@ -32,7 +32,6 @@ afterElimination told small new old work =
 
 -- told from the size and the lengths; 0 is no refusal
 unfoldable pub solveRefusal : ℕ → ℕ → ℕ → ℕ → ℕ → ℕ
-unfolding limit
 solveRefusal n a b x work =
     refuse (ltb limit n) tooMany
     (refuse (not (eqb a (2 * (n * n)) && (eqb x (2 * n) && eqb work (2 * (n * (n + 1)))))) wrongLength
@@ -50,7 +49,6 @@ afterSolve n a b x work =
 -- ---- the inverse: mat and inverse have n rows of n, work has n rows of 2 n
 
 unfoldable pub inverseRefusal : ℕ → ℕ → ℕ → ℕ → ℕ
-unfolding limit
 inverseRefusal n mat inverse work =
     refuse (ltb limit n) tooMany
     (refuse (not (eqb mat (2 * (n * n)) && (eqb inverse (2 * (n * n)) && eqb work (4 * (n * n))))) wrongLength

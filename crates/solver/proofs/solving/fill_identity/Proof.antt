@@ -12,14 +12,12 @@ use lib.Ieee.{Float}
 use Rattle.complex.specs.declared.Complex.{Complex}
 use Rattle.complex.specs.Arithmetic.{unit}
 use Rattle.complex.specs.Matrices.{entryAt}
-use Rattle.refusals.specs.Refusals.{limit}
 use Rattle.gauss_jordan.specs.Work.{placed, diagonal}
 use Rattle.gauss_jordan.proofs.Solutions.{identity-filled}
 use Rattle.solver.proofs.solving.fill_identity.Statement.{statement}
 use Rattle.solver.proofs.solving.fill_identity.Tie as tie
 
 add-w : tie.Need-add-w
-unfolding limit
 add-w c = omega arith
 
 clear-requires : tie.Need-clear-requires

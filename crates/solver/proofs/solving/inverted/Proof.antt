@@ -6,7 +6,6 @@ use native.Mathlib.Omega.{arith}
 use borrow.Author.Needs.{needs}
 use Rattle.complex.specs.Matrices.{Matrix, entryAt, zeros}
 use Rattle.complex.proofs.Matrices.{grid-same}
-use Rattle.refusals.specs.Refusals.{limit}
 use Rattle.gauss_jordan.specs.Solving.{inverse, unitColumn}
 use Rattle.gauss_jordan.specs.Work.{beyond}
 use Rattle.gauss_jordan.proofs.Solutions.{singular-is, solution-is}
@@ -14,14 +13,12 @@ use Rattle.solver.proofs.solving.inverted.Statement.{statement}
 use Rattle.solver.proofs.solving.inverted.Tie as tie
 
 add-w : tie.Need-add-w
-unfolding limit
 add-w c = omega arith
 
 fill-identity-requires : tie.Need-fill-identity-requires
 fill-identity-requires c κs = search needs
 
 gauss-jordan-requires : tie.Need-gauss-jordan-requires
-unfolding limit
 gauss-jordan-requires c κs = (omega arith, omega arith, c .before .before .before .fill-identity .kept .0 ∙ c .before .before .before .before .before .before .before .before .pre .1)
 
 clear-requires : tie.Need-clear-requires

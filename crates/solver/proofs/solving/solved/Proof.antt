@@ -7,7 +7,6 @@ use borrow.Author.Needs.{needs}
 use Rattle.complex.specs.Entries.{entry}
 use Rattle.complex.specs.Matrices.{Matrix, entryAt, zeros}
 use Rattle.complex.proofs.Matrices.{grid-same}
-use Rattle.refusals.specs.Refusals.{limit}
 use Rattle.gauss_jordan.specs.Solving.{solve}
 use Rattle.gauss_jordan.specs.Work.{beyond}
 use Rattle.gauss_jordan.proofs.Solutions.{singular-is, solution-is}
@@ -21,7 +20,6 @@ fill-system-requires : tie.Need-fill-system-requires
 fill-system-requires c κs = search needs
 
 gauss-jordan-requires : tie.Need-gauss-jordan-requires
-unfolding limit
 gauss-jordan-requires c κs = (omega arith, omega arith, c .before .before .before .fill-system .kept .0 ∙ c .before .before .before .before .before .before .before .before .before .pre .1)
 
 clear-requires : tie.Need-clear-requires
