@@ -128,18 +128,22 @@ put-more f xs first j a l h e i u v =
 
 -- ---- rows of a matrix within the limit
 
-pub row-room : (n i : ℕ) → n ≤ limit → i < n → (i * n + n ≤ n * n) × (n * n ≤ 4096)
-unfolding limit
-row-room n i a b = (row-within n n i b, mul-le-mul {n₁ = n} {m₁ = n} {n₂ = 64} {m₂ = 64} a a)
+-- where row i of n lies
+abbrev pub RowRoom : ℕ → ℕ → Type 0
+RowRoom n i = (i * n + n ≤ n * n) × (n * n ≤ limit * limit)
 
--- row i of n and row p of n - 1, p not above i
-pub room : (n i p : ℕ) → n ≤ limit → i < n → p ≤ i → p < n - 1
-    → (i * n + n ≤ n * n) × (p * (n - 1) + (n - 1) ≤ i * n + n) × (n * n ≤ 4096)
-unfolding limit
+pub row-room : (n i : ℕ) → n ≤ limit → i < n → RowRoom n i
+row-room n i a b = (row-within n n i b, mul-le-mul a a)
+
+-- where row i of n and row p of n - 1 lie
+abbrev pub Room : ℕ → ℕ → ℕ → Type 0
+Room n i p = (i * n + n ≤ n * n) × (p * (n - 1) + (n - 1) ≤ i * n + n) × (n * n ≤ limit * limit)
+
+pub room : (n i p : ℕ) → n ≤ limit → i < n → p ≤ i → p < n - 1 → Room n i p
 room n i p a b d e = (
   row-within n n i b,
   le-trans (le-of-eq (sym (suc-mul p (n - 1)))) (le-trans (mul-le-mul {n₁ = suc p} {m₁ = n - 1} {n₂ = suc i} {m₂ = n} (omega arith) (omega arith)) (le-of-eq (suc-mul i n))),
-  mul-le-mul {n₁ = n} {m₁ = n} {n₂ = 64} {m₂ = 64} a a,
+  mul-le-mul a a,
 )
 
 -- row p of rows of m came back: what lies behind it, by rows of n

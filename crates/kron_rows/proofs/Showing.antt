@@ -26,7 +26,6 @@ getD-zeros (suc n) zero = refl
 getD-zeros (suc n) (suc i) = getD-zeros n i
 
 pub length-padded : (xs : List ℕ) → length xs ≤ limit → length (padded xs) ≡ limit
-unfolding limit
 length-padded xs h = simp (length-append, length-replicate) (omega arith)
 
 pub getD-padded : (xs : List ℕ) (p : ℕ) → p < length xs → getD (padded xs) p 0 ≡ getD xs p 0

@@ -45,7 +45,6 @@ found-not k xs e = go (mem k xs) e
 
 module _ (n : ℕ) (bs : List ℕ) (ys : List Float) (h : Holds n bs ys) where
   pub holds-room : length bs ≡ limit
-  unfolding limit
   holds-room = ap length (h .places) ∙ length-padded (take n bs) (le-trans short (h .room))
     where
       short : length (take n bs) ≤ n

@@ -14,18 +14,14 @@ use Rattle.complex.proofs.Parts.{back}
 use Rattle.complex.proofs.Matrices.{row-within, entry-part, row-back-same, row-back-other}
 use Rattle.kron_rows.specs.Kron.{newEntry}
 use Rattle.kron_rows.specs.Removal.{kept}
-use Rattle.kron_rows.proofs.Positions.{room, kept-lt, entry-behind}
+use Rattle.kron_rows.proofs.Positions.{Room, room, kept-lt, entry-behind}
 use Rattle.kron_rows.proofs.put_row.Statement.{statement}
 use Rattle.kron_rows.proofs.put_row.Tie as tie
 
 sub-m : tie.Need-sub-m
 sub-m c = search needs
 
--- where the two rows lie
-abbrev Lies : ℕ → ℕ → ℕ → Type 0
-Lies n i p = (i * n + n ≤ n * n) × (p * (n - 1) + (n - 1) ≤ i * n + n) × (n * n ≤ 4096)
-
-lies : (c : tie.After-slice-known2) → Lies (c .before .before .before .args .n) (c .before .before .before .args .i) (c .before .before .before .args .p)
+lies : (c : tie.After-slice-known2) → Room (c .before .before .before .args .n) (c .before .before .before .args .i) (c .before .before .before .args .p)
 lies c =
     let s = c .before .before .before in
     room (s .args .n) (s .args .i) (s .args .p) (s .pre .0) (s .pre .2) (s .pre .3) (s .pre .4)

@@ -2,7 +2,7 @@
 -- Assumes nothing.
 use mathlib.Core.Path.{_≡_, ap, _∙_}
 use mathlib.Core.List.{List}
-use Prim.Native.Nat.{ℕ, _+_, _*_, _-_, _≤_, _<_}
+use Prim.Native.Nat.{ℕ, _+_, _*_, _-_, _<_}
 use native.Mathlib.Nat.{sub-zero}
 use native.Mathlib.Omega.{arith}
 use borrow.Author.Needs.{needs}
@@ -13,10 +13,9 @@ use Rattle.complex.specs.Entries.{entry}
 use Rattle.complex.specs.Matrices.{entryAt}
 use Rattle.complex.proofs.Parts.{back}
 use Rattle.complex.proofs.Matrices.{entry-part}
-use Rattle.refusals.specs.Refusals.{limit}
 use Rattle.kron_rows.specs.Kron.{newEntry, kron}
 use Rattle.kron_rows.specs.Removal.{kept}
-use Rattle.kron_rows.proofs.Positions.{row-room, kept-lt, entry-front, length-part}
+use Rattle.kron_rows.proofs.Positions.{RowRoom, row-room, kept-lt, entry-front, length-part}
 use Rattle.kron_rows.proofs.remove_row.Statement.{statement}
 use Rattle.kron_rows.proofs.remove_row.Tie as tie
 
@@ -26,11 +25,7 @@ mul-w c = search needs
 sub-v : tie.Need-sub-v
 sub-v c = search needs
 
--- where row k lies
-abbrev Lies : ℕ → ℕ → Type 0
-Lies n k = (k * n + n ≤ n * n) × (n * n ≤ 4096)
-
-lies : (c : tie.After-slice-known3) → Lies (c .before .before .before .args .n) (c .before .before .before .args .k)
+lies : (c : tie.After-slice-known3) → RowRoom (c .before .before .before .args .n) (c .before .before .before .args .k)
 lies c = let s = c .before .before .before in row-room (s .args .n) (s .args .k) (s .pre .0) (s .pre .1)
 
 mul-a : tie.Need-mul-a
@@ -97,7 +92,7 @@ same-length-3 : tie.Need-same-length-3
 same-length-3 c = search needs
 
 returns : tie.Need-returns
-unfolding kron limit
+unfolding kron
 returns c =
     let done = c .before .before .before .before in
     let copied = done .before .before .before .before .before .before .before in
