@@ -85,7 +85,7 @@ pub record FittingX (X : Extended) (o : ExtendedRoom) : Type 0 where
   pub compensation : length (o .compensation) ≡ length (X .study .boundary)
 
 pub extended-fitting : (X : Extended) (o : ExtendedRoom) (t : ℕ) → t ≡ toldXOf X o → t ≡ 0 → FittingX X o
-unfolding many wrong unlike limit
+unfolding many wrong unlike
 extended-fitting X o t e z =
     let S = X .study in
     let b = length (S .boundary) in
@@ -96,7 +96,7 @@ extended-fitting X o t e z =
     let C = not (eqb (length (o .correction)) b) in
     let K = not (eqb (length (o .compensation)) b) in
     let U = uneven (S .size) (length (S .given)) (length (S .internal)) (externals S) b (length (o .room .y-ward)) (length (o .room .p-ward)) (length (o .room .q-ward)) (length (o .room .work)) in
-    let (cr, lv) = none-of (crowded (S .size) (length (S .internal)) (externals S) b (length (S .p-ext)) (length (S .q-ext))) (ltb 64 (length (X .v-ext))) m in
+    let (cr, lv) = none-of (crowded (S .size) (length (S .internal)) (externals S) b (length (S .p-ext)) (length (S .q-ext))) (ltb limit (length (X .v-ext))) m in
     let (uc, k) = none-of (U || C) K w in
     let (un, c) = none-of U C uc in
     let (pq, v) = none-of (P || Q) N u in

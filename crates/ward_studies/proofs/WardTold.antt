@@ -16,20 +16,20 @@ use Rattle.ward_studies.proofs.WardBuses.{none-of, studied-refused}
 -- ---- the lengths within the limit
 
 pub record Few (n i e b : ℕ) : Type 0 where
-  pub size : n ≤ 64
-  pub internal : i ≤ 64
-  pub external : e ≤ 64
-  pub boundary : b ≤ 64
+  pub size : n ≤ limit
+  pub internal : i ≤ limit
+  pub external : e ≤ limit
+  pub boundary : b ≤ limit
 
 pub few : (n i e b p q : ℕ) → crowded n i e b p q ≡ false → Few n i e b
-unfolding crowded limit
+unfolding crowded
 few n i e b p q h =
-    let a5 = none-of (ltb 64 n || ltb 64 i || ltb 64 e || ltb 64 b || ltb 64 p) (ltb 64 q) h .0 in
-    let a4 = none-of (ltb 64 n || ltb 64 i || ltb 64 e || ltb 64 b) (ltb 64 p) a5 .0 in
-    let a3 = none-of (ltb 64 n || ltb 64 i || ltb 64 e) (ltb 64 b) a4 in
-    let a2 = none-of (ltb 64 n || ltb 64 i) (ltb 64 e) (a3 .0) in
-    let a1 = none-of (ltb 64 n) (ltb 64 i) (a2 .0) in
-    record { size = ltb-false 64 n (a1 .0); internal = ltb-false 64 i (a1 .1); external = ltb-false 64 e (a2 .1); boundary = ltb-false 64 b (a3 .1) }
+    let a5 = none-of (ltb limit n || ltb limit i || ltb limit e || ltb limit b || ltb limit p) (ltb limit q) h .0 in
+    let a4 = none-of (ltb limit n || ltb limit i || ltb limit e || ltb limit b) (ltb limit p) a5 .0 in
+    let a3 = none-of (ltb limit n || ltb limit i || ltb limit e) (ltb limit b) a4 in
+    let a2 = none-of (ltb limit n || ltb limit i) (ltb limit e) (a3 .0) in
+    let a1 = none-of (ltb limit n) (ltb limit i) (a2 .0) in
+    record { size = ltb-false limit n (a1 .0); internal = ltb-false limit i (a1 .1); external = ltb-false limit e (a2 .1); boundary = ltb-false limit b (a3 .1) }
 
 pub record Even (n y i e b yw pw qw w : ℕ) : Type 0 where
   pub given : y ≡ 2 * (n * n)
@@ -124,7 +124,7 @@ none-told false false true h = absurd (omega arith)
 none-told false false false h = (refl, refl, refl)
 
 pub told-fitting : (S : Study) (o : Room) (t : ℕ) → t ≡ toldOf S o → t ≡ 0 → Fitting S o
-unfolding toldOf told limit
+unfolding toldOf told
 told-fitting S o t e z =
     let P = not (eqb (length (S .p-ext)) (externals S)) in
     let Q = not (eqb (length (S .q-ext)) (externals S)) in

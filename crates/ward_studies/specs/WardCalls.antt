@@ -31,7 +31,6 @@ after r yw pw qw ws = record { answer = r; room = roomOf yw pw qw ws }
 
 -- of n buses, the three lists, and P and Q
 unfoldable pub crowded : ℕ → ℕ → ℕ → ℕ → ℕ → ℕ → Bool
-unfolding limit
 crowded n i e b p q = ltb limit n || ltb limit i || ltb limit e || ltb limit b || ltb limit p || ltb limit q
 
 unfoldable pub uneven : ℕ → ℕ → ℕ → ℕ → ℕ → ℕ → ℕ → ℕ → ℕ → Bool
@@ -149,7 +148,7 @@ seen n ys es vs base = extendedOf (studyOf n ys [] es [] base [] []) vs
 
 -- what the lengths tell: 1, 2, 3 or 0
 unfoldable pub toldX : ℕ → ℕ → ℕ → ℕ → ℕ → ℕ → ℕ → ℕ → ℕ → ℕ → ℕ → ℕ → ℕ → ℕ → ℕ
-unfolding crowded uneven limit
+unfolding crowded uneven
 toldX n y i e b p q yw pw qw w v c k =
     refuse (crowded n i e b p q || ltb limit v) tooMany
     (refuse (uneven n y i e b yw pw qw w || not (eqb c b) || not (eqb k b)) wrongLength

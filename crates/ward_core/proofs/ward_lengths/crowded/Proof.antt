@@ -1,34 +1,33 @@
 -- `ward_core::ward_lengths::crowded` meets its contract.
 -- Assumes nothing.
 use borrow.Author.Tests.{lt-ltb, le-ltb}
-use Rattle.refusals.specs.Refusals.{limit}
 use Rattle.ward_studies.specs.WardCalls.{crowded}
 use Rattle.ward_core.proofs.ward_lengths.crowded.Statement.{statement}
 use Rattle.ward_core.proofs.ward_lengths.crowded.Tie as tie
 
 returns : tie.Need-returns
-unfolding crowded limit
-returns c = simp (lt-ltb 64 (c .before .args .n) (c .if1 .taken))
+unfolding crowded
+returns c = simp (lt-ltb _ _ (c .if1 .taken))
 
 returns-2 : tie.Need-returns-2
-unfolding crowded limit
-returns-2 c = simp (le-ltb 64 (c .before .before .args .n) (c .before .if1 .left), lt-ltb 64 (c .before .before .args .i) (c .if2 .taken))
+unfolding crowded
+returns-2 c = simp (le-ltb _ _ (c .before .if1 .left), lt-ltb _ _ (c .if2 .taken))
 
 returns-3 : tie.Need-returns-3
-unfolding crowded limit
-returns-3 c = simp (le-ltb 64 (c .before .before .before .args .n) (c .before .before .if1 .left), le-ltb 64 (c .before .before .before .args .i) (c .before .if2 .left), lt-ltb 64 (c .before .before .before .args .e) (c .if3 .taken))
+unfolding crowded
+returns-3 c = simp (le-ltb _ _ (c .before .before .if1 .left), le-ltb _ _ (c .before .if2 .left), lt-ltb _ _ (c .if3 .taken))
 
 returns-4 : tie.Need-returns-4
-unfolding crowded limit
-returns-4 c = simp (le-ltb 64 (c .before .before .before .before .args .n) (c .before .before .before .if1 .left), le-ltb 64 (c .before .before .before .before .args .i) (c .before .before .if2 .left), le-ltb 64 (c .before .before .before .before .args .e) (c .before .if3 .left), lt-ltb 64 (c .before .before .before .before .args .b) (c .if4 .taken))
+unfolding crowded
+returns-4 c = simp (le-ltb _ _ (c .before .before .before .if1 .left), le-ltb _ _ (c .before .before .if2 .left), le-ltb _ _ (c .before .if3 .left), lt-ltb _ _ (c .if4 .taken))
 
 returns-5 : tie.Need-returns-5
-unfolding crowded limit
-returns-5 c = simp (le-ltb 64 (c .before .before .before .before .before .args .n) (c .before .before .before .before .if1 .left), le-ltb 64 (c .before .before .before .before .before .args .i) (c .before .before .before .if2 .left), le-ltb 64 (c .before .before .before .before .before .args .e) (c .before .before .if3 .left), le-ltb 64 (c .before .before .before .before .before .args .b) (c .before .if4 .left), lt-ltb 64 (c .before .before .before .before .before .args .p) (c .if5 .taken))
+unfolding crowded
+returns-5 c = simp (le-ltb _ _ (c .before .before .before .before .if1 .left), le-ltb _ _ (c .before .before .before .if2 .left), le-ltb _ _ (c .before .before .if3 .left), le-ltb _ _ (c .before .if4 .left), lt-ltb _ _ (c .if5 .taken))
 
 returns-6 : tie.Need-returns-6
-unfolding crowded limit
-returns-6 c = simp (le-ltb 64 (c .before .before .before .before .before .args .n) (c .before .before .before .before .if1 .left), le-ltb 64 (c .before .before .before .before .before .args .i) (c .before .before .before .if2 .left), le-ltb 64 (c .before .before .before .before .before .args .e) (c .before .before .if3 .left), le-ltb 64 (c .before .before .before .before .before .args .b) (c .before .if4 .left), le-ltb 64 (c .before .before .before .before .before .args .p) (c .if5 .left))
+unfolding crowded
+returns-6 c = simp (le-ltb _ _ (c .before .before .before .before .if1 .left), le-ltb _ _ (c .before .before .before .if2 .left), le-ltb _ _ (c .before .before .if3 .left), le-ltb _ _ (c .before .if4 .left), le-ltb _ _ (c .if5 .left))
 
 pub crowded-spec : {M : Type 1} → statement M
 crowded-spec = tie.close (tie.spec returns returns-2 returns-3 returns-4 returns-5 returns-6)

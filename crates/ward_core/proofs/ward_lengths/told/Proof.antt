@@ -1,10 +1,8 @@
 -- `ward_core::ward_lengths::told` meets its contract.
 -- Assumes nothing.
 use mathlib.Core.Path.{sym, _∙_}
-use native.Mathlib.Omega.{arith}
 use borrow.Author.Needs.{needs}
 use borrow.Author.Tests.{eq-eqb, ne-eqb}
-use Rattle.refusals.specs.Refusals.{limit}
 use Rattle.ward_studies.specs.WardCalls.{crowded, uneven, told}
 use Rattle.ward_studies.proofs.WardTold.{few}
 use Rattle.ward_core.proofs.ward_lengths.told.Statement.{statement}
@@ -18,11 +16,10 @@ unfolding told
 returns c = rw (sym (c .before .crowded .ensures) ∙ c .if1 .taken)
 
 uneven-requires : tie.Need-uneven-requires
-unfolding limit
 uneven-requires c κs =
     let a = c .before .before .args in
     let f = few (a .n) (a .i) (a .e) (a .b) (a .p) (a .q) (sym (c .before .crowded .ensures) ∙ c .if1 .left) in
-    (omega (arith, f .size), omega (arith, f .internal), omega (arith, f .external), omega (arith, f .boundary))
+    (f .size, f .internal, f .external, f .boundary)
 
 returns-2 : tie.Need-returns-2
 unfolding told
@@ -30,15 +27,15 @@ returns-2 c = rw (sym (c .before .before .before .crowded .ensures) ∙ c .befor
 
 returns-3 : tie.Need-returns-3
 unfolding told
-returns-3 c = simp (sym (c .before .before .before .before .crowded .ensures) ∙ c .before .before .before .if1 .left, sym (c .before .before .uneven .ensures) ∙ c .before .if2 .left, ne-eqb (c .before .before .before .before .before .args .p) (c .before .before .before .before .before .args .e) (c .if3 .taken))
+returns-3 c = simp (sym (c .before .before .before .before .crowded .ensures) ∙ c .before .before .before .if1 .left, sym (c .before .before .uneven .ensures) ∙ c .before .if2 .left, ne-eqb _ _ (c .if3 .taken))
 
 returns-4 : tie.Need-returns-4
 unfolding told
-returns-4 c = simp (sym (c .before .before .before .before .before .crowded .ensures) ∙ c .before .before .before .before .if1 .left, sym (c .before .before .before .uneven .ensures) ∙ c .before .before .if2 .left, eq-eqb (c .before .before .before .before .before .before .args .p) (c .before .before .before .before .before .before .args .e) (c .before .if3 .left), ne-eqb (c .before .before .before .before .before .before .args .q) (c .before .before .before .before .before .before .args .e) (c .if4 .taken))
+returns-4 c = simp (sym (c .before .before .before .before .before .crowded .ensures) ∙ c .before .before .before .before .if1 .left, sym (c .before .before .before .uneven .ensures) ∙ c .before .before .if2 .left, eq-eqb _ _ (c .before .if3 .left), ne-eqb _ _ (c .if4 .taken))
 
 returns-5 : tie.Need-returns-5
 unfolding told
-returns-5 c = simp (sym (c .before .before .before .before .before .crowded .ensures) ∙ c .before .before .before .before .if1 .left, sym (c .before .before .before .uneven .ensures) ∙ c .before .before .if2 .left, eq-eqb (c .before .before .before .before .before .before .args .p) (c .before .before .before .before .before .before .args .e) (c .before .if3 .left), eq-eqb (c .before .before .before .before .before .before .args .q) (c .before .before .before .before .before .before .args .e) (c .if4 .left))
+returns-5 c = simp (sym (c .before .before .before .before .before .crowded .ensures) ∙ c .before .before .before .before .if1 .left, sym (c .before .before .before .uneven .ensures) ∙ c .before .before .if2 .left, eq-eqb _ _ (c .before .if3 .left), eq-eqb _ _ (c .if4 .left))
 
 pub told-spec : {M : Type 1} → statement M
 told-spec =

@@ -10,7 +10,6 @@ use borrow.Author.Needs.{needs}
 use native.Mathlib.Nat.{sub-zero}
 use lib.ListN.{length-drop}
 use lib.Seq.{length-take-le}
-use Rattle.refusals.specs.Refusals.{limit}
 use Rattle.ward_studies.specs.declared.WardAnswer.the-variants.{Done}
 use Rattle.ward_products.specs.WardArithmetic.{injectedP, injectedQ}
 use Rattle.ward_products.specs.WardWork.{product}
@@ -109,7 +108,6 @@ sub-ratio : tie.Need-sub-ratio
 sub-ratio c = search needs
 
 ratio-requires : tie.Need-ratio-requires
-unfolding limit
 ratio-requires c κs =
     let P = c .before .before .before .before .before .before .before .before .before .before .before .before .before .before .before .before .before .before .before .before .before .before .before .before .before .before .before .pre in
     (omega (arith, P .distinct), omega (arith, P .few))

@@ -5,17 +5,16 @@ use native.Mathlib.Omega.{arith}
 use lib.Ieee.{inFloat}
 use lib.Dec.{le→leb}
 use Rattle.complex.specs.Constants.{one}
-use Rattle.refusals.specs.Refusals.{limit}
 use Rattle.ward_studies.specs.Ward.{reduction}
 use Rattle.ward_studies.proofs.ward_study.ratio.Statement.{statement}
 use Rattle.ward_studies.proofs.ward_study.ratio.Tie as tie
 
 int-to-float-result : tie.Need-int-to-float-result
-unfolding inFloat limit
+unfolding inFloat
 int-to-float-result c = le→leb (c .before .args .r) 9007199254740992 (omega (arith, c .before .pre .0, c .before .pre .1))
 
 int-to-float-result-2 : tie.Need-int-to-float-result-2
-unfolding inFloat limit
+unfolding inFloat
 int-to-float-result-2 c = le→leb (c .before .before .args .n) 9007199254740992 (omega (arith, c .before .before .pre .1))
 
 returns : tie.Need-returns

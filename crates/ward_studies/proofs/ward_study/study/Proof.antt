@@ -8,7 +8,6 @@ use lib.ListN.{length, take}
 use borrow.Author.Needs.{needs}
 use lib.ListN.{length-append}
 use native.Mathlib.Nat.{add-assoc, sub-zero}
-use Rattle.refusals.specs.Refusals.{limit}
 use Rattle.ward_studies.specs.Ward.{Study, busRefusal}
 use Rattle.ward_studies.specs.WardCalls.{studyOf, roomOf, cut, studied}
 use Rattle.ward_studies.proofs.WardBuses.{cut-joined}
@@ -20,7 +19,6 @@ slice-aggregate-join : tie.Need-slice-aggregate-join
 slice-aggregate-join c = search needs
 
 join-requires : tie.Need-join-requires
-unfolding limit
 join-requires c κs =
     let F = c .before .before .before .before .before .before .before .before .before .before .before .pre in
     omega (arith, F .few-internal, F .few-external, F .few-boundary)
@@ -38,7 +36,6 @@ part-listed-start : tie.Need-part-listed-start
 part-listed-start c = search needs
 
 part-listed-end : tie.Need-part-listed-end
-unfolding limit
 part-listed-end c =
     let F = c .before .before .before .before .before .before .before .before .before .before .before .before .before .before .pre in
     omega (arith, F .few-internal, F .few-external, F .few-boundary, c .before .before .join .kept .1 .1 .1 .0)
