@@ -34,9 +34,8 @@ use Rattle.kron_core.proofs.Reading.{reading-accepted}
 
 -- ---- a work slice of n rows of 2 n entries
 
-pub work-room : (n p : ℕ) → n ≤ limit → p < n → (p * (n + n) + (n + n) ≤ n * (n + n)) × (n * (n + n) ≤ 8192)
-unfolding limit
-work-room n p a b = (row-within n (n + n) p b, mul-le-mul {n₁ = n} {m₁ = n + n} {n₂ = 64} {m₂ = 128} a (omega arith))
+pub work-room : (n p : ℕ) → n ≤ limit → p < n → (p * (n + n) + (n + n) ≤ n * (n + n)) × (n * (n + n) ≤ limit * (limit + limit))
+work-room n p a b = let twice : n + n ≤ limit + limit = omega arith in (row-within n (n + n) p b, mul-le-mul a twice)
 
 -- ---- the same entries, the same inverse
 

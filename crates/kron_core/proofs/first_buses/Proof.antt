@@ -17,20 +17,18 @@ use Rattle.kron_core.proofs.first_buses.Statement.{statement}
 use Rattle.kron_core.proofs.first_buses.Tie as tie
 
 abbrev Inv-loop : tie.InvT-loop
-Inv-loop n active₀ i₀ active i = (i ≤ n) × (length active ≡ 64) × ((k : ℕ) → k < i → getD active k 0 ≡ k) × ((k : ℕ) → i ≤ k → getD active k 0 ≡ 0)
+Inv-loop n active₀ i₀ active i = (i ≤ n) × (length active ≡ limit) × ((k : ℕ) → k < i → getD active k 0 ≡ k) × ((k : ℕ) → i ≤ k → getD active k 0 ≡ 0)
 
 abbrev μ-loop : tie.MeasureT-loop
 μ-loop n active₀ i₀ active i = n - i
 
 loop-holds : tie.Need-loop-holds Inv-loop μ-loop
-loop-holds c = (omega arith, refl, λ (k : ℕ) (l : k < 0). absurd (omega arith), λ (k : ℕ) (l : 0 ≤ k). getD-zeros 64 k)
+loop-holds c = (omega arith, refl, λ (k : ℕ) (l : k < 0). absurd (omega arith), λ (k : ℕ) (l : 0 ≤ k). getD-zeros limit k)
 
 mul-active : tie.Need-mul-active Inv-loop μ-loop
-unfolding limit
 mul-active c = omega (arith, c .before .before .pre)
 
 array-write-active : tie.Need-array-write-active Inv-loop μ-loop
-unfolding limit
 array-write-active c = omega (arith, c .before .before .pre)
 
 add-i : tie.Need-add-i Inv-loop μ-loop
@@ -40,7 +38,6 @@ loop-less : tie.Need-loop-less Inv-loop μ-loop
 loop-less c = search needs
 
 loop-again : tie.Need-loop-again Inv-loop μ-loop
-unfolding limit
 loop-again c =
     let xs = c .before .loop .active in
     let i = c .before .loop .i in
@@ -52,7 +49,6 @@ loop-again c =
     )
 
 returns : tie.Need-returns Inv-loop μ-loop
-unfolding limit
 returns c =
     let xs = c .before .loop .active in
     let n = c .before .before .args .n in

@@ -2,37 +2,30 @@
 -- Assumes nothing.
 use mathlib.Core.Path.{_≡_, sym, _∙_}
 use mathlib.Core.List.{List}
-use Prim.Native.Nat.{ℕ, _*_, _≤_}
+use Prim.Native.Nat.{_*_}
 use native.Mathlib.Nat.{mul-le-mul}
 use native.Mathlib.Omega.{arith}
 use borrow.Author.Needs.{needs}
 use borrow.Author.Tests.{not-true, not-false}
 use lib.ListN.{length}
 use lib.Ieee.{Float}
-use Rattle.refusals.specs.Refusals.{limit}
 use Rattle.kron_core.proofs.Calls.{input-made, input-count, input-length, input-record, input-none}
 use Rattle.kron_core.proofs.input_refusal.Statement.{statement}
 use Rattle.kron_core.proofs.input_refusal.Tie as tie
 
-square : (n : ℕ) → n ≤ 64 → n * n ≤ 4096
-square n h = mul-le-mul {n₁ = n} {m₁ = n} {n₂ = 64} {m₂ = 64} h h
-
 returns : tie.Need-returns
-unfolding limit
 returns c = λ (ys : List Float) (e : length ys ≡ c .before .args .len). input-made (c .before .args .r) ys (c .before .args .count) (c .if1 .taken)
 
 returns-2 : tie.Need-returns-2
-unfolding limit
 returns-2 c = λ (ys : List Float) (e : length ys ≡ c .before .before .args .len). input-count (c .before .before .args .r) ys (c .before .before .args .count) (c .if2 .taken)
 
 mul-if3 : tie.Need-mul-if3
-mul-if3 c = omega (arith, square (c .before .before .args .r .made) (c .before .if1 .left))
+mul-if3 c = let h = c .before .if1 .left in omega (arith, mul-le-mul h h)
 
 mul-if3-2 : tie.Need-mul-if3-2
-mul-if3-2 c = omega (arith, square (c .before .before .args .r .made) (c .before .if1 .left))
+mul-if3-2 c = let h = c .before .if1 .left in omega (arith, mul-le-mul h h)
 
 returns-3 : tie.Need-returns-3
-unfolding limit
 returns-3 c =
     let s = c .before .before .before in
     λ (ys : List Float) (e : length ys ≡ s .args .len). input-length (s .args .r) ys (s .args .count) (c .before .before .if1 .left) (c .before .if2 .left) (λ (d : length ys ≡ 2 * (s .args .r .made * s .args .r .made)). c .if3 .taken (sym e ∙ d))
@@ -41,7 +34,6 @@ is-sound-requires : tie.Need-is-sound-requires
 is-sound-requires c κs = search needs
 
 returns-4 : tie.Need-returns-4
-unfolding limit
 returns-4 c =
     let b = c .before .before in
     let s = b .before .before .before in
@@ -49,7 +41,6 @@ returns-4 c =
     input-record (s .args .r) ys (s .args .count) (b .before .before .if1 .left) (b .before .if2 .left) (e ∙ b .if3 .left) (sym (c .before .is-sound .ensures) ∙ not-true (c .before .is-sound .result) (c .if4 .taken))
 
 returns-5 : tie.Need-returns-5
-unfolding limit
 returns-5 c =
     let b = c .before .before in
     let s = b .before .before .before in

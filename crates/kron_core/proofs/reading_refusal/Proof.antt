@@ -2,41 +2,31 @@
 -- Assumes nothing.
 use mathlib.Core.Path.{_≡_, _∙_}
 use mathlib.Core.List.{List}
-use Prim.Native.Nat.{ℕ, _*_, _≤_}
 use native.Mathlib.Nat.{mul-le-mul}
 use native.Mathlib.Omega.{arith}
 use borrow.Author.Needs.{needs}
 use lib.ListN.{length}
 use lib.Ieee.{Float}
-use Rattle.refusals.specs.Refusals.{limit}
 use Rattle.kron_core.proofs.Reading.{reading-made, reading-room, reading-rest}
 use Rattle.kron_core.proofs.reading_refusal.Statement.{statement}
 use Rattle.kron_core.proofs.reading_refusal.Tie as tie
 
-square : (n : ℕ) → n ≤ 64 → n * n ≤ 4096
-square n h = mul-le-mul {n₁ = n} {m₁ = n} {n₂ = 64} {m₂ = 64} h h
-
 returns : tie.Need-returns
-unfolding limit
 returns c = λ (ys : List Float) (e : length ys ≡ c .before .args .len). reading-made (c .before .args .per) (c .before .args .r) ys (c .before .args .m) (c .if1 .taken)
 
 mul-if2 : tie.Need-mul-if2
-mul-if2 c = omega (arith, square (c .before .args .r .made) (c .if1 .left))
+mul-if2 c = let h = c .if1 .left in omega (arith, mul-le-mul h h)
 
 mul-if2-2 : tie.Need-mul-if2-2
-mul-if2-2 c =
-    let m = c .before .args .r .made * c .before .args .r .made in
-    omega (arith, mul-le-mul {n₁ = c .before .args .per} {m₁ = m} {n₂ = 4} {m₂ = 4096} (c .before .pre) (square (c .before .args .r .made) (c .if1 .left)))
+mul-if2-2 c = let h = c .if1 .left in omega (arith, mul-le-mul (c .before .pre) (mul-le-mul h h))
 
 returns-2 : tie.Need-returns-2
-unfolding limit
 returns-2 c = λ (ys : List Float) (e : length ys ≡ c .before .before .args .len). reading-room (c .before .before .args .per) (c .before .before .args .r) ys (c .before .before .args .m) (c .before .if1 .left) (c .if2 .taken)
 
 input-refusal-requires : tie.Need-input-refusal-requires
 input-refusal-requires c κs = search needs
 
 returns-3 : tie.Need-returns-3
-unfolding limit
 returns-3 c =
     let s = c .before .before .before in
     λ (ys : List Float) (e : length ys ≡ s .args .len). c .input-refusal .ensures ys e ∙ reading-rest (s .args .per) (s .args .r) ys (s .args .m) (c .before .before .if1 .left) (c .before .if2 .left)

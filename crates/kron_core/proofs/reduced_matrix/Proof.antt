@@ -23,7 +23,6 @@ returns c =
     (c .answer-of .ensures ∙ both .0, both .1)
 
 full : (c : tie.Start) → length (c .args .r .«active_buses») ≡ limit
-unfolding limit
 full c = search needs
 
 accepted : (c : tie.After-reading-refusal) → c .reading-refusal .result ≡ 0

@@ -27,11 +27,9 @@ slice-aggregate-take-list-3 : tie.Need-slice-aggregate-take-list-3
 slice-aggregate-take-list-3 c = search needs
 
 full : (c : tie.Start) → length (c .args .r .«active_buses») ≡ limit
-unfolding limit
 full c = search needs
 
 take-list-requires : tie.Need-take-list-requires
-unfolding limit
 take-list-requires c κs =
     let s = c .before .before .before .before .before .before .before in
     (accepted-holds (s .args .r) (s .args .y .now) (length (s .args .buses .now)) (full s) (s .pre), refl, refl)
@@ -59,11 +57,10 @@ module _ (t : tie.After-take-list) where
   abbrev left : ℕ
   left = r .«n_buses» - t .take-list .result .done
 
-  small : left * left ≤ 4096
-  unfolding limit
+  small : left * left ≤ limit * limit
   small =
-      let h : left ≤ 64 = omega (arith, accepted-holds r ys (length (start .args .buses .now)) (full start) (start .pre) .room) in
-      mul-le-mul {n₁ = left} {m₁ = left} {n₂ = 64} {m₂ = 64} h h
+      let h : left ≤ limit = omega (arith, accepted-holds r ys (length (start .args .buses .now)) (full start) (start .pre) .room) in
+      mul-le-mul h h
 
   same : length zs ≡ length ys
   same = t .take-list .kept .1 .1 .0

@@ -26,7 +26,6 @@ returns c =
     impedance-refused (s .args .r) (s .args .y .now) (s .args .bus-i) (s .args .bus-j) (s .args .work .now) (run .reading-refusal .result) (c .if1 .taken) (run .reading-refusal .ensures (s .args .y .now) refl)
 
 full : (c : tie.Start) → length (c .args .r .«active_buses») ≡ limit
-unfolding limit
 full c = search needs
 
 -- an accepted input

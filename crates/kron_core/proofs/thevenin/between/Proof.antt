@@ -13,7 +13,7 @@ use Rattle.complex.specs.declared.Complex.{Complex}
 use Rattle.complex.specs.Matrices.{Matrix, entryAt, zeros}
 use Rattle.complex.proofs.Parts.{back, length-back}
 use Rattle.complex.proofs.Matrices.{entry-within}
-use Rattle.refusals.specs.Refusals.{limit, refuse, smallPivot}
+use Rattle.refusals.specs.Refusals.{refuse, smallPivot}
 use Rattle.gauss_jordan.specs.Solving.{inverse}
 use Rattle.kron_core.specs.Reading.{impedance}
 use Rattle.kron_core.proofs.Calls.{entryAt-take}
@@ -28,7 +28,6 @@ mul-a-2 : tie.Need-mul-a-2
 mul-a-2 c = search needs
 
 add-e : tie.Need-add-e
-unfolding limit
 add-e c = omega (arith, c .before .before .pre .0)
 
 mul-e : tie.Need-mul-e

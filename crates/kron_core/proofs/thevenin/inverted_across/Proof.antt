@@ -5,7 +5,6 @@ use Prim.Native.Nat.{ℕ, _+_, _<_}
 use native.Mathlib.Omega.{arith}
 use borrow.Author.Needs.{needs}
 use Rattle.complex.specs.Matrices.{Matrix, entryAt}
-use Rattle.refusals.specs.Refusals.{limit}
 use Rattle.gauss_jordan.specs.Solving.{singular, inverse, unitColumn}
 use Rattle.gauss_jordan.specs.Work.{beyond}
 use Rattle.gauss_jordan.proofs.Solutions.{singular-is, solution-is}
@@ -19,7 +18,6 @@ fill-identity-requires : tie.Need-fill-identity-requires
 fill-identity-requires c κs = search needs
 
 add-gauss-jordan : tie.Need-add-gauss-jordan
-unfolding limit
 add-gauss-jordan c = omega (arith, c .before .before .before .before .before .before .before .pre .0)
 
 gauss-jordan-requires : tie.Need-gauss-jordan-requires
