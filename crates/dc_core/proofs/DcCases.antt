@@ -2,7 +2,7 @@
 -- Assumes nothing.
 use mathlib.Core.Path.{_≡_, refl}
 use mathlib.Core.List.{List, [], _∷_}
-use Prim.Native.Nat.{ℕ}
+use Prim.Native.Nat.{ℕ, _+_}
 use lib.Count.{trailingZeros}
 use lib.ListN.{replicate}
 use lib.Ieee.{Float, nan, binary64, ofBits, ofFields, neg, add, sub, div, sum, round, units, odd, lt, size, span, climb}
@@ -47,94 +47,94 @@ five : List ℕ
 five = 8 ∷ 8 ∷ 8 ∷ 8 ∷ 8 ∷ []
 
 kept-three : retainedAnswer 5 (1 ∷ 7 ∷ 1 ∷ 3 ∷ []) five ≡ Count 3
-unfolding five retainedAnswer retainedRefusal counted kept others upTo limit
+unfolding five retainedAnswer retainedRefusal counted kept others upTo
 kept-three = refl
 
 kept-buses : retainedOutput 5 (1 ∷ 7 ∷ 1 ∷ 3 ∷ []) five ≡ 0 ∷ 2 ∷ 4 ∷ 0 ∷ 0 ∷ []
-unfolding five retainedOutput retainedRefusal keptSlice kept others upTo limit
+unfolding five retainedOutput retainedRefusal keptSlice kept others upTo
 kept-buses = refl
 
 kept-none : retainedAnswer 2 (1 ∷ 0 ∷ []) (8 ∷ 8 ∷ []) ≡ Count 0
-unfolding retainedAnswer retainedRefusal counted kept others upTo limit
+unfolding retainedAnswer retainedRefusal counted kept others upTo
 kept-none = refl
 
-too-many : retainedAnswer 65 [] five ≡ Refused 1
-unfolding five retainedAnswer retainedRefusal counted limit
+too-many : retainedAnswer (limit + 1) [] five ≡ Refused 1
+unfolding five retainedAnswer retainedRefusal counted
 too-many = refl
 
-long-list : retainedAnswer 5 (replicate 65 0) five ≡ Refused 1
-unfolding five retainedAnswer retainedRefusal counted limit
+long-list : retainedAnswer 5 (replicate (limit + 1) 0) five ≡ Refused 1
+unfolding five retainedAnswer retainedRefusal counted
 long-list = refl
 
 wrong-length : retainedAnswer 4 [] five ≡ Refused 2
-unfolding five retainedAnswer retainedRefusal counted limit
+unfolding five retainedAnswer retainedRefusal counted
 wrong-length = refl
 
 untouched : retainedOutput 4 [] five ≡ five
-unfolding five retainedOutput retainedRefusal limit
+unfolding five retainedOutput retainedRefusal
 untouched = refl
 
 -- ---- build_b_bus
 
 -- a branch of reactance 0.5, a branch that is skipped, and one with equal ends
 one-branch : builtOutput 2 (0 ∷ 1 ∷ 1 ∷ []) (1 ∷ 0 ∷ 1 ∷ []) (half ∷ small ∷ half ∷ []) (nan ∷ nan ∷ nan ∷ nan ∷ []) ≡ two ∷ minus-two ∷ minus-two ∷ two ∷ []
-unfolding builtOutput buildRefusal endsRefusal allBelow limit susceptances addBranch joined zeros plus0 one weak abs lt add sub div neg sum round units odd size span climb trailingZeros ofBits ofFields
+unfolding builtOutput buildRefusal endsRefusal allBelow susceptances addBranch joined zeros plus0 one weak abs lt add sub div neg sum round units odd size span climb trailingZeros ofBits ofFields
 one-branch = refl
 
 -- a number of buses or a list above the limit, a wrong length, unlike lists, an end that is no bus, also of a skipped branch
-refused-1 : buildRefusal 65 (0 ∷ []) (9 ∷ []) [] 0 ≡ 1
-unfolding buildRefusal limit
+refused-1 : buildRefusal (limit + 1) (0 ∷ []) (9 ∷ []) [] 0 ≡ 1
+unfolding buildRefusal
 refused-1 = refl
 
-refused-1-list : buildRefusal 1 [] [] (replicate 65 half) 0 ≡ 1
-unfolding buildRefusal limit
+refused-1-list : buildRefusal 1 [] [] (replicate (limit + 1) half) 0 ≡ 1
+unfolding buildRefusal
 refused-1-list = refl
 
 refused-2 : buildRefusal 2 (0 ∷ []) (9 ∷ []) [] 5 ≡ 2
-unfolding buildRefusal limit
+unfolding buildRefusal
 refused-2 = refl
 
 refused-3 : buildRefusal 2 (0 ∷ []) (9 ∷ []) [] 4 ≡ 3
-unfolding buildRefusal limit
+unfolding buildRefusal
 refused-3 = refl
 
 refused-6 : buildRefusal 2 (0 ∷ []) (2 ∷ []) (small ∷ []) 4 ≡ 6
-unfolding buildRefusal endsRefusal allBelow limit
+unfolding buildRefusal endsRefusal allBelow
 refused-6 = refl
 
 -- no bus and no branch, and a branch with no bus
 empty : buildRefusal 0 [] [] [] 0 ≡ 0
-unfolding buildRefusal endsRefusal allBelow limit
+unfolding buildRefusal endsRefusal allBelow
 empty = refl
 
 branch-without-bus : buildRefusal 0 (0 ∷ []) (0 ∷ []) (half ∷ []) 0 ≡ 6
-unfolding buildRefusal endsRefusal allBelow limit
+unfolding buildRefusal endsRefusal allBelow
 branch-without-bus = refl
 
 -- ---- lodf_matrix: two branches from bus 0 to bus 1
 
 -- alike: each takes all that the other leaves
 alike : lodfOutput 2 (zero′ ∷ minus-half ∷ zero′ ∷ minus-half ∷ []) (0 ∷ 0 ∷ []) (1 ∷ 1 ∷ []) (nan ∷ nan ∷ nan ∷ nan ∷ []) ≡ minus-one ∷ one′ ∷ one′ ∷ minus-one ∷ []
-unfolding lodfOutput lodfRefusal endsRefusal allBelow limit numberRows numbers outage outageFactor between denominator transfer plus0 one weak abs lt add sub div neg sum round units odd size span climb trailingZeros ofBits ofFields
+unfolding lodfOutput lodfRefusal endsRefusal allBelow numberRows numbers outage outageFactor between denominator transfer plus0 one weak abs lt add sub div neg sum round units odd size span climb trailingZeros ofBits ofFields
 alike = refl
 
 -- branch 0 takes all of its own transfer, so that its outage leaves 0.0 in its column
 radial : lodfOutput 2 (zero′ ∷ minus-one ∷ zero′ ∷ minus-half ∷ []) (0 ∷ 0 ∷ []) (1 ∷ 1 ∷ []) (nan ∷ nan ∷ nan ∷ nan ∷ []) ≡ minus-one ∷ two ∷ zero′ ∷ minus-one ∷ []
-unfolding lodfOutput lodfRefusal endsRefusal allBelow limit numberRows numbers outage outageFactor between denominator transfer plus0 one weak abs lt add sub div neg sum round units odd size span climb trailingZeros ofBits ofFields
+unfolding lodfOutput lodfRefusal endsRefusal allBelow numberRows numbers outage outageFactor between denominator transfer plus0 one weak abs lt add sub div neg sum round units odd size span climb trailingZeros ofBits ofFields
 radial = refl
 
-lodf-1 : lodfRefusal 2 0 [] (replicate 65 0) 0 ≡ 1
-unfolding lodfRefusal limit
+lodf-1 : lodfRefusal 2 0 [] (replicate (limit + 1) 0) 0 ≡ 1
+unfolding lodfRefusal
 lodf-1 = refl
 
 lodf-2 : lodfRefusal 2 2 (0 ∷ []) [] 2 ≡ 2
-unfolding lodfRefusal limit
+unfolding lodfRefusal
 lodf-2 = refl
 
 lodf-3 : lodfRefusal 2 2 (0 ∷ []) [] 1 ≡ 3
-unfolding lodfRefusal limit
+unfolding lodfRefusal
 lodf-3 = refl
 
 lodf-6 : lodfRefusal 2 2 (0 ∷ []) (2 ∷ []) 1 ≡ 6
-unfolding lodfRefusal endsRefusal allBelow limit
+unfolding lodfRefusal endsRefusal allBelow
 lodf-6 = refl

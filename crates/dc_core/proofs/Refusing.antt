@@ -38,7 +38,6 @@ pub held-refused {ℓ} : {A : Type ℓ} (f : ℕ) (new held : A) → (f ≡ 0 �
 held-refused f new held h = rw (ne-eqb f 0 h)
 
 pub over-none : (n a b c : ℕ) → over n a b c ≡ false → (n ≤ limit) × (a ≤ limit)
-unfolding limit
 over-none n a b c e = go (ltb limit n) (ltb limit a) refl refl e
   where
     go : (t s : Bool) → ltb limit n ≡ t → ltb limit a ≡ s → (t || (s || (ltb limit b || ltb limit c))) ≡ false → (n ≤ limit) × (a ≤ limit)

@@ -2,6 +2,7 @@
 -- Assumes nothing.
 use mathlib.Core.Path.{_≡_, refl}
 use mathlib.Core.List.{List, [], _∷_}
+use Prim.Native.Nat.{_+_}
 use lib.Count.{trailingZeros}
 use lib.ListN.{replicate}
 use lib.Ieee.{Float, nan, binary64, ofInt, ofBits, ofFields, neg, add, mul, div, sum, round, units, odd, lt, size, span, climb}
@@ -71,7 +72,7 @@ study =
     }
 
 accepted : refusalOf study ≡ 0
-unfolding study matrix refusalOf studyRefusal sized sizeOf tieRoom limit
+unfolding study matrix refusalOf studyRefusal sized sizeOf tieRoom
 accepted = refl
 
 -- the sum of a list of -0 is +0
@@ -99,31 +100,31 @@ ties = refl
 
 -- ---- refusals, by the number of buses, of P and of Q, and whether the lengths are right
 
-refused-1 : studyRefusal 65 65 65 (sized 65 0 0 0 0 0) ≡ 1
-unfolding studyRefusal limit
+refused-1 : studyRefusal (limit + 1) (limit + 1) (limit + 1) (sized (limit + 1) 0 0 0 0 0) ≡ 1
+unfolding studyRefusal
 refused-1 = refl
 
-refused-1-injections : studyRefusal 1 65 1 (sized 1 2 1 2 0 0) ≡ 1
-unfolding studyRefusal limit
+refused-1-injections : studyRefusal 1 (limit + 1) 1 (sized 1 2 1 2 0 0) ≡ 1
+unfolding studyRefusal
 refused-1-injections = refl
 
 refused-2 : studyRefusal 1 0 1 (sized 1 2 1 2 0 1) ≡ 2
-unfolding studyRefusal sized tieRoom limit
+unfolding studyRefusal sized tieRoom
 refused-2 = refl
 
 refused-3 : studyRefusal 1 0 1 (sized 1 2 1 2 0 0) ≡ 3
-unfolding studyRefusal sized tieRoom limit
+unfolding studyRefusal sized tieRoom
 refused-3 = refl
 
 -- no bus with a matrix is 2, with injections 3, and otherwise 4
 no-bus-matrix : studyRefusal 0 0 0 (sized 0 2 0 0 0 0) ≡ 2
-unfolding studyRefusal sized tieRoom limit
+unfolding studyRefusal sized tieRoom
 no-bus-matrix = refl
 
 no-bus-injections : studyRefusal 0 1 1 (sized 0 0 0 0 0 0) ≡ 3
-unfolding studyRefusal sized tieRoom limit
+unfolding studyRefusal sized tieRoom
 no-bus-injections = refl
 
 no-bus : studyRefusal 0 0 0 (sized 0 0 0 0 0 0) ≡ 4
-unfolding studyRefusal sized tieRoom limit
+unfolding studyRefusal sized tieRoom
 no-bus = refl

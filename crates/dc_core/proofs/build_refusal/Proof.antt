@@ -21,7 +21,6 @@ unfolding buildRefusal
 returns c = rw (← c .before .over .ensures, c .if1 .taken)
 
 mul-if2 : tie.Need-mul-if2
-unfolding limit
 mul-if2 c =
     let a = c .before .before .before .before .before .args in
     let h : a .n ≤ limit = over-none (a .n) (length (a .froms .now)) (length (a .tos .now)) (length (a .xs .now)) (sym (c .before .over .ensures) ∙ c .if1 .left) .0 in

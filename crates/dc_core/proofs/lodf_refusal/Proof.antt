@@ -5,7 +5,6 @@ use native.Mathlib.Nat.{mul-le-mul}
 use native.Mathlib.Omega.{arith}
 use lib.ListN.{length}
 use borrow.Author.Tests.{eq-eqb, ne-eqb}
-use Rattle.refusals.specs.Refusals.{limit}
 use Rattle.dc_core.specs.Dc.{lodfRefusal}
 use Rattle.dc_core.proofs.Refusing.{over-none}
 use borrow.Author.Needs.{needs}
@@ -20,7 +19,6 @@ unfolding lodfRefusal
 returns c = rw (← c .before .over .ensures, c .if1 .taken)
 
 mul-if2 : tie.Need-mul-if2
-unfolding limit
 mul-if2 c =
     let a = c .before .before .before .before .args in
     let h = over-none (a .n) (length (a .froms .now)) (length (a .tos .now)) 0 (sym (c .before .over .ensures) ∙ c .if1 .left) in
@@ -31,7 +29,6 @@ unfolding lodfRefusal
 returns-2 c = rw (← c .before .before .over .ensures, c .before .if1 .left, ne-eqb _ _ (c .if2 .taken))
 
 mul-if3 : tie.Need-mul-if3
-unfolding limit
 mul-if3 c =
     let a = c .before .before .before .before .before .args in
     let h = over-none (a .n) (length (a .froms .now)) (length (a .tos .now)) 0 (sym (c .before .before .over .ensures) ∙ c .before .if1 .left) in

@@ -1,6 +1,5 @@
 -- `dc_core::outages` meets its contract: there is room for as many branches as the limit.
 -- Assumes nothing.
-use Rattle.refusals.specs.Refusals.{limit}
 use borrow.Author.Needs.{needs}
 use Rattle.dc_core.proofs.outages.Statement.{statement}
 use Rattle.dc_core.proofs.outages.Tie as tie
@@ -12,7 +11,6 @@ part-ds-start : tie.Need-part-ds-start
 part-ds-start c = search needs
 
 part-ds-end : tie.Need-part-ds-end
-unfolding limit
 part-ds-end c = search needs
 
 outages-by-requires : tie.Need-outages-by-requires

@@ -6,7 +6,6 @@ use Prim.Native.Nat.{ℕ}
 use native.Mathlib.Omega.{arith}
 use borrow.Author.Tests.{eq-eqb, ne-eqb}
 use Rattle.dc_core.specs.declared.Retained.the-variants.{Count}
-use Rattle.refusals.specs.Refusals.{limit}
 use Rattle.dc_core.proofs.Refusing.{over-none}
 use Rattle.dc_core.specs.Dc.{retainedRefusal, retainedAnswer, retainedOutput, counted}
 use borrow.Author.Needs.{needs}
@@ -37,7 +36,6 @@ slice-aggregate-keep : tie.Need-slice-aggregate-keep
 slice-aggregate-keep c = search needs
 
 keep-requires : tie.Need-keep-requires
-unfolding limit
 keep-requires c κs =
     let given = c .before .before .before .before .before .before .before .before .before .before .before .before .before .before .args in
     let few = over-none (given .n) (length (given .interior .now)) 0 0 (sym (c .before .before .before .before .before .before .before .before .before .before .before .over .ensures) ∙ c .before .before .before .before .before .before .before .before .before .before .if1 .left) in (

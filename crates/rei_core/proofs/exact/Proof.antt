@@ -3,18 +3,15 @@
 use native.Mathlib.Nat.{mul-le-mul}
 use native.Mathlib.Omega.{arith}
 use borrow.Author.Tests.{eq-eqb, ne-eqb}
-use Rattle.refusals.specs.Refusals.{limit}
 use Rattle.rei_core.specs.Rei.{sized, tieRoom}
 use Rattle.rei_core.proofs.Ties.{room-is, own-square}
 use Rattle.rei_core.proofs.exact.Statement.{statement}
 use Rattle.rei_core.proofs.exact.Tie as tie
 
 mul-square : tie.Need-mul-square
-unfolding limit
 mul-square c = omega (arith, mul-le-mul (c .pre) (c .pre))
 
 mul-if1 : tie.Need-mul-if1
-unfolding limit
 mul-if1 c = omega (arith, mul-le-mul (c .pre) (c .pre))
 
 returns : tie.Need-returns
@@ -26,7 +23,6 @@ unfolding sized tieRoom
 returns-2 c = rw (eq-eqb _ _ (c .before .if1 .left), ne-eqb _ _ (c .if2 .taken))
 
 mul-if3 : tie.Need-mul-if3
-unfolding limit
 mul-if3 c = omega (arith, c .before .before .pre)
 
 returns-3 : tie.Need-returns-3

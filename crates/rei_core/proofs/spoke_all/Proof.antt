@@ -16,7 +16,6 @@ use Rattle.complex.specs.declared.Complex.{Complex}
 use Rattle.complex.specs.Entries.{put}
 use Rattle.complex.specs.Matrices.{upTo, entryAt}
 use Rattle.complex.proofs.Matrices.{entry-within, length-upTo}
-use Rattle.refusals.specs.Refusals.{limit}
 use Rattle.rei_core.specs.Rei.{spokeParts}
 use Rattle.rei_core.proofs.Ties.{spoke-step, sets-whole, upTo-end, length-spokeParts}
 use Rattle.rei_core.proofs.spoke_all.Statement.{statement}
@@ -33,7 +32,7 @@ abbrev μ-loop : tie.MeasureT-loop
 μ-loop n y spokes₀ count i₀ d₀ spokes i d = n - i
 
 int-to-float-count : tie.Need-int-to-float-count Inv-loop μ-loop
-unfolding inFloat limit
+unfolding inFloat
 int-to-float-count c = le→leb (c .before .before .before .args .n) _ (le-trans (c .before .before .before .pre .0) (lit≤ tt))
 
 loop-holds : tie.Need-loop-holds Inv-loop μ-loop
@@ -55,7 +54,6 @@ put-requires : tie.Need-put-requires Inv-loop μ-loop
 put-requires c κs = omega (arith, c .before .before .before .before .loop .inv)
 
 add-d : tie.Need-add-d Inv-loop μ-loop
-unfolding limit
 add-d c =
     let s = c .before .before .before .before .before .before .before .before .before .before .before in
     let l = c .before .before .before .before .before .before .before .loop in
@@ -63,7 +61,6 @@ add-d c =
     omega (arith, l .inv, s .pre, entry-within (s .args .n) (s .args .n) (l .i) (l .i) h h, mul-le-mul (s .pre .0) (s .pre .0))
 
 add-d-2 : tie.Need-add-d-2 Inv-loop μ-loop
-unfolding limit
 add-d-2 c =
     let s = c .before .before .before .before .before .before .before .before .before .before .before in
     let l = c .before .before .before .before .before .before .before .loop in

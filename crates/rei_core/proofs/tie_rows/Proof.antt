@@ -13,7 +13,6 @@ use lib.Ieee.{Float}
 use Rattle.complex.specs.Constants.{plus0}
 use Rattle.complex.specs.Matrices.{upTo, entryAt, zeros}
 use Rattle.complex.proofs.Matrices.{length-upTo, length-zeros, row-within}
-use Rattle.refusals.specs.Refusals.{limit}
 use Rattle.rei_core.specs.Rei.{Tie, allTies, tieEnds, tieParts, tieRoom}
 use Rattle.rei_core.proofs.Ties.{leftInAll, all-step-count, all-step-ends, all-step-parts, all-done, few-ties, row-part, room-step, length-ends, length-parts, sets-front}
 use Rattle.dc_core.proofs.OutageLaws.{length-part}
@@ -37,7 +36,6 @@ abbrev μ-loop : tie.MeasureT-loop
 μ-loop n y buses ends₀ ties₀ w count₀ i₀ a₀ ends ties count i a = n - i
 
 mul-w : tie.Need-mul-w Inv-loop μ-loop
-unfolding limit
 mul-w c = omega (arith, c .before .before .before .before .pre)
 
 loop-holds : tie.Need-loop-holds Inv-loop μ-loop
