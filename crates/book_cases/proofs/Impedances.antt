@@ -6,7 +6,6 @@ use Rattle.complex.specs.Constants.{one}
 use Rattle.complex.specs.Arithmetic.{cadd, csub, cmul, cdiv, complexInv}
 use Rattle.complex.specs.Entries.{entry}
 use Rattle.complex.specs.Matrices.{upTo, entryAt, zeros}
-use Rattle.refusals.specs.Refusals.{limit}
 use Rattle.gauss_jordan.specs.GaussJordan.{solution, singularSystem}
 use Rattle.gauss_jordan.specs.Solving.{skipped, unitColumn}
 use Rattle.buses.specs.Buses.{place, rising, allBelow, allZero}
@@ -16,5 +15,5 @@ use Rattle.book_cases.specs.Calls.{ofImpedance, after}
 use Rattle.book_cases.specs.Book.{reals, Met, case8}
 
 pub met8 : Met case8
-unfolding reals after ofImpedance one cadd csub cmul cdiv complexInv entry upTo entryAt zeros limit solution singularSystem skipped unitColumn place rising allBelow allZero makingRefusal afterNew sound inputRefusal readingRefusal across impedance impedanceRefusal afterImpedance lt sub mul div ofBits
+unfolding reals after ofImpedance one cadd csub cmul cdiv complexInv entry upTo entryAt zeros solution singularSystem skipped unitColumn place rising allBelow allZero makingRefusal afterNew sound inputRefusal readingRefusal across impedance impedanceRefusal afterImpedance lt sub mul div ofBits
 met8 = refl

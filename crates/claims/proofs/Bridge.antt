@@ -75,7 +75,7 @@ module _ (a : Account) (small : a .size ≤ limit) where
 
   one-call : (c : Call) → stepHeld here c ≡ laid (a .size) (eliminate (stateOf a) (removes a c))
   unfolding stepHeld afterBus afterBuses removes
-  one-call (bus k) = within (k ∷ []) (unfold limit in lit≤ tt)
+  one-call (bus k) = within (k ∷ []) (lit≤ tt)
   one-call (buses ks) = go (leb (length ks) limit) (leb→le (length ks) limit) (nleb→lt (length ks) limit)
     where
       go : (b : Bool) → (T b → length ks ≤ limit) → (T (not b) → limit < length ks) → leaves (here .rec) (here .slice) (removable (here .rec) (here .slice) ks) ≡ laid (a .size) (eliminate (stateOf a) (cond b (taken (stateOf a) ks) []))
@@ -189,7 +189,7 @@ module _ (M : Making) (calls : List Call) (made : Made M) where
   -- the answers of the two calls, by the account
   pub answer-bus : (k : ℕ) → afterBus rec slice k .out .answer ≡ outcome (refusal now k)
   unfolding afterBus
-  answer-bus k = ap outcome (refusal-is (k ∷ []) (unfold limit in lit≤ tt) ∙ stop-one now k)
+  answer-bus k = ap outcome (refusal-is (k ∷ []) (lit≤ tt) ∙ stop-one now k)
 
   pub answer-buses : (ks : List ℕ) → afterBuses rec slice ks .out .removals .answer ≡ outcome (cond (leb (length ks) limit) (stop now ks) tooMany)
   unfolding afterBuses refusalOf
@@ -205,7 +205,7 @@ module _ (M : Making) (calls : List Call) (made : Made M) where
 
   -- a call that removes nothing leaves all as it was, and what stands behind the rows too
   pub nothing-removed : (c : Call) → removes (account M calls) c ≡ [] → stepHeld (left M calls) c ≡ left M calls
-  unfolding stepHeld afterBus afterBuses leaves removes limit
+  unfolding stepHeld afterBus afterBuses leaves removes
   nothing-removed (bus k) e = ap (leaves rec slice) (removed-is (k ∷ []) ∙ e)
   nothing-removed (buses ks) e = ap (leaves rec slice) (removed-is ks ∙ e)
 

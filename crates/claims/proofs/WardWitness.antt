@@ -14,7 +14,6 @@ use Rattle.complex.specs.Magnitude.{magnitude}
 use Rattle.binary64.specs.Root.{root}
 use Rattle.complex.specs.Matrices.{upTo, entryAt, zeros}
 use Rattle.complex.specs.Values.{isZero, allFinite}
-use Rattle.refusals.specs.Refusals.{limit}
 use Rattle.gauss_jordan.specs.GaussJordan.{solution, singularSystem}
 use Rattle.gauss_jordan.specs.Computed.{ofSearch, ofScaling, ofReductions, ofRunFrom, ofRun, ofSolve}
 use Rattle.buses.specs.Buses.{allBelow}
@@ -52,7 +51,7 @@ abbrev o : Room
 o = record { y-ward = zeros 18; p-ward = zeros 2; q-ward = zeros 2; work = zeros 10 }
 
 accepted : Accepted S o
-unfolding words afterWard allBelow limit singularSystem cdiv entry entryAt ofBits sub mul lt
+unfolding words afterWard allBelow singularSystem cdiv entry entryAt ofBits sub mul lt
 accepted = tt
 
 given : T (allFinite (givenOf S))
@@ -77,7 +76,7 @@ keeps = demand3 .ward .study S o (words-f64s line) accepted finite-study 1 (lit<
 
 -- row 2, of bus 1: its own entry was 2 and is 1.5, and P was 0 and is 0.5
 changes : T (not (eq (entryAt 3 (afterWard S o .room .y-ward) 2 2 .re) (old S 1 1 .re))) × T (not (isZero (getD (afterWard S o .room .p-ward) 1 nan)))
-unfolding words old afterWard allBelow limit solution singularSystem cadd csub cmul cdiv complexInv entry entryAt ofBits sub mul div lt eq
+unfolding words old afterWard allBelow solution singularSystem cadd csub cmul cdiv complexInv entry entryAt ofBits sub mul div lt eq
 changes = (tt, tt)
 
 -- ---- the same study, extended: the external bus at 2 per unit
@@ -89,7 +88,7 @@ abbrev wide : ExtendedRoom
 wide = record { room = o; correction = zeros 2; compensation = zeros 2 }
 
 accepted-x : AcceptedX X wide
-unfolding words allBelow limit singularSystem cdiv entry entryAt ofBits sub mul lt afterExtended
+unfolding words allBelow singularSystem cdiv entry entryAt ofBits sub mul lt afterExtended
 accepted-x = tt
 
 given-x : T (allFinite (givenOf S ++ X .v-ext))
@@ -110,5 +109,5 @@ keeps-x = demand3 .ward .extended X wide (words-f64s line) accepted-x finite-ext
 
 -- row 2, of bus 1, gets a correction
 changes-x : T (not (isZero (getD (afterExtended X wide .room .correction) 1 nan)))
-unfolding words allBelow limit singularSystem cdiv entry entryAt ofBits sub mul div lt eq magnitude root afterExtended
+unfolding words allBelow singularSystem cdiv entry entryAt ofBits sub mul div lt eq magnitude root afterExtended
 changes-x = tt

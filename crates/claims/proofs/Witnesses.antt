@@ -3,7 +3,7 @@
 use mathlib.Core.Path.{_≡_, refl, subst}
 use mathlib.Core.Logic.{inl, inr}
 use mathlib.Core.List.{List, [], _∷_}
-use Prim.Native.Nat.{ℕ, zero, suc, _<_}
+use Prim.Native.Nat.{ℕ, zero, suc, _+_, _<_}
 use native.Mathlib.Omega.{arith}
 use lib.Dec.{lit<}
 use lib.ListN.{replicate}
@@ -33,14 +33,14 @@ book = makingOf 2 (words book-words)
 
 -- a bus that is not there, a list too long, a list that is refused at its second bus, and a bus that is gone: one bus is removed
 book-calls : List Call
-book-calls = bus 7 ∷ buses (replicate 65 1) ∷ buses (1 ∷ 1 ∷ 0 ∷ []) ∷ bus 1 ∷ []
+book-calls = bus 7 ∷ buses (replicate (limit + 1) 1) ∷ buses (1 ∷ 1 ∷ 0 ∷ []) ∷ bus 1 ∷ []
 
 book-removed : account book book-calls .removed ≡ 1 ∷ []
-unfolding book-words book-calls words sqmag upTo others entryOf entryAt tooSmall refusal eliminate taken limit fresh stateOf removes step accountFrom sub mul lt ofBits
+unfolding book-words book-calls words sqmag upTo others entryOf entryAt tooSmall refusal eliminate taken fresh stateOf removes step accountFrom sub mul lt ofBits
 book-removed = refl
 
 book-finite : Finite book book-calls
-unfolding book-words book-calls words csub cmul cdiv upTo others entryOf entryAt kron tooSmall refusal eliminate taken limit makingRefusal fresh stateOf removes step accountFrom allFinite ofAccount ofRemovals ofRow ofRows sub mul div lt ofBits
+unfolding book-words book-calls words csub cmul cdiv upTo others entryOf entryAt kron tooSmall refusal eliminate taken makingRefusal fresh stateOf removes step accountFrom allFinite ofAccount ofRemovals ofRow ofRows sub mul div lt ofBits
 book-finite = record { made = search tt; given = search tt; computed = tt }
 
 -- ---- claim 1: bus 0 stands apart, buses 1 and 2 are joined, and bus 2 is removed
@@ -57,11 +57,11 @@ first-calls : List Call
 first-calls = buses (2 ∷ 2 ∷ 1 ∷ []) ∷ []
 
 first-finite : Finite first first-calls
-unfolding first-words first-calls words csub cmul cdiv upTo others entryOf entryAt kron tooSmall refusal eliminate taken limit fresh stateOf removes step accountFrom sub mul div lt ofBits makingRefusal allFinite ofAccount ofRemovals ofRow ofRows
+unfolding first-words first-calls words csub cmul cdiv upTo others entryOf entryAt kron tooSmall refusal eliminate taken fresh stateOf removes step accountFrom sub mul div lt ofBits makingRefusal allFinite ofAccount ofRemovals ofRow ofRows
 first-finite = record { made = search tt; given = search tt; computed = tt }
 
 first-removed : account first first-calls .removed ≡ 2 ∷ []
-unfolding first-words first-calls words sqmag upTo others entryOf entryAt tooSmall refusal eliminate taken limit fresh stateOf removes step accountFrom sub mul lt ofBits
+unfolding first-words first-calls words sqmag upTo others entryOf entryAt tooSmall refusal eliminate taken fresh stateOf removes step accountFrom sub mul lt ofBits
 first-removed = refl
 
 only-two : (k : ℕ) → k ∈ 2 ∷ [] → k ≡ 2
@@ -69,20 +69,20 @@ only-two k m = elim (in-cases k 2 [] m) [ inl p ↦ p | inr t ↦ absurd t ]
 
 -- no chain joins bus 0 to bus 0, since its entry to bus 2 is zero
 no-chain : Chain (account first first-calls .old) (account first first-calls .removed) 0 0 → ⊥
-unfolding first-words first-calls words sqmag upTo others entryOf entryAt tooSmall refusal eliminate taken limit fresh stateOf removes step accountFrom sub mul lt ofBits eq
+unfolding first-words first-calls words sqmag upTo others entryOf entryAt tooSmall refusal eliminate taken fresh stateOf removes step accountFrom sub mul lt ofBits eq
 no-chain (k, ks, within, steps) = subst (λ (z : ℕ). Linked (account first first-calls .old) 0 z) (only-two k (within .0)) (steps .0)
 
 stays-apart : entry (left first first-calls) 0 0 ≈ account first first-calls .old 0 0
-unfolding first-words first-calls words sqmag upTo others entryOf entryAt tooSmall refusal eliminate taken limit fresh stateOf removes step accountFrom sub mul lt ofBits
+unfolding first-words first-calls words sqmag upTo others entryOf entryAt tooSmall refusal eliminate taken fresh stateOf removes step accountFrom sub mul lt ofBits
 stays-apart = demand3 .removals .unchanged first first-calls (words-f64s first-words) first-finite 0 0 (lit< tt) (lit< tt) no-chain
 
 -- a chain leads from bus 1 to bus 1 through bus 2, and the entry there goes from 2 to 1.5
 a-chain : Chain (account first first-calls .old) (account first first-calls .removed) 1 1
-unfolding first-words first-calls words sqmag upTo entryOf entryAt tooSmall refusal eliminate taken limit fresh stateOf removes step accountFrom sub mul lt ofBits eq
+unfolding first-words first-calls words sqmag upTo entryOf entryAt tooSmall refusal eliminate taken fresh stateOf removes step accountFrom sub mul lt ofBits eq
 a-chain = (2, [], (tt, tt), (tt, tt))
 
 changes : entry (left first first-calls) 1 1 ≈ account first first-calls .old 1 1 → ⊥
-unfolding first-words first-calls words csub cmul cdiv upTo others place entryOf entryAt kron tooSmall refusal eliminate taken limit fresh step accountFrom sub mul div lt ofBits laid makingRefusal afterNew rising allBelow allZero sound inputRefusal view leaves removable afterBuses stepHeld leftFrom left eq
+unfolding first-words first-calls words csub cmul cdiv upTo others place entryOf entryAt kron tooSmall refusal eliminate taken fresh step accountFrom sub mul div lt ofBits laid makingRefusal afterNew rising allBelow allZero sound inputRefusal view leaves removable afterBuses stepHeld leftFrom left eq
 changes e = e .0
 
 -- ---- claim 2: another matrix, with other entries at bus 2, and other calls that remove the same bus
@@ -103,7 +103,7 @@ unfolding first-calls second-calls
 calls-differ e = let z : _≡_ {A = ℕ} 0 1 = cc in omega arith
 
 second-finite : Finite second second-calls
-unfolding second-words second-calls words csub cmul cdiv upTo others entryOf entryAt kron tooSmall refusal eliminate taken limit fresh stateOf removes step accountFrom sub mul div lt ofBits makingRefusal allFinite ofAccount ofRemovals ofRow ofRows
+unfolding second-words second-calls words csub cmul cdiv upTo others entryOf entryAt kron tooSmall refusal eliminate taken fresh stateOf removes step accountFrom sub mul div lt ofBits makingRefusal allFinite ofAccount ofRemovals ofRow ofRows
 second-finite = record { made = search tt; given = search tt; computed = tt }
 
 third : (j : ℕ) → suc (suc j) < 3 → suc (suc j) ∈ 2 ∷ []
@@ -121,7 +121,7 @@ outside (suc zero) (suc (suc j)) x y o o' = absurd (o' (third j y))
 outside (suc (suc i)) j x y o o' = absurd (o (third i x))
 
 group : (k : ℕ) → k ∈ 2 ∷ [] → k ∈ account first first-calls .removed
-unfolding first-words first-calls words sqmag upTo others entryOf entryAt tooSmall refusal eliminate taken limit fresh stateOf removes step accountFrom sub mul lt ofBits
+unfolding first-words first-calls words sqmag upTo others entryOf entryAt tooSmall refusal eliminate taken fresh stateOf removes step accountFrom sub mul lt ofBits
 group k m = m
 
 sizes : account second second-calls .size ≡ account first first-calls .size
@@ -129,7 +129,7 @@ unfolding first-calls second-calls fresh step accountFrom
 sizes = refl
 
 removed-same : account second second-calls .removed ≡ account first first-calls .removed
-unfolding first-words first-calls second-words second-calls words sqmag upTo others entryOf entryAt tooSmall refusal eliminate taken limit fresh stateOf removes step accountFrom sub mul lt ofBits
+unfolding first-words first-calls second-words second-calls words sqmag upTo others entryOf entryAt tooSmall refusal eliminate taken fresh stateOf removes step accountFrom sub mul lt ofBits
 removed-same = refl
 
 -- the matrices agree but in the row and column of bus 2
@@ -154,7 +154,7 @@ no-way Y R i one none (g, ks, m, within, steps) = go ks within steps
 
 -- bus 0 has no chain into the group in either, though the second has one out of it to bus 0
 no-into : NoInto (account first first-calls) (account second second-calls) (2 ∷ []) 0
-unfolding first-words first-calls second-words second-calls words sqmag upTo others entryOf entryAt tooSmall refusal eliminate taken limit fresh stateOf removes step accountFrom sub mul lt ofBits eq
+unfolding first-words first-calls second-words second-calls words sqmag upTo others entryOf entryAt tooSmall refusal eliminate taken fresh stateOf removes step accountFrom sub mul lt ofBits eq
 no-into = (
   no-way (account first first-calls .old) (account first first-calls .removed) 0 only-two (λ (n : ⊥). n),
   no-way (account second second-calls .old) (account second second-calls .removed) 0 only-two (λ (n : ⊥). n),
@@ -166,10 +166,10 @@ an-out = (2, [], tt, tt, tt)
 
 -- so row 0 is the same in both, while the entry at bus 1, which has chains into the group and out of it, is not
 row-same : (q : ℕ) → q < 2 → entry (left first first-calls) 0 q ≈ entry (left second second-calls) 0 q
-unfolding first-words first-calls second-calls words sqmag upTo others entryOf entryAt tooSmall refusal eliminate taken limit fresh stateOf removes step accountFrom sub mul lt ofBits
+unfolding first-words first-calls second-calls words sqmag upTo others entryOf entryAt tooSmall refusal eliminate taken fresh stateOf removes step accountFrom sub mul lt ofBits
 row-same q h =
     demand3 .removals .independent first second first-calls second-calls (words-f64s first-words) (words-f64s second-words) (search first-finite) (search second-finite) (2 ∷ []) alike 0 q (lit< tt) h (inl no-into)
 
 entries-differ : entry (left first first-calls) 1 1 ≈ entry (left second second-calls) 1 1 → ⊥
-unfolding first-words first-calls second-words second-calls words csub cmul cdiv upTo others place entryOf entryAt kron tooSmall refusal eliminate taken limit sub mul div lt ofBits laid makingRefusal afterNew rising allBelow allZero sound inputRefusal view leaves removable afterBus afterBuses stepHeld leftFrom left eq
+unfolding first-words first-calls second-words second-calls words csub cmul cdiv upTo others place entryOf entryAt kron tooSmall refusal eliminate taken sub mul div lt ofBits laid makingRefusal afterNew rising allBelow allZero sound inputRefusal view leaves removable afterBus afterBuses stepHeld leftFrom left eq
 entries-differ e = e .0

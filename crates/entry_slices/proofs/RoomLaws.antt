@@ -1,6 +1,5 @@
 -- A room's cut changes no answer. A slice has an exact length in its room exactly where it has that length uncut, it is longer than a
--- limit exactly where it is so uncut, and at its exact length nothing is cut. And each room is the formula of the limit that it stands
--- for, above every exact length within the limit.
+-- limit exactly where it is so uncut, and at its exact length nothing is cut. And each room is above every exact length within the limit.
 -- Assumes nothing.
 use mathlib.Core.Path.{_≡_, refl, sym, ap, _∙_}
 use mathlib.Core.Bool.{Bool, true, false, cond}
@@ -94,88 +93,40 @@ module _ (room exact : ℕ) (small : exact < room) where
     pub words-longer-cut : exact < length bs / 8 → exact < length (wordsIn room bs)
     words-longer-cut l = rw (length-wordsIn room bs) (held-of-longer (length bs / 8) l)
 
--- ---- the rooms, by the limit
-
-pub list-room : listRoom ≡ limit + 1
-unfolding limit
-list-room = refl
-
-pub vector-room : vectorRoom ≡ 2 * limit + 1
-unfolding limit
-vector-room = refl
-
-pub square-room : squareRoom ≡ limit * limit + 1
-unfolding limit
-square-room = refl
-
-pub matrix-room : matrixRoom ≡ 2 * (limit * limit) + 1
-unfolding limit
-matrix-room = refl
-
-pub system-room : systemRoom ≡ 2 * (limit * (limit + 1)) + 1
-unfolding limit
-system-room = refl
-
-pub pair-room : pairRoom ≡ 4 * (limit * limit) + 1
-unfolding limit
-pair-room = refl
-
--- of up to twice the limit of retained buses: internal and boundary lists of the limit each
-pub ward-matrix-room : wardMatrixRoom ≡ 2 * ((limit + limit) * (limit + limit)) + 1
-unfolding limit
-ward-matrix-room = refl
-
-pub ward-work-room : wardWorkRoom ≡ 2 * (limit * (limit + (limit + limit) + 1)) + 1
-unfolding limit
-ward-work-room = refl
-
-pub ties-room : tiesRoom ≡ limit * (limit - 1) + 1
-unfolding limit
-ties-room = refl
-
 -- ---- every exact length within the limit is below its room
 
 pub list-fits : (n : ℕ) → n ≤ limit → n < listRoom
-unfolding limit
 list-fits n h = omega arith
 
 pub vector-fits : (n : ℕ) → n ≤ limit → 2 * n < vectorRoom
-unfolding limit
 vector-fits n h = omega arith
 
 -- of m rows and n columns
 pub square-fits : (m n : ℕ) → m ≤ limit → n ≤ limit → m * n < squareRoom
-unfolding limit
 square-fits m n g h = omega (arith, mul-le-mul g h)
 
 pub matrix-fits : (n : ℕ) → n ≤ limit → 2 * (n * n) < matrixRoom
-unfolding limit
 matrix-fits n h = omega (arith, mul-le-mul h h)
 
 pub system-fits : (n : ℕ) → n ≤ limit → 2 * (n * (n + 1)) < systemRoom
-unfolding limit
 system-fits n h =
     let next : n + 1 ≤ limit + 1 = omega arith in
     omega (arith, mul-le-mul h next)
 
 pub pair-fits : (n : ℕ) → n ≤ limit → 4 * (n * n) < pairRoom
-unfolding limit
 pair-fits n h = omega (arith, mul-le-mul h h)
 
 -- r retained buses
 pub ward-matrix-fits : (r : ℕ) → r ≤ limit + limit → 2 * (r * r) < wardMatrixRoom
-unfolding limit
 ward-matrix-fits r h = omega (arith, mul-le-mul h h)
 
 -- e external and r retained buses
 pub ward-work-fits : (e r : ℕ) → e ≤ limit → r ≤ limit + limit → 2 * (e * (e + r + 1)) < wardWorkRoom
-unfolding limit
 ward-work-fits e r g h =
     let wide : e + r + 1 ≤ limit + (limit + limit) + 1 = omega arith in
     omega (arith, mul-le-mul g wide)
 
 pub ties-fits : (n : ℕ) → n ≤ limit → n * (n - 1) < tiesRoom
-unfolding limit
 ties-fits n h =
     let less : n - 1 ≤ limit - 1 = omega arith in
     omega (arith, mul-le-mul h less)

@@ -1,34 +1,35 @@
--- Rooms for the numbers of a slice: one place more than its exact length can be. As formulas of the limit: proofs/RoomLaws.antt.
-use Prim.Native.Nat.{ℕ}
+-- Rooms for the numbers of a slice: one place more than its exact length can be.
+use Prim.Native.Nat.{ℕ, _+_, _*_, _-_}
+use Rattle.refusals.specs.Refusals.{limit}
 
 -- a list of buses or branches, and one of complex numbers
 abbrev pub listRoom : ℕ
-listRoom = 65
+listRoom = limit + 1
 
 abbrev pub vectorRoom : ℕ
-vectorRoom = 129
+vectorRoom = 2 * limit + 1
 
 -- a real matrix of buses or branches, and one of complex numbers
 abbrev pub squareRoom : ℕ
-squareRoom = 4097
+squareRoom = limit * limit + 1
 
 abbrev pub matrixRoom : ℕ
-matrixRoom = 8193
+matrixRoom = 2 * (limit * limit) + 1
 
 -- a linear system with one right side, and two matrices side by side
 abbrev pub systemRoom : ℕ
-systemRoom = 8321
+systemRoom = 2 * (limit * (limit + 1)) + 1
 
 abbrev pub pairRoom : ℕ
-pairRoom = 16385
+pairRoom = 4 * (limit * limit) + 1
 
--- Ward's matrix of internal and boundary buses, and its work
+-- Ward's matrix of internal and boundary buses, lists of the limit each, and its work
 abbrev pub wardMatrixRoom : ℕ
-wardMatrixRoom = 32769
+wardMatrixRoom = 2 * ((limit + limit) * (limit + limit)) + 1
 
 abbrev pub wardWorkRoom : ℕ
-wardWorkRoom = 24705
+wardWorkRoom = 2 * (limit * (limit + (limit + limit) + 1)) + 1
 
 -- ties between the buses of an REI network
 abbrev pub tiesRoom : ℕ
-tiesRoom = 4033
+tiesRoom = limit * (limit - 1) + 1

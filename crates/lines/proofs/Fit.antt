@@ -31,7 +31,7 @@ use Rattle.lines.specs.Reading.{most, Run, ended, noReducer, ofWord, onN
 
 -- `reduce` reads no more buses than the library takes
 pub most-limit : most ≤ limit
-unfolding most limit
+unfolding most
 most-limit = lit≤ tt
 
 -- ---- record and numbers are the layout of a state
@@ -65,7 +65,7 @@ module _ (n : ℕ) (r : KronReducer) (ys : List Float) (k : ℕ) (h : Laid n r y
   unfolding afterBus
   left-is =
       ap (λ (x : Held). leaves (x .rec) (x .slice) (removable (x .rec) (x .slice) (k ∷ []))) (h .laid-is)
-      ∙ ap (leaves (laid n (h .state) .rec) (laid n (h .state) .slice)) (removable-laid n (h .state) within (h .regular) (k ∷ []) (unfold limit in lit≤ tt))
+      ∙ ap (leaves (laid n (h .state) .rec) (laid n (h .state) .slice)) (removable-laid n (h .state) within (h .regular) (k ∷ []) (lit≤ tt))
       ∙ leaves-laid n (h .state) within (h .regular) (taken (h .state) (k ∷ [])) (taken-accepted (h .state) (k ∷ []))
 
   pub laid-bus : Laid n (afterBus r ys k .out .rec) (afterBus r ys k .slice)

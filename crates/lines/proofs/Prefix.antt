@@ -16,7 +16,7 @@ use lib.Ieee.Bits.{is-true}
 use Rattle.complex.proofs.Matrices.{length-upTo}
 use Rattle.refusals.specs.declared.Outcome.{Outcome}
 use Rattle.refusals.specs.declared.Outcome.the-variants.{Done, Refused}
-use Rattle.refusals.specs.Refusals.{limit, outcome}
+use Rattle.refusals.specs.Refusals.{outcome}
 use Rattle.kron_core.specs.declared.KronReducer.{KronReducer}
 use Rattle.buses.specs.Buses.{_∈_, others, place}
 use Rattle.kron_rows.specs.Kron.{State, accepts, refusal, eliminate, taken, stop}
@@ -78,7 +78,7 @@ module _ (n : ℕ) (r : KronReducer) (ys : List Float) (k : ℕ) (h : Laid n r y
   accepted : T (accepts (h .state) k)
   accepted =
       stop-accepts (h .state) k
-      (sym (refusal-laid n (h .state) (within n r ys k h) (h .regular) (k ∷ []) (unfold limit in lit≤ tt))
+      (sym (refusal-laid n (h .state) (within n r ys k h) (h .regular) (k ∷ []) (lit≤ tt))
       ∙ sym (ap (λ (x : Held). refusalOf (x .rec) (x .slice) (k ∷ [])) (h .laid-is))
       ∙ no-refusal)
 

@@ -34,7 +34,7 @@ two-bus : Bytes
 two-bus = ascii "buses 2\n3ff0000000000000 0000000000000000\nbff0000000000000 0000000000000000\nbff0000000000000 0000000000000000\n4000000000000000 0000000000000000\ndrop 1\n"
 
 two-bus-kept : IsKept two-bus
-unfolding two-bus Reading.run Reading.first Reading.most Reading.entries Reading.drops Lines.lines Lines.startsWith Lines.numberAfter Lines.entryOf Words.decimalOf Words.hexOf Reducer.afterNew Reducer.makingRefusal Refusals.limit Matrices.upTo Reducer.afterBus Reducer.leaves Reducer.removable Reducer.refusalOf Reducer.inputRefusal Reducer.sound Reducer.view Reducer.laid Kron.eliminate Kron.taken Kron.stop Kron.refusal Kron.tooSmall Kron.kron Buses.others Buses.place Buses.rising Buses.allBelow Buses.allZero Refusals.outcome Entries.entry Matrices.entryAt Matrices.row Arithmetic.cmul Arithmetic.csub Arithmetic.cdiv Ieee.ofBits Ieee.toBits Ieee.sub Ieee.mul Ieee.div Ieee.lt
+unfolding two-bus Reading.run Reading.first Reading.most Reading.entries Reading.drops Lines.lines Lines.startsWith Lines.numberAfter Lines.entryOf Words.decimalOf Words.hexOf Reducer.afterNew Reducer.makingRefusal Matrices.upTo Reducer.afterBus Reducer.leaves Reducer.removable Reducer.refusalOf Reducer.inputRefusal Reducer.sound Reducer.view Reducer.laid Kron.eliminate Kron.taken Kron.stop Kron.refusal Kron.tooSmall Kron.kron Buses.others Buses.place Buses.rising Buses.allBelow Buses.allZero Refusals.outcome Entries.entry Matrices.entryAt Matrices.row Arithmetic.cmul Arithmetic.csub Arithmetic.cdiv Ieee.ofBits Ieee.toBits Ieee.sub Ieee.mul Ieee.div Ieee.lt
 two-bus-kept = refl
 
 two-bus-making : making two-bus ≡ book
@@ -46,7 +46,7 @@ unfolding two-bus calls callsOf sizeOf Lines.lines Lines.startsWith Lines.number
 two-bus-calls = refl
 
 two-bus-finite : Finite (making two-bus) (calls two-bus)
-unfolding two-bus making calls callsOf sizeOf numbersOf Lines.lines Lines.startsWith Lines.numberAfter Lines.entryOf Words.decimalOf Words.hexOf Reducer.makingRefusal Refusals.limit Matrices.upTo Kron.eliminate Kron.taken Kron.refusal Kron.tooSmall Kron.kron Buses.others Buses.place Entries.entry Matrices.entryAt Arithmetic.cmul Arithmetic.csub Arithmetic.cdiv Constants.plus0 Ieee.ofBits Ieee.sub Ieee.mul Ieee.div Ieee.lt Accounts.fresh Accounts.stateOf Accounts.removes Accounts.step Accounts.accountFrom allFinite ofAccount Kron.ofRemovals Kron.ofRow Kron.ofRows
+unfolding two-bus making calls callsOf sizeOf numbersOf Lines.lines Lines.startsWith Lines.numberAfter Lines.entryOf Words.decimalOf Words.hexOf Reducer.makingRefusal Matrices.upTo Kron.eliminate Kron.taken Kron.refusal Kron.tooSmall Kron.kron Buses.others Buses.place Entries.entry Matrices.entryAt Arithmetic.cmul Arithmetic.csub Arithmetic.cdiv Constants.plus0 Ieee.ofBits Ieee.sub Ieee.mul Ieee.div Ieee.lt Accounts.fresh Accounts.stateOf Accounts.removes Accounts.step Accounts.accountFrom allFinite ofAccount Kron.ofRemovals Kron.ofRow Kron.ofRows
 two-bus-finite = record { made = tt; given = tt; computed = tt }
 
 -- ---- two buses with nothing between them
@@ -55,11 +55,11 @@ apart : Bytes
 apart = ascii "buses 2\n3ff0000000000000 0000000000000000\n0000000000000000 8000000000000000\n0000000000000000 0000000000000000\n4000000000000000 0000000000000000\ndrop 1\n"
 
 apart-kept : IsKept apart
-unfolding apart Reading.run Reading.first Reading.most Reading.entries Reading.drops Lines.lines Lines.startsWith Lines.numberAfter Lines.entryOf Words.decimalOf Words.hexOf Reducer.afterNew Reducer.makingRefusal Refusals.limit Matrices.upTo Reducer.afterBus Reducer.leaves Reducer.removable Reducer.refusalOf Reducer.inputRefusal Reducer.sound Reducer.view Reducer.laid Kron.eliminate Kron.taken Kron.stop Kron.refusal Kron.tooSmall Kron.kron Buses.others Buses.place Buses.rising Buses.allBelow Buses.allZero Refusals.outcome Entries.entry Matrices.entryAt Matrices.row Arithmetic.cmul Arithmetic.csub Arithmetic.cdiv Ieee.ofBits Ieee.toBits Ieee.sub Ieee.mul Ieee.div Ieee.lt
+unfolding apart Reading.run Reading.first Reading.most Reading.entries Reading.drops Lines.lines Lines.startsWith Lines.numberAfter Lines.entryOf Words.decimalOf Words.hexOf Reducer.afterNew Reducer.makingRefusal Matrices.upTo Reducer.afterBus Reducer.leaves Reducer.removable Reducer.refusalOf Reducer.inputRefusal Reducer.sound Reducer.view Reducer.laid Kron.eliminate Kron.taken Kron.stop Kron.refusal Kron.tooSmall Kron.kron Buses.others Buses.place Buses.rising Buses.allBelow Buses.allZero Refusals.outcome Entries.entry Matrices.entryAt Matrices.row Arithmetic.cmul Arithmetic.csub Arithmetic.cdiv Ieee.ofBits Ieee.toBits Ieee.sub Ieee.mul Ieee.div Ieee.lt
 apart-kept = refl
 
 apart-finite : Finite (making apart) (calls apart)
-unfolding apart making calls callsOf sizeOf numbersOf Lines.lines Lines.startsWith Lines.numberAfter Lines.entryOf Words.decimalOf Words.hexOf Reducer.makingRefusal Refusals.limit Matrices.upTo Kron.eliminate Kron.taken Kron.refusal Kron.tooSmall Kron.kron Buses.others Buses.place Entries.entry Matrices.entryAt Arithmetic.cmul Arithmetic.csub Arithmetic.cdiv Constants.plus0 Ieee.ofBits Ieee.sub Ieee.mul Ieee.div Ieee.lt Accounts.fresh Accounts.stateOf Accounts.removes Accounts.step Accounts.accountFrom allFinite ofAccount Kron.ofRemovals Kron.ofRow Kron.ofRows
+unfolding apart making calls callsOf sizeOf numbersOf Lines.lines Lines.startsWith Lines.numberAfter Lines.entryOf Words.decimalOf Words.hexOf Reducer.makingRefusal Matrices.upTo Kron.eliminate Kron.taken Kron.refusal Kron.tooSmall Kron.kron Buses.others Buses.place Entries.entry Matrices.entryAt Arithmetic.cmul Arithmetic.csub Arithmetic.cdiv Constants.plus0 Ieee.ofBits Ieee.sub Ieee.mul Ieee.div Ieee.lt Accounts.fresh Accounts.stateOf Accounts.removes Accounts.step Accounts.accountFrom allFinite ofAccount Kron.ofRemovals Kron.ofRow Kron.ofRows
 apart-finite = record { made = tt; given = tt; computed = tt }
 
 only-one : (k : ℕ) → k ∈ 1 ∷ [] → k ≡ 1

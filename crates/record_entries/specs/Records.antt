@@ -1,5 +1,5 @@
--- A reducer's record in a byte slice: 66 words, the size at making, the present size, and the 64 places of the active buses.
-use Prim.Native.Nat.{ℕ, _+_}
+-- A reducer's record in a byte slice, in words: the size at making, the present size, and the places of the active buses, as many as the limit.
+use Prim.Native.Nat.{ℕ, _+_, _*_}
 use mathlib.Core.Path.{_≡_}
 use mathlib.Core.Bool.{_&&_, cond}
 use mathlib.Core.List.{List, [], _∷_}
@@ -15,11 +15,10 @@ use Rattle.entry_slices.specs.Slices.{floatsIn, spare, misfit, told}
 
 -- the bytes of a record
 abbrev pub recordBytes : ℕ
-recordBytes = 528
+recordBytes = 16 + 8 * limit
 
 -- the places of the active buses
 unfoldable pub activeIn : List ℕ → List ℕ
-unfolding limit
 activeIn bs = words limit (drop 16 bs)
 
 -- the record in a byte slice; of a slice of another length nothing is read, and the record is all zeros

@@ -8,6 +8,7 @@ use lib.ListN.{length, take}
 use Rattle.entry_slices.specs.Rooms.{matrixRoom}
 use Rattle.entry_slices.specs.Slices.{floatsIn}
 use Rattle.entry_slices.proofs.SlicesLaws.{misfit-one}
+use Rattle.record_entries.specs.Records.{recordBytes}
 use borrow.Author.Needs.{needs}
 use Rattle.reading_entries.proofs.show_in.Statement.{statement}
 use Rattle.reading_entries.proofs.show_in.Tie as tie
@@ -31,10 +32,10 @@ misfit-requires : tie.Need-misfit-requires
 misfit-requires c κs = search needs
 
 add-spare : tie.Need-add-spare
-add-spare c = omega (arith, c .misfit .ensures, misfit-one (length (now (c .before .before .before .before .before .before .before .before .before .before .before .before .args .rec))) 528)
+add-spare c = omega (arith, c .misfit .ensures, misfit-one (length (now (c .before .before .before .before .before .before .before .before .before .before .before .before .args .rec))) recordBytes)
 
 add-spare-2 : tie.Need-add-spare-2
-add-spare-2 c = omega (arith, c .misfit .ensures, misfit-one (length (now (c .before .before .before .before .before .before .before .before .before .before .before .before .args .rec))) 528)
+add-spare-2 c = omega (arith, c .misfit .ensures, misfit-one (length (now (c .before .before .before .before .before .before .before .before .before .before .before .before .args .rec))) recordBytes)
 
 sub-show : tie.Need-sub-show
 sub-show c = search needs

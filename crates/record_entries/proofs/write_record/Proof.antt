@@ -3,6 +3,7 @@
 use mathlib.Core.Path.{_≡_}
 use lib.ListN.{length}
 use denote.Ref.{now}
+use Rattle.refusals.specs.Refusals.{limit}
 use Rattle.record_entries.proofs.RecordsLaws.{length-left, record-written}
 use borrow.Author.Needs.{needs}
 use Rattle.record_entries.proofs.write_record.Statement.{statement}
@@ -30,7 +31,7 @@ write-words-requires : tie.Need-write-words-requires
 write-words-requires c κs =
     let start = c .before .before .before .before .before .before .before .before .before .before .before .before in
     let r = start .args .r in
-    let full : length (r .«active_buses») ≡ 64 = search needs in
+    let full : length (r .«active_buses») ≡ limit = search needs in
     length-left (now (start .args .s)) _ _ (r .«active_buses») (r .made) (r .«n_buses») (start .pre) (c .before .before .before .before .before .before .before .before .put-word .ensures) (c .before .before .before .before .put-word2 .ensures) full
 
 same-length : tie.Need-same-length

@@ -4,7 +4,6 @@ use Prim.Native.Nat.{_*_}
 use mathlib.Core.Path.{_≡_}
 use native.Mathlib.Omega.{arith}
 use lib.ListN.{length}
-use Rattle.refusals.specs.Refusals.{limit}
 use Rattle.lines.specs.Printing.{keptText}
 use Rattle.words.proofs.Writing.{then₃}
 use Rattle.lines.proofs.PrintLaws.{length-kept, length-entry-lines}
@@ -24,7 +23,6 @@ slice-aggregate-put-buses : tie.Need-slice-aggregate-put-buses
 slice-aggregate-put-buses c = search needs
 
 put-buses-requires : tie.Need-put-buses-requires
-unfolding limit
 put-buses-requires c κs =
     let p = c .before .before .before .before in
     let s = p .before .before .before .before .before .before in

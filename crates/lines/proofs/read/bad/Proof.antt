@@ -1,12 +1,10 @@
 -- `lines::read::bad` meets its contract.
 -- Assumes nothing.
 use mathlib.Core.Path.{refl}
-use Rattle.refusals.specs.Refusals.{limit}
 use Rattle.lines.proofs.read.bad.Statement.{statement}
 use Rattle.lines.proofs.read.bad.Tie as tie
 
 returns : tie.Need-returns
-unfolding limit
 returns c = refl
 
 pub bad-spec : {M : Type 1} → statement M
