@@ -3,8 +3,8 @@
 #include <stdlib.h>
 #include <string.h>
 
-/* Bytes on both sides of a slice, which no call may change. */
-enum { EDGE = 16, FILL = 0x5c };
+/* More bytes than a file has, and than a slice in it; bytes on both sides of a slice, which no call may change. */
+enum { MOST = 1 << 20, EDGE = 16, FILL = 0x5c };
 
 typedef struct {
     const uint8_t *at, *end;
@@ -71,7 +71,7 @@ static Slice slice(Reader *r, size_t shift) {
     size_t len = word(r);
     uint64_t repeated = word(r);
     const uint8_t *bytes = repeated ? NULL : take(r, len);
-    r->cut_off |= repeated > 256;
+    r->cut_off |= repeated > 256 || len > MOST;
     Slice s = room(r->cut_off ? 0 : len, shift);
     if (bytes)
         memcpy(s.at, bytes, s.len);

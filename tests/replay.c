@@ -96,7 +96,7 @@ static int replay(const char *name, Reader r) {
 }
 
 int main(int argc, char **argv) {
-    static uint8_t bytes[1 << 20];
+    static uint8_t bytes[MOST];
     int failed = 0;
     for (int i = 1; i < argc; i++) {
         FILE *file = fopen(argv[i], "rb");
