@@ -41,7 +41,7 @@ pub record Outputs : Type 0 where
 abbrev pub outputsOf : List ℕ → List ℕ → List ℕ → List ℕ → List ℕ → Outputs
 outputsOf yw pw qw ws sm = record { y-ward = yw; p-ward = pw; q-ward = qw; work = ws; summary = sm }
 
--- xs is the numbers given where the refusal k is none
+-- xs is the new numbers where the refusal k is none; of a refused study's nothing is said, since none of them is written to a slice
 abbrev pub Filled : ℕ → List Float → List Float → Type 0
 Filled k new xs = xs ≡ cond (eqb k 0) new xs
 
