@@ -57,9 +57,17 @@ fn main() {
 
     tally.print();
     let (total, failed) = (tally.total(), tally.failures());
+    let by_model = tally.by_model();
+    let by = format!("{by_model} of them by the model of elimination");
     match port {
-        Some(_) => println!("oracle: seed {seed}, {total} calls compared with the Rust, {failed} differ"),
-        None => println!("oracle: seed {seed}, {total} answers of the Rust, {failed} not as listed, no port linked"),
+        Some(_) => println!("oracle: seed {seed}, {total} calls compared with the Rust, {by}, {failed} differ"),
+        None => {
+            println!("oracle: seed {seed}, {total} answers of the Rust, {by}, {failed} not as listed, no port linked")
+        }
     }
-    std::process::exit(if failed == 0 { 0 } else { 1 });
+    let unjudged = tally.unjudged();
+    if let Some(function) = unjudged {
+        println!("oracle: {function:?} needs an answer by the Rust and one by the model that is unlike the Rust's");
+    }
+    std::process::exit(if failed == 0 && unjudged.is_none() { 0 } else { 1 });
 }

@@ -1,7 +1,9 @@
-// Records answers of the Rust: record FOLDER writes the files that README.md describes.
+// Records answers of the Rust and, in one file, of the model of elimination: record FOLDER.
+// README.md describes the files.
 use oracle::ask::quietly;
 use oracle::call::{Call, Function};
 use oracle::functions::{expected, sound, SCALARS};
+use oracle::pivots::Judge;
 use oracle::recorded::{case, plain};
 use oracle::source::Source;
 use oracle::spoil::{spoil, unmatch};
@@ -11,6 +13,9 @@ use Function::*;
 
 // a file, and for each function in it: how many small cases, and the larger sizes
 type Wanted<'a> = &'a [(Function, usize, &'a [usize])];
+
+// the file of the answers that the model gives; in the others the Rust gives all
+const BY_MODEL: &str = "tied.bin";
 
 fn small_size(s: &mut Source, at: usize) -> usize {
     let most = if s.one_in(4) { 6 } else { 3 };
@@ -32,6 +37,7 @@ fn drawn(function: Function, s: &mut Source, n: usize) -> Call {
 }
 
 struct File {
+    by_model: bool,
     count: u64,
     bytes: Vec<u8>,
     outcomes: BTreeMap<(Function, u32), usize>,
@@ -41,6 +47,9 @@ impl File {
     fn add(&mut self, call: &Call) -> bool {
         let call = plain(call.clone());
         let e = expected(&call);
+        if self.by_model != matches!(e.judge, Some(Judge::Model { .. })) {
+            return false;
+        }
         let Some(bytes) = case(&call, &e) else { return false };
         *self.outcomes.entry((call.function, e.number)).or_default() += 1;
         self.count += 1;
@@ -52,6 +61,7 @@ impl File {
 fn record(folder: &str, name: &str, seed: u64, wanted: Wanted) {
     let mut s = Source::new(seed);
     let mut file = File {
+        by_model: name == BY_MODEL,
         count: 0,
         bytes: Vec::new(),
         outcomes: BTreeMap::new(),
@@ -59,7 +69,11 @@ fn record(folder: &str, name: &str, seed: u64, wanted: Wanted) {
     for &(function, count, _) in wanted {
         let mut taken = 0;
         while taken < count {
-            let n = small_size(&mut s, taken);
+            let n = if file.by_model {
+                1 + s.below(6)
+            } else {
+                small_size(&mut s, taken)
+            };
             taken += file.add(&drawn(function, &mut s, n)) as usize;
         }
     }
@@ -92,7 +106,7 @@ fn sizeable(call: &Call, n: usize) -> bool {
 fn main() {
     quietly();
     let folder = std::env::args().nth(1).expect("a folder");
-    let files: [(&str, Wanted); 8] = [
+    let files: [(&str, Wanted); 9] = [
         (
             "systems.bin",
             &[
@@ -127,6 +141,16 @@ fn main() {
             ],
         ),
         ("scalars.bin", &SCALARS.map(|function| (function, 100, &[][..]))),
+        (
+            BY_MODEL,
+            &[
+                (SolveLinear, 120, &[8, 16]),
+                (ComplexMatrixInverse, 120, &[8, 16]),
+                (TheveninImpedance, 120, &[8, 16]),
+                (WardCompute, 120, &[8, 16]),
+                (WardComputeExtended, 120, &[8, 16]),
+            ],
+        ),
     ];
     for (i, (name, wanted)) in files.into_iter().enumerate() {
         record(&folder, name, i as u64 + 1, wanted);

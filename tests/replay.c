@@ -1,4 +1,4 @@
-/* Makes recorded calls of the Rust again through the C entries: replay FILE.. prints of each file how many agree, in the
+/* Makes recorded calls again through the C entries: replay FILE.. prints of each file how many agree, in the
  * number answered and in every byte of every slice, those that are only read too. */
 #include "jeturipe.h"
 #include "recorded.h"

@@ -15,7 +15,7 @@ pub enum Difference {
 }
 
 pub enum Told {
-    // the Rust gives the same answer, or errs with the kind that belongs to the number
+    // the Rust, or the model of elimination, gives the same answer, or errs with the kind that belongs to the number
     ByReference,
     Differs(Difference, Manner),
     Wrong(String),

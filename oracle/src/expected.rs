@@ -1,7 +1,8 @@
 // What a call must answer, and what every slice must hold after it.
-use crate::ask::{Asked, Manner};
+use crate::ask::{Asked, Kind, Manner};
 use crate::call::{Call, Function};
 use crate::differences::{judged, state_number, Difference, Told};
+use crate::pivots::{self, Judge, Model};
 use crate::words::{words_of, NAN};
 
 #[derive(Clone, Debug, PartialEq)]
@@ -18,6 +19,8 @@ pub struct Expected {
     pub number: u32,
     pub after: Vec<After>,
     pub told: Told,
+    // none where no pivot was searched
+    pub judge: Option<Judge>,
 }
 
 impl Expected {
@@ -26,6 +29,7 @@ impl Expected {
             number,
             after: vec![After::Held; call.slices.len()],
             told,
+            judge: None,
         }
     }
 
@@ -42,9 +46,25 @@ impl Expected {
         self.with(slice, After::Words(words))
     }
 
+    // of an answer that the Rust gives
     pub fn noting(mut self, difference: Difference) -> Self {
-        self.told = Told::Differs(difference, Manner::Accepts);
+        if matches!(self.told, Told::ByReference) {
+            self.told = Told::Differs(difference, Manner::Accepts);
+        }
         self
+    }
+
+    pub fn is_wrong(&self) -> bool {
+        matches!(self.told, Told::Wrong(_))
+    }
+
+    pub fn by(mut self, judge: Judge) -> Self {
+        self.judge = Some(judge);
+        self
+    }
+
+    pub fn same(&self, other: &Expected) -> bool {
+        self.number == other.number && self.after == other.after
     }
 
     pub fn failing(mut self, why: &str) -> Self {
@@ -81,6 +101,28 @@ pub fn expected<T>(
         Asked::Panics => Expected::wrong(call, "no fault, and the Rust panics".to_string()),
         Asked::NotAsked => Expected::wrong(call, "no fault, and the Rust was not asked".to_string()),
     }
+}
+
+// The same of a call that searches pivots: the model answers where document 02's rule may choose otherwise than the Rust.
+// `model` is none where nothing is to be eliminated.
+pub fn by_pivots<T>(
+    call: &Call,
+    faults: &[u32],
+    asked: Asked<T>,
+    model: impl FnOnce() -> Option<Model<T>>,
+    work: usize,
+    written: impl Fn(Expected, T) -> Expected,
+) -> Expected {
+    let eliminates = faults.is_empty() && matches!(asked, Asked::Accepts(_) | Asked::Errs(Kind::LinearAlgebra));
+    let rust = expected(call, faults, asked, Some(work), &written);
+    let Some(model) = eliminates.then(model).flatten() else {
+        return rust;
+    };
+    let answered = |answer: Option<T>| {
+        let asked = answer.map_or(Asked::Errs(Kind::LinearAlgebra), Asked::Accepts);
+        expected(call, faults, asked, Some(work), &written)
+    };
+    pivots::judged(model.choice, rust, answered(model.first), answered(model.last))
 }
 
 fn may_refuse(function: Function, number: u32) -> bool {

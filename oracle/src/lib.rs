@@ -2,10 +2,12 @@
 pub mod ask;
 pub mod call;
 pub mod differences;
+pub mod elimination;
 pub mod expected;
 pub mod functions;
 pub mod matrices;
 pub mod numbers;
+pub mod pivots;
 pub mod port;
 pub mod recorded;
 pub mod roots;

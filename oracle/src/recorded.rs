@@ -62,7 +62,7 @@ pub fn plain(mut call: Call) -> Call {
     call
 }
 
-// The bytes of a case, where the Rust itself gives the answer.
+// The bytes of a case, where the Rust or the model of elimination gives the answer.
 pub fn case(call: &Call, e: &Expected) -> Option<Vec<u8>> {
     if !matches!(e.told, Told::ByReference | Told::Differs(Difference::LoadTransfer, _)) {
         return None;

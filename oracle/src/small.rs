@@ -19,16 +19,20 @@ fn each(from: &[f64], count: usize, visit: &mut dyn FnMut(&[f64])) {
     }
 }
 
+// the record of a making of n buses
+fn fresh(n: usize) -> Vec<u8> {
+    bytes_of(&record_words(n, &(0..n).collect::<Vec<_>>()))
+}
+
 // every call of a matrix of one or two buses
 fn on_matrix(n: usize, y: &[f64], visit: &mut dyn FnMut(Call)) {
-    let record = || bytes_of(&record_words(n, &(0..n).collect::<Vec<_>>()));
     let slice = || bytes_of_reals(y);
     let right: Vec<f64> = (0..2 * n).map(|i| 2.0 - i as f64).collect();
     visit(solve_linear::of(n, y, &right));
     visit(complex_matrix_inverse::of(n, y));
-    visit(eliminate_bus::of(record(), slice(), n - 1));
-    visit(eliminate_buses::of(record(), slice(), &[0, n - 1]));
-    visit(thevenin_impedance::of(record(), slice(), 0, n - 1));
+    visit(eliminate_bus::of(fresh(n), slice(), n - 1));
+    visit(eliminate_buses::of(fresh(n), slice(), &[0, n - 1]));
+    visit(thevenin_impedance::of(fresh(n), slice(), 0, n - 1));
     let (external, boundary) = if n == 1 { (vec![0], vec![]) } else { (vec![1], vec![0]) };
     let study = Study {
         n,
@@ -51,6 +55,36 @@ fn on_matrix(n: usize, y: &[f64], visit: &mut dyn FnMut(Call)) {
         &vec![1.0; n],
         9,
     ));
+}
+
+// the inputs by which docs/DIFFERENCES.md shows the rule for equal pivots
+fn equal_pivots(visit: &mut dyn FnMut(Call)) {
+    let entries = |xs: &[f64]| -> Vec<f64> { xs.iter().flat_map(|&x| [x, 0.0]).collect() };
+    let tied = entries(&[1.0, 1.0, 1.0, 4.0]);
+    visit(solve_linear::of(2, &tied, &entries(&[0.0, 1.0])));
+    visit(complex_matrix_inverse::of(2, &tied));
+    let held = entries(&[f64::NAN, 0.0, 0.0, 1.0]);
+    visit(solve_linear::of(2, &held, &entries(&[1.0, 1.0])));
+    let y = entries(&[1.0, 1.0, 1.0, -2.0]);
+    visit(thevenin_impedance::of(fresh(2), bytes_of_reals(&y), 0, 1));
+    for y in [
+        entries(&[0.0, 1.0, 0.0, 0.0, 1.0, 1.0, 1.0, 1.0, 4.0]),
+        entries(&[0.0, 0.0, 1.0, 0.0, f64::NAN, 0.0, 1.0, 0.0, 1.0]),
+    ] {
+        let study = Study {
+            n: 3,
+            y,
+            internal: vec![],
+            external: vec![1, 2],
+            boundary: vec![0],
+            base: 100.0,
+            p: vec![50.0, 25.0],
+            q: vec![-25.0, 10.0],
+            v: vec![1.25, 0.75],
+        };
+        visit(ward_compute::of(&study));
+        visit(ward_compute_extended::of(&study));
+    }
 }
 
 fn branches(visit: &mut dyn FnMut(Call)) {
@@ -85,6 +119,7 @@ pub fn every(visit: &mut dyn FnMut(Call)) {
     each(&edges, 4, &mut |y| {
         on_matrix(2, &[y[0], 0.0, y[1], -0.0, y[2], 0.0, y[3], 0.0], visit)
     });
+    equal_pivots(visit);
     branches(visit);
 }
 

@@ -4,6 +4,7 @@ use crate::call::{shown, Call, Function};
 use crate::differences::{Difference, Told};
 use crate::expected::{met, Expected};
 use crate::functions::expected;
+use crate::pivots::Judge;
 use crate::port::{Lent, Port};
 use std::collections::BTreeMap;
 
@@ -12,10 +13,20 @@ pub struct Tally {
     pub calls: BTreeMap<Function, usize>,
     pub answers: BTreeMap<(Function, u32), usize>,
     pub differences: BTreeMap<(Difference, Manner), usize>,
+    pub judges: BTreeMap<(Function, Judge), usize>,
     pub failed: BTreeMap<Function, usize>,
 }
 
 const SHOWN: usize = 10;
+
+// the calls that search pivots
+const PIVOTING: [Function; 5] = [
+    Function::SolveLinear,
+    Function::ComplexMatrixInverse,
+    Function::TheveninImpedance,
+    Function::WardCompute,
+    Function::WardComputeExtended,
+];
 
 impl Tally {
     // one call: what the reference says of it and, where there is a port, what that does
@@ -27,6 +38,9 @@ impl Tally {
             Told::ByReference => {}
             Told::Differs(difference, manner) => *self.differences.entry((*difference, *manner)).or_default() += 1,
             Told::Wrong(why) => return self.fail(call, why),
+        }
+        if let Some(judge) = e.judge {
+            *self.judges.entry((call.function, judge)).or_default() += 1;
         }
         if let Some(port) = port {
             if let Err(why) = compared(call, &e, port, self.total()) {
@@ -68,6 +82,30 @@ impl Tally {
         for ((difference, manner), times) in &self.differences {
             println!("listed difference {difference:?}, the Rust {manner:?}: {times}");
         }
+        for function in PIVOTING {
+            let [by_rust, alike, unlike] = self.judged(function);
+            let by_model = format!("{} by the model, {unlike} of them unlike the Rust's", alike + unlike);
+            println!("pivots of {function:?}: {by_rust} answers by the Rust, {by_model}");
+        }
+    }
+
+    // answers by the Rust, and by the model alike and unlike the Rust
+    fn judged(&self, function: Function) -> [usize; 3] {
+        let judges = [Judge::Rust, Judge::Model { alike: true }, Judge::Model { alike: false }];
+        judges.map(|judge| self.judges.get(&(function, judge)).copied().unwrap_or(0))
+    }
+
+    pub fn by_model(&self) -> usize {
+        let by_model = self.judges.iter().filter(|entry| entry.0 .1 != Judge::Rust);
+        by_model.map(|entry| entry.1).sum()
+    }
+
+    // a function of which the Rust gave no answer, or the model none unlike the Rust's
+    pub fn unjudged(&self) -> Option<Function> {
+        PIVOTING.into_iter().find(|&function| {
+            let [by_rust, _, unlike] = self.judged(function);
+            by_rust == 0 || unlike == 0
+        })
     }
 }
 

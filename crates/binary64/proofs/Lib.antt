@@ -1,4 +1,5 @@
 pub mod Floats
+pub mod Order
 pub mod WholeRoots
 pub mod RootSteps
 pub mod RootMiddles

@@ -17,14 +17,14 @@ ghost use Rattle.gauss_jordan.specs.GaussJordan as spec;
 ghost use Rattle.gauss_jordan.specs.Solving.{operations};
 ghost use Rattle.gauss_jordan.specs.Work.{Augmented, Column, withRow, reducedRow};
 
-// Of two rows, the one that is held: the first only where its squared magnitude is strictly greater.
+// Of two rows, the one that is held: the first, unless the other's squared magnitude is strictly greater.
 fn stronger(work: &[f64], n: usize, w: usize, c: usize, held: usize, next: usize) -> usize
     requires { ⌜ (Augmented n w (length (now work))) × (c < n) × (held < n) × (next < n) ⌝ }
     ensures { λ r. ⌜ r ≡ cond (spec.stays (operations .weight (entryAt w (now (work .entry)) held c)) (operations .weight (entryAt w (now (work .entry)) next c))) held next ⌝ }
 {
     let h = complex::sqmag(get(work, held * w + c));
     let x = complex::sqmag(get(work, next * w + c));
-    if x < h { held } else { next }
+    if h < x { next } else { held }
 }
 
 // The pivot's row for column c.

@@ -1,7 +1,7 @@
 -- Gauss-Jordan elimination, a column at a time, on a matrix of n rows whose columns from n on are right sides.
 -- The element's operations are a parameter: complex numbers are one instance.
 use Prim.Native.Nat.{ℕ, zero, suc, _-_}
-use mathlib.Core.Bool.{Bool, true, false, _||_, cond}
+use mathlib.Core.Bool.{Bool, true, false, not, _||_, cond}
 use lib.Dec.{eqb, ltb}
 use lib.Ieee.{Float, lt}
 use Rattle.complex.specs.Constants.{tiny}
@@ -18,9 +18,9 @@ pub record Operations (E : Type 0) : Type 0 where
 abbrev pub Grid : Type 0 → Type 0
 Grid E = ℕ → ℕ → E
 
--- The pivot rule: the held row stays only where its weight is strictly greater than the later row's.
+-- The pivot rule: the held row gives way only to a later row of strictly greater weight.
 unfoldable pub stays : Float → Float → Bool
-stays held later = lt later held
+stays held later = not (lt held later)
 
 -- A pivot of this weight is too small to divide by. A NaN is not.
 unfoldable pub tooSmall : Float → Bool

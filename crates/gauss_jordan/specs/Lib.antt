@@ -1,4 +1,5 @@
 pub mod GaussJordan
+pub mod Pivots
 pub mod Solving
 pub mod Work
 pub mod Computed

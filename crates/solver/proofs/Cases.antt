@@ -1,20 +1,20 @@
--- Small systems computed from the definitions that the contracts cite: a singular one, an inverse, and wrong lengths.
+-- Small systems computed from the definitions that the contracts cite: equal and incomparable pivots, a singular one, an inverse, and wrong lengths.
 -- Assumes nothing.
 use mathlib.Core.Path.{_≡_, refl}
 use mathlib.Core.List.{[], _∷_}
-use lib.Ieee.{Float, binary64, lt, add, sub, mul, div, ofBits}
+use lib.Ieee.{Float, nan, binary64, lt, add, sub, mul, div, ofBits}
 use Rattle.complex.specs.Constants.{plus0, one, tiny}
 use Rattle.complex.specs.Arithmetic.{csub, cmul, sqmag, cdiv, complexInv}
 use Rattle.complex.specs.Magnitude.{abs}
 use Rattle.complex.specs.Entries.{entry}
 use Rattle.complex.specs.Matrices.{upTo, entryAt, row, rows, grid, zeros}
-use Rattle.refusals.specs.declared.Outcome.the-variants.{Refused}
+use Rattle.refusals.specs.declared.Outcome.the-variants.{Done, Refused}
 use Rattle.refusals.specs.Refusals.{outcome, wrongLength, noSystem, smallPivot}
 use Rattle.gauss_jordan.specs.GaussJordan.{stays, tooSmall, heldAfter, pivotRow, swapped, scaled, reduced, pivoted, cleared, runFrom, run, beside, solution, singularSystem}
 use Rattle.gauss_jordan.specs.Solving.{skipped, unitColumn}
 use Rattle.solver.specs.Calls.{solveRefusal, inverseRefusal, afterSolve, afterInverse, afterElimination}
 
--- +0, 1, -1, 2 and 0.5
+-- +0, 1, -1, 2, 4 and 0.5
 abbrev o : Float
 o = ofBits binary64 0
 
@@ -27,25 +27,45 @@ m1 = ofBits binary64 0xbff0000000000000
 abbrev p2 : Float
 p2 = ofBits binary64 0x4000000000000000
 
+abbrev p4 : Float
+p4 = ofBits binary64 0x4010000000000000
+
 abbrev half : Float
 half = ofBits binary64 0x3fe0000000000000
+
+-- to open this is to open all that the cases compute with
+opened : Unit {0}
+unfolding plus0 one tiny csub cmul sqmag cdiv complexInv abs entry upTo entryAt row rows grid zeros outcome stays tooSmall heldAfter pivotRow swapped scaled reduced pivoted cleared runFrom run beside solution singularSystem skipped unitColumn solveRefusal inverseRefusal afterSolve afterInverse afterElimination lt add sub mul div ofBits
+opened = tt
+
+-- 1, 1 / 1, 4 with right side 0, 1: the first column's pivots are equal, and the upper row is taken. The lower one would give the first answer as bfd5555555555554.
+upper-row : afterSolve 2 (p1 ∷ o ∷ p1 ∷ o ∷ p1 ∷ o ∷ p4 ∷ o ∷ []) (o ∷ o ∷ p1 ∷ o ∷ []) (m1 ∷ m1 ∷ m1 ∷ m1 ∷ []) (zeros 12)
+    ≡ record { answer = Done; output = ofBits binary64 0xbfd5555555555555 ∷ o ∷ ofBits binary64 0x3fd5555555555555 ∷ o ∷ []; work = zeros 12 }
+unfolding opened
+upper-row = refl
+
+-- NaN, 0 / 0, 1 with right side 1, 1: the NaN is held and stays, and is not too small. The lower row, its pivot 0, would be refused.
+nan-held : afterSolve 2 (nan ∷ o ∷ o ∷ o ∷ o ∷ o ∷ p1 ∷ o ∷ []) (p1 ∷ o ∷ p1 ∷ o ∷ []) (m1 ∷ m1 ∷ m1 ∷ m1 ∷ []) (zeros 12)
+    ≡ record { answer = Done; output = nan ∷ nan ∷ p1 ∷ o ∷ []; work = zeros 12 }
+unfolding opened
+nan-held = refl
 
 -- 1, 1 / 1, 1 is singular: the output is as it was, the work slice is cleared
 singular-pair : afterSolve 2 (p1 ∷ o ∷ p1 ∷ o ∷ p1 ∷ o ∷ p1 ∷ o ∷ []) (p2 ∷ o ∷ o ∷ o ∷ []) (m1 ∷ m1 ∷ m1 ∷ m1 ∷ []) (m1 ∷ o ∷ o ∷ o ∷ o ∷ o ∷ o ∷ o ∷ o ∷ o ∷ o ∷ p1 ∷ [])
     ≡ record { answer = Refused smallPivot; output = m1 ∷ m1 ∷ m1 ∷ m1 ∷ []; work = zeros 12 }
-unfolding plus0 one tiny csub cmul sqmag cdiv complexInv abs entry upTo entryAt row rows grid zeros outcome stays tooSmall heldAfter pivotRow swapped scaled reduced pivoted cleared runFrom run beside solution singularSystem skipped unitColumn solveRefusal inverseRefusal afterSolve afterInverse afterElimination lt add sub mul div ofBits
+unfolding opened
 singular-pair = refl
 
 -- the inverse of 2
 inverse-2 : afterInverse 1 (p2 ∷ o ∷ []) (o ∷ o ∷ []) (o ∷ o ∷ o ∷ o ∷ []) .output ≡ half ∷ o ∷ []
-unfolding plus0 one tiny csub cmul sqmag cdiv complexInv abs entry upTo entryAt row rows grid zeros outcome stays tooSmall heldAfter pivotRow swapped scaled reduced pivoted cleared runFrom run beside solution singularSystem skipped unitColumn solveRefusal inverseRefusal afterSolve afterInverse afterElimination lt add sub mul div ofBits
+unfolding opened
 inverse-2 = refl
 
 -- a wrong length is told before an empty system, and both leave everything
 wrong-length : afterInverse 0 (p1 ∷ []) (p2 ∷ []) (m1 ∷ []) ≡ record { answer = Refused wrongLength; output = p2 ∷ []; work = m1 ∷ [] }
-unfolding plus0 one tiny csub cmul sqmag cdiv complexInv abs entry upTo entryAt row rows grid zeros outcome stays tooSmall heldAfter pivotRow swapped scaled reduced pivoted cleared runFrom run beside solution singularSystem skipped unitColumn solveRefusal inverseRefusal afterSolve afterInverse afterElimination lt add sub mul div ofBits
+unfolding opened
 wrong-length = refl
 
 no-system : afterSolve 0 [] (p1 ∷ []) [] [] ≡ record { answer = Refused noSystem; output = []; work = [] }
-unfolding plus0 one tiny csub cmul sqmag cdiv complexInv abs entry upTo entryAt row rows grid zeros outcome stays tooSmall heldAfter pivotRow swapped scaled reduced pivoted cleared runFrom run beside solution singularSystem skipped unitColumn solveRefusal inverseRefusal afterSolve afterInverse afterElimination lt add sub mul div ofBits
+unfolding opened
 no-system = refl

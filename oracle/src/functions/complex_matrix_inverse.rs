@@ -2,8 +2,10 @@
 use super::{ASKED, LIMIT};
 use crate::ask::{ask, Asked};
 use crate::call::{dirty, Call, Function};
+use crate::elimination::identity;
 use crate::expected::{self, faults, Expected};
 use crate::matrices::matrix;
+use crate::pivots::Model;
 use crate::source::Source;
 use crate::words::{bytes_of_reals, rows_of, words_of_rows};
 use reference::reduction::reach;
@@ -31,7 +33,8 @@ pub fn expected(call: &Call) -> Expected {
     } else {
         ask(|| reach::complex_matrix_inverse(&rows_of(&call.slices[MAT], n, n)))
     };
-    expected::expected(call, &refusals, asked, Some(WORK), |e, z| {
+    let model = || Some(Model::of(&rows_of(&call.slices[MAT], n, n), &identity(n), |z| z));
+    expected::by_pivots(call, &refusals, asked, model, WORK, |e, z| {
         e.words(INVERSE, words_of_rows(&z))
     })
 }

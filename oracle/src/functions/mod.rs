@@ -19,6 +19,7 @@ pub mod thevenin_impedance;
 pub mod ward;
 pub mod ward_compute;
 pub mod ward_compute_extended;
+pub mod ward_model;
 
 // The library's limit on buses, branches and lists.
 pub const LIMIT: usize = 64;

@@ -5,8 +5,9 @@ use crate::call::{dirty, Call, Function};
 use crate::expected::{self, faults, Expected};
 use crate::matrices::matrix;
 use crate::numbers::{kind, reals};
+use crate::pivots::Model;
 use crate::source::Source;
-use crate::words::{bytes_of_reals, pairs_of, rows_of, words_of_pairs};
+use crate::words::{bytes_of_reals, pairs_of, rows_of, words_of_pairs, Rows};
 use reference::reduction::WardEquivalent;
 
 const A: usize = 0;
@@ -42,7 +43,12 @@ pub fn expected(call: &Call) -> Expected {
     } else {
         ask(|| WardEquivalent::solve_linear(&rows_of(&call.slices[A], n, n), &right_side(call)))
     };
-    expected::expected(call, &refusals, asked, Some(WORK), |e, x| {
+    let model = || {
+        let sides: Rows = right_side(call).into_iter().map(|b| vec![b]).collect();
+        let first_column = |x: Rows| x.iter().map(|row| row[0]).collect();
+        Some(Model::of(&rows_of(&call.slices[A], n, n), &sides, first_column))
+    };
+    expected::by_pivots(call, &refusals, asked, model, WORK, |e, x| {
         e.words(X, words_of_pairs(&x))
     })
 }

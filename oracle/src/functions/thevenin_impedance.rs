@@ -2,9 +2,12 @@
 use super::reducer;
 use crate::ask::{ask, Asked};
 use crate::call::{dirty, Call, Function};
+use crate::elimination::identity;
 use crate::expected::{self, faults, Expected};
+use crate::pivots::Model;
 use crate::source::Source;
-use crate::words::words_of_pairs;
+use crate::words::{words_of_pairs, Pair, Rows};
+use reference::reduction::reach::{self, cadd, cmul, csub};
 
 const WORK: usize = 2;
 const Z: usize = 3;
@@ -27,9 +30,23 @@ pub fn expected(call: &Call) -> Expected {
         None => Asked::NotAsked,
         Some(r) => ask(|| r.thevenin_impedance(call.wholes[0] as usize, call.wholes[1] as usize)),
     };
-    expected::expected(call, &refusals, asked, Some(WORK), |e, z| {
-        e.words(Z, words_of_pairs(&[z]))
-    })
+    expected::by_pivots(
+        call,
+        &refusals,
+        asked,
+        || model(call),
+        WORK,
+        |e, z| e.words(Z, words_of_pairs(&[z])),
+    )
+}
+
+fn model(call: &Call) -> Option<Model<Pair>> {
+    let r = reducer::reducer(call)?;
+    let at = |bus: u64| reach::active(&r).iter().position(|&b| b as u64 == bus);
+    let (i, j) = (at(call.wholes[0])?, at(call.wholes[1])?);
+    let y = r.reduced_matrix();
+    let across = |z: Rows| csub(cadd(z[i][i], z[j][j]), cmul((2.0, 0.0), z[i][j]));
+    Some(Model::of(&y, &identity(y.len()), across))
 }
 
 pub fn random(s: &mut Source, made: usize) -> Call {

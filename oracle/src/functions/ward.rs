@@ -4,7 +4,7 @@ use crate::call::Call;
 use crate::matrices::matrix;
 use crate::numbers::{kind, real, reals, Kind};
 use crate::source::Source;
-use crate::words::{bytes_of, bytes_of_reals, rows_of, wholes_of, word, words_of_wholes};
+use crate::words::{bytes_of, bytes_of_reals, rows_of, wholes_of, word, words_of_wholes, Rows};
 use reference::reduction::{WardEquivalent, WardEquivalentConfig, WardEquivalentResult};
 
 pub const Y: usize = 0;
@@ -88,9 +88,11 @@ pub fn refusals(call: &Call, at: &Places) -> Vec<(u32, bool)> {
 // the Rust's study; none where it is too large to ask
 pub fn study(call: &Call, include_load_transfer: bool) -> Option<WardEquivalent> {
     let n = call.size();
-    if n > ASKED {
-        return None;
-    }
+    (n <= ASKED).then(|| study_of(call, rows_of(&call.slices[Y], n, n), include_load_transfer))
+}
+
+// the same of another matrix
+pub fn study_of(call: &Call, y: Rows, include_load_transfer: bool) -> WardEquivalent {
     let list = |i: usize| wholes_of(&call.slices[i]);
     let config = WardEquivalentConfig {
         internal_buses: list(INTERNAL),
@@ -99,7 +101,7 @@ pub fn study(call: &Call, include_load_transfer: bool) -> Option<WardEquivalent>
         include_load_transfer,
         base_mva: call.reals[0],
     };
-    Some(WardEquivalent::new(n, rows_of(&call.slices[Y], n, n), config))
+    WardEquivalent::new(call.size(), y, config)
 }
 
 // original size, equivalent size, ratio

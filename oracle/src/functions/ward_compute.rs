@@ -1,9 +1,11 @@
 // ward_compute(n, y, internal, external, boundary, base_mva, p_ext, q_ext, y_ward, p_ward, q_ward, work, summary)
 use super::ward::{self, Places, Study};
+use super::ward_model;
 use crate::ask::{ask, Asked};
 use crate::call::{dirty, Call, Function};
 use crate::differences::Difference;
 use crate::expected::{self, faults, Expected};
+use crate::pivots::Judge;
 use crate::source::Source;
 use crate::words::{words_of_reals, words_of_rows};
 use reference::reduction::WardEquivalentResult;
@@ -45,18 +47,32 @@ fn written(e: Expected, w: &WardEquivalentResult) -> Expected {
 
 pub fn expected(call: &Call) -> Expected {
     let refusals = faults(&ward::refusals(call, &AT));
-    let e = expected::expected(call, &refusals, asked(call, true), Some(AT.work), |e, w| written(e, &w));
+    let with = |include_load_transfer| {
+        let asked = asked(call, include_load_transfer);
+        expected::by_pivots(
+            call,
+            &refusals,
+            asked,
+            || ward_model::study(call),
+            AT.work,
+            |e, w| written(e, &w),
+        )
+    };
+    let e = with(true);
     if e.number != 0 || call.size() > 8 {
         return e;
     }
     // the Rust's unread field, the other way
-    let again = expected::expected(call, &refusals, asked(call, false), Some(AT.work), |e, w| {
-        written(e, &w)
-    });
-    if again.number == e.number && again.after == e.after {
-        e.noting(Difference::LoadTransfer)
-    } else {
-        e.failing("include_load_transfer changes the Rust's answer")
+    let again = with(false);
+    if again.is_wrong() {
+        return again;
+    }
+    if !again.same(&e) {
+        return e.failing("include_load_transfer changes the Rust's answer");
+    }
+    match e.judge {
+        Some(Judge::Model { .. }) => e,
+        _ => e.noting(Difference::LoadTransfer),
     }
 }
 

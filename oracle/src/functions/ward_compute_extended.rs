@@ -1,7 +1,7 @@
 // ward_compute_extended(n, y, internal, external, boundary, base_mva, p_ext, q_ext, v_ext,
 //     y_ward, p_ward, q_ward, voltage_correction, q_compensation, work, summary)
 use super::ward::{self, Places, Study};
-use super::LIMIT;
+use super::{ward_model, LIMIT};
 use crate::ask::{ask, Asked};
 use crate::call::{dirty, Call, Function};
 use crate::expected::{self, faults, Expected};
@@ -43,7 +43,8 @@ pub fn expected(call: &Call) -> Expected {
         None => Asked::NotAsked,
         Some(w) => ask(|| w.compute_extended(&list(ward::P_EXT), &list(ward::Q_EXT), &list(V_EXT))),
     };
-    expected::expected(call, &faults(&all), asked, Some(AT.work), |e, x| {
+    let model = || ward_model::extended(call, &list(V_EXT));
+    expected::by_pivots(call, &faults(&all), asked, model, AT.work, |e, x| {
         e.words(AT.y_ward, words_of_rows(&x.ward_result.y_ward))
             .words(AT.p_ward, words_of_reals(&x.ward_result.p_ward_injections))
             .words(AT.q_ward, words_of_reals(&x.ward_result.q_ward_injections))

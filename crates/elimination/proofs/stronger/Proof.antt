@@ -1,7 +1,7 @@
 -- `elimination::stronger` meets its contract.
 -- Assumes nothing.
 use mathlib.Core.Path.{_≡_, ap, _∙_}
-use mathlib.Core.Bool.{Bool, true, false, cond}
+use mathlib.Core.Bool.{Bool, true, false, not, cond}
 use Prim.Native.Nat.{ℕ, _+_, _*_, _<_}
 use native.Mathlib.Omega.{arith}
 use lib.Ieee.{Float, lt}
@@ -14,7 +14,7 @@ use Rattle.gauss_jordan.specs.GaussJordan.{stays}
 use Rattle.elimination.proofs.stronger.Statement.{statement}
 use Rattle.elimination.proofs.stronger.Tie as tie
 
-held : (h x H X : Float) (a b : ℕ) (t : Bool) → h ≡ H → x ≡ X → lt x h ≡ t → cond t a b ≡ cond (stays H X) a b
+held : (h x H X : Float) (a b : ℕ) (t : Bool) → h ≡ H → x ≡ X → lt h x ≡ t → cond (not t) a b ≡ cond (stays H X) a b
 unfolding stays
 held h x H X a b t p q e = rw (← p, ← q, e)
 

@@ -1,0 +1,100 @@
+// A model of Gauss-Jordan that chooses pivots by document 02's rule or by the Rust's.
+use crate::words::{Pair, Rows};
+use reference::reduction::reach::{cdiv, cmul, csub};
+
+const TINY: f64 = 1e-300;
+
+#[derive(Clone, Copy)]
+pub enum Rule {
+    // 02 P5: the held row gives way only to a strictly larger weight
+    First,
+    // the Rust: it stays only where its own weight is strictly larger
+    Last,
+}
+
+// Whether the two rules may choose different rows, by the first search in which they may.
+#[derive(Clone, Copy, PartialEq)]
+pub enum Choice {
+    // no search meets its largest weight twice, or a NaN
+    Clear,
+    Open,
+    // equal weights, none a NaN, and all too small for a pivot: either rule ends there
+    Small,
+}
+
+// the squared magnitude
+fn weight(c: Pair) -> f64 {
+    c.0 * c.0 + c.1 * c.1
+}
+
+fn choice(weights: &[f64]) -> Choice {
+    if weights.iter().any(|w| w.is_nan()) {
+        return Choice::Open;
+    }
+    let most = weights.iter().copied().fold(0.0, f64::max);
+    match weights.iter().filter(|&&w| w == most).count() {
+        1 => Choice::Clear,
+        _ if most < TINY => Choice::Small,
+        _ => Choice::Open,
+    }
+}
+
+fn pivot(weights: &[f64], rule: Rule) -> usize {
+    (1..weights.len()).fold(0, |held, next| {
+        let gives_way = match rule {
+            Rule::First => weights[held] < weights[next],
+            Rule::Last => !(weights[next] < weights[held]),
+        };
+        if gives_way {
+            next
+        } else {
+            held
+        }
+    })
+}
+
+// row c is scaled by its pivot's inverse, and every other row that is not skipped is reduced
+fn clear(rows: &mut Rows, c: usize) {
+    let inverse = cdiv((1.0, 0.0), rows[c][c]);
+    let pivot_row: Vec<Pair> = rows[c].iter().map(|&x| cmul(x, inverse)).collect();
+    rows[c].copy_from_slice(&pivot_row);
+    for (i, row) in rows.iter_mut().enumerate() {
+        let factor = row[c];
+        if i == c || (factor.0.abs() < TINY && factor.1.abs() < TINY) {
+            continue;
+        }
+        for (x, &p) in row.iter_mut().zip(&pivot_row) {
+            *x = csub(*x, cmul(factor, p));
+        }
+    }
+}
+
+// The solutions for these right sides, none where a pivot is too small.
+pub fn eliminated(system: &[Vec<Pair>], sides: &[Vec<Pair>], rule: Rule) -> (Choice, Option<Rows>) {
+    let n = system.len();
+    let mut rows: Rows = system
+        .iter()
+        .zip(sides)
+        .map(|(a, b)| [&a[..], &b[..]].concat())
+        .collect();
+    let mut met = Choice::Clear;
+    for c in 0..n {
+        let weights: Vec<f64> = rows[c..].iter().map(|row| weight(row[c])).collect();
+        if met == Choice::Clear {
+            met = choice(&weights);
+        }
+        let held = pivot(&weights, rule);
+        if weights[held] < TINY {
+            return (met, None);
+        }
+        rows.swap(c, c + held);
+        clear(&mut rows, c);
+    }
+    (met, Some(rows.into_iter().map(|row| row[n..].to_vec()).collect()))
+}
+
+pub fn identity(n: usize) -> Rows {
+    (0..n)
+        .map(|i| (0..n).map(|j| (if i == j { 1.0 } else { 0.0 }, 0.0)).collect())
+        .collect()
+}
