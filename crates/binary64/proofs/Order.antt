@@ -87,14 +87,14 @@ pub lt-irrefl : (x : Float) → NotNegative x → T (not (lt x x))
 lt-irrefl x h = not-T (lt x x) (λ (t : T (lt x x)). T-not (lt x x) (lt-asym x x h h t) t)
 
 -- a/b < p/q has any c/d above the one or below the other
-apart : (a b c d p q : ℕ) → 0 < b → 0 < d → a * q < p * b → T (ltb (a * d) (c * b)) ⊎ T (ltb (c * q) (p * d))
-apart a b c d p q hb hd l = go (ltb (a * d) (c * b)) (nltb→le (a * d) (c * b))
+apart : (a b c d p q : ℕ) → 0 < d → a * q < p * b → T (ltb (a * d) (c * b)) ⊎ T (ltb (c * q) (p * d))
+apart a b c d p q h l = go (ltb (a * d) (c * b)) (nltb→le (a * d) (c * b))
   where
     go : (t : Bool) → (T (not t) → c * b ≤ a * d) → T t ⊎ T (ltb (c * q) (p * d))
     go true f = inl tt
     go false f =
         let low : c * b * q ≤ a * d * q = mul-le-mul-right q (f tt) in
-        let high : a * q * d < p * b * d = mul-lt-mul-of-pos-right l hd in
+        let high : a * q * d < p * b * d = mul-lt-mul-of-pos-right l h in
         inr (lt→ltb (c * q) (p * d) (lt-of-mul-lt-mul-right b
         (rw (mul-right-comm c q b, mul-right-comm p d b) (lt-of-le-of-lt (rw (mul-right-comm a d q) at low) high))))
 
@@ -115,7 +115,7 @@ lt-apart (fin false m e) (fin false n d) (inf true) h i j l = absurd j
 lt-apart (fin false m e) (fin false n d) (inf false) h i j l = inr (inl tt)
 lt-apart (fin false m e) (fin false n d) (fin true k g) h i j l = absurd j
 lt-apart (fin false m e) (fin false n d) (fin false k g) h i j l =
-    elim (apart (m * up e) (down e) (n * up d) (down d) (k * up g) (down g) (down-pos e) (down-pos d) (ltb→lt (m * up e * down g) (k * up g * down e) l)) [
+    elim (apart (m * up e) (down e) (n * up d) (down d) (k * up g) (down g) (down-pos d) (ltb→lt (m * up e * down g) (k * up g * down e) l)) [
       | inl t ↦ inl t
       | inr t ↦ inr (inl t)
     ]

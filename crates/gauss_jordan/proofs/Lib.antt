@@ -1,6 +1,6 @@
 pub mod BlockParts
 pub mod GaussJordan
-pub mod Pivots
 pub mod Passed
+pub mod Pivots
 pub mod RowParts
 pub mod Solutions

@@ -1,6 +1,6 @@
 -- The pivot's row is the upper one of those with the largest weight; a NaN stays where it is held, and is passed over further down.
 --     search-taken  over any element's operations, where no weight is negative
---     upper-row     of complex numbers, by their squared magnitudes
+--     pivot-taken   of complex numbers, by their squared magnitudes
 -- Assumes nothing.
 use mathlib.Core.Path.{_≡_, refl, sym, ap, subst, _∙_}
 use mathlib.Core.Logic.{_⊎_, inl, inr}
@@ -27,7 +27,7 @@ module _ (w : ℕ → Float) (weighs : (r : ℕ) → NotNegative (w r)) (c : ℕ
         among = (omega arith, omega arith);
         number = h;
         none-more = λ (r : ℕ) (a : c ≤ r) (k : r < suc c). subst (λ (x : ℕ). T (not (lt (w c) (w x)))) (omega arith) (lt-irrefl (w c) (weighs c));
-        above-less = λ (r : ℕ) (a : c ≤ r) (k : r < c). absurd (omega arith);
+        above-less = λ r a k. absurd (omega arith);
       }
 
   -- the next row is weighed against the held one
@@ -100,8 +100,8 @@ sqmag-weighs : (z : Complex) → NotNegative (sqmag z)
 unfolding sqmag
 sqmag-weighs z = sum-not-negative binary64 _ _ (square-not-negative binary64 (z .re)) (square-not-negative binary64 (z .im))
 
-pub upper-row : UpperRow
-upper-row n c A l = search-taken operations sqmag-weighs A c n l
+pub pivot-taken : UpperRow
+pivot-taken n c A l = search-taken operations sqmag-weighs A c n l
 
 -- ---- 1, NaN, 2, -2 in a column: row 2 is the upper one of the two that weigh most
 
@@ -123,4 +123,4 @@ unfolding pivotRow heldAfter stays sqmag lt mul add ofBits
 taken = refl
 
 third-row : Uppermost weight 0 4 2
-third-row = subst (Uppermost weight 0 4) taken (upper-row 4 0 column (lit< tt) .uppermost first-is-number)
+third-row = subst (Uppermost weight 0 4) taken (pivot-taken 4 0 column (lit< tt) .uppermost first-is-number)

@@ -2,6 +2,7 @@
 -- Assumes nothing.
 use mathlib.Core.Path.{_≡_, refl}
 use mathlib.Core.List.{[], _∷_}
+use lib.ListN.{replicate}
 use lib.Ieee.{Float, nan, binary64, lt, add, sub, mul, div, ofBits}
 use Rattle.complex.specs.Constants.{plus0, one, tiny}
 use Rattle.complex.specs.Arithmetic.{csub, cmul, sqmag, cdiv, complexInv}
@@ -39,13 +40,13 @@ unfolding plus0 one tiny csub cmul sqmag cdiv complexInv abs entry upTo entryAt 
 opened = tt
 
 -- 1, 1 / 1, 4 with right side 0, 1: the first column's pivots are equal, and the upper row is taken. The lower one would give the first answer as bfd5555555555554.
-upper-row : afterSolve 2 (p1 ∷ o ∷ p1 ∷ o ∷ p1 ∷ o ∷ p4 ∷ o ∷ []) (o ∷ o ∷ p1 ∷ o ∷ []) (m1 ∷ m1 ∷ m1 ∷ m1 ∷ []) (zeros 12)
+upper-row : afterSolve 2 (p1 ∷ o ∷ p1 ∷ o ∷ p1 ∷ o ∷ p4 ∷ o ∷ []) (o ∷ o ∷ p1 ∷ o ∷ []) (replicate 4 m1) (replicate 12 m1)
     ≡ record { answer = Done; output = ofBits binary64 0xbfd5555555555555 ∷ o ∷ ofBits binary64 0x3fd5555555555555 ∷ o ∷ []; work = zeros 12 }
 unfolding opened
 upper-row = refl
 
 -- NaN, 0 / 0, 1 with right side 1, 1: the NaN is held and stays, and is not too small. The lower row, its pivot 0, would be refused.
-nan-held : afterSolve 2 (nan ∷ o ∷ o ∷ o ∷ o ∷ o ∷ p1 ∷ o ∷ []) (p1 ∷ o ∷ p1 ∷ o ∷ []) (m1 ∷ m1 ∷ m1 ∷ m1 ∷ []) (zeros 12)
+nan-held : afterSolve 2 (nan ∷ o ∷ o ∷ o ∷ o ∷ o ∷ p1 ∷ o ∷ []) (p1 ∷ o ∷ p1 ∷ o ∷ []) (replicate 4 m1) (replicate 12 m1)
     ≡ record { answer = Done; output = nan ∷ nan ∷ p1 ∷ o ∷ []; work = zeros 12 }
 unfolding opened
 nan-held = refl
