@@ -38,6 +38,15 @@ impl<T> Asked<T> {
             Asked::NotAsked => Manner::NotAsked,
         }
     }
+
+    pub fn map<U>(self, f: impl FnOnce(T) -> U) -> Asked<U> {
+        match self {
+            Asked::Accepts(x) => Asked::Accepts(f(x)),
+            Asked::Errs(kind) => Asked::Errs(kind),
+            Asked::Panics => Asked::Panics,
+            Asked::NotAsked => Asked::NotAsked,
+        }
+    }
 }
 
 pub fn ask<T>(f: impl FnOnce() -> Result<T, OxiGridError>) -> Asked<T> {

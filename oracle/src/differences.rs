@@ -12,6 +12,8 @@ pub enum Difference {
     ReiSum,
     // the Rust's field include_load_transfer, either way, changes nothing
     LoadTransfer,
+    // the Rust's own currents are of P + jQ
+    Currents,
 }
 
 pub enum Told {

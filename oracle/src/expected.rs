@@ -1,5 +1,5 @@
 // What a call must answer, and what every slice must hold after it.
-use crate::ask::{Asked, Kind, Manner};
+use crate::ask::{Asked, Kind};
 use crate::call::{Call, Function};
 use crate::differences::{judged, state_number, Difference, Told};
 use crate::pivots::{self, Judge, Model};
@@ -19,6 +19,8 @@ pub struct Expected {
     pub number: u32,
     pub after: Vec<After>,
     pub told: Told,
+    // listed differences that the answer shows
+    pub noted: Vec<Difference>,
     // none where no pivot was searched
     pub judge: Option<Judge>,
 }
@@ -29,6 +31,7 @@ impl Expected {
             number,
             after: vec![After::Held; call.slices.len()],
             told,
+            noted: Vec::new(),
             judge: None,
         }
     }
@@ -49,7 +52,7 @@ impl Expected {
     // of an answer that the Rust gives
     pub fn noting(mut self, difference: Difference) -> Self {
         if matches!(self.told, Told::ByReference) {
-            self.told = Told::Differs(difference, Manner::Accepts);
+            self.noted.push(difference);
         }
         self
     }

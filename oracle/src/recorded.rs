@@ -64,7 +64,7 @@ pub fn plain(mut call: Call) -> Call {
 
 // The bytes of a case, where the Rust or the model of elimination gives the answer.
 pub fn case(call: &Call, e: &Expected) -> Option<Vec<u8>> {
-    if !matches!(e.told, Told::ByReference | Told::Differs(Difference::LoadTransfer, _)) {
+    if !matches!(e.told, Told::ByReference) || e.noted.contains(&Difference::ReiSum) {
         return None;
     }
     let mut head = vec![call.function as u64 + 1, e.number as u64];

@@ -87,6 +87,28 @@ fn equal_pivots(visit: &mut dyn FnMut(Call)) {
     }
 }
 
+// the inputs by which docs/DIFFERENCES.md shows the sign of the currents
+fn currents(visit: &mut dyn FnMut(Call)) {
+    let study = |y: [f64; 8], base, p, q| Study {
+        n: 2,
+        y: y.to_vec(),
+        internal: vec![],
+        external: vec![1],
+        boundary: vec![0],
+        base,
+        p: vec![p],
+        q: vec![q],
+        v: vec![1.25],
+    };
+    for study in [
+        study([1.0, 0.0, -1.0, 0.0, -1.0, 0.0, 1.0, 1.0], 1.0, 0.0, 1.0),
+        study([1.0, 0.0, -1.0, 0.0, -1.0, 0.0, 2.0, 0.0], 100.0, 50.0, 0.0),
+    ] {
+        visit(ward_compute::of(&study));
+        visit(ward_compute_extended::of(&study));
+    }
+}
+
 fn branches(visit: &mut dyn FnMut(Call)) {
     let reactances = [0.1, -0.0, 1e-12, 9.999999999999999e-13, f64::NAN, f64::INFINITY];
     for ends in 0..81 {
@@ -120,6 +142,7 @@ pub fn every(visit: &mut dyn FnMut(Call)) {
         on_matrix(2, &[y[0], 0.0, y[1], -0.0, y[2], 0.0, y[3], 0.0], visit)
     });
     equal_pivots(visit);
+    currents(visit);
     branches(visit);
 }
 

@@ -39,6 +39,9 @@ impl Tally {
             Told::Differs(difference, manner) => *self.differences.entry((*difference, *manner)).or_default() += 1,
             Told::Wrong(why) => return self.fail(call, why),
         }
+        for difference in &e.noted {
+            *self.differences.entry((*difference, Manner::Accepts)).or_default() += 1;
+        }
         if let Some(judge) = e.judge {
             *self.judges.entry((call.function, judge)).or_default() += 1;
         }
@@ -98,6 +101,11 @@ impl Tally {
     pub fn by_model(&self) -> usize {
         let by_model = self.judges.iter().filter(|entry| entry.0 .1 != Judge::Rust);
         by_model.map(|entry| entry.1).sum()
+    }
+
+    // no answer showed this difference
+    pub fn lacks(&self, difference: Difference) -> bool {
+        !self.differences.contains_key(&(difference, Manner::Accepts))
     }
 
     // a function of which the Rust gave no answer, or the model none unlike the Rust's

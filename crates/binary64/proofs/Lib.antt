@@ -1,4 +1,5 @@
 pub mod Floats
+pub mod Signs
 pub mod Order
 pub mod WholeRoots
 pub mod RootSteps

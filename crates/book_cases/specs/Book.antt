@@ -95,7 +95,7 @@ abbrev pub case9 : Row
 case9 =
     row 9
     (study (studyOf 2 M [] (1 ∷ []) (0 ∷ []) +100 (+50 ∷ []) (+0 ∷ [])) (roomOf (ones 2) (ones 1) (ones 1) (ones 6)))
-    (seen 0 (2 ∷ 1 ∷ []) (1/2 ∷ []) (reals (1/2 ∷ []) ∷ (+25 ∷ []) ∷ (-0 ∷ []) ∷ cleared 6 ∷ []))
+    (seen 0 (2 ∷ 1 ∷ []) (1/2 ∷ []) (reals (1/2 ∷ []) ∷ (+25 ∷ []) ∷ (+0 ∷ []) ∷ cleared 6 ∷ []))
 
 -- M, boundary 0, no external bus: matrix 1, no injection, ratio 0
 abbrev pub case10 : Row
@@ -114,7 +114,7 @@ case11 =
       v-ext = 5/4 ∷ [];
     })
     (record { room = roomOf (ones 2) (ones 1) (ones 1) (ones 6); correction = ones 1; compensation = ones 1 }))
-    (seen 0 (2 ∷ 1 ∷ []) (1/2 ∷ []) ((3/2 ∷ -2 ∷ []) ∷ (-0 ∷ []) ∷ (-0 ∷ []) ∷ (1/4 ∷ []) ∷ (-100 ∷ []) ∷ cleared 6 ∷ []))
+    (seen 0 (2 ∷ 1 ∷ []) (1/2 ∷ []) ((3/2 ∷ -2 ∷ []) ∷ (-0 ∷ []) ∷ (+0 ∷ []) ∷ (1/4 ∷ []) ∷ (-100 ∷ []) ∷ cleared 6 ∷ []))
 
 -- 1, 1 / -1, 1 with right side 2, 0: the solution is 1, 1
 abbrev pub case12 : Row

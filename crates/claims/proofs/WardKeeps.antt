@@ -128,7 +128,7 @@ module _ (S : Study) (s : Sound S) (f64s : F64s (S .given)) (given : T (allFinit
           let fp : T (finite (injectedP (S .base) (transferred S i))) = rw q at (all-at (injectionP S i ∷ injectionQ S i ∷ []) 0 (omega arith) ends) in
           let fq : T (finite (injectedQ (S .base) (transferred S i))) = rw q at (all-at (injectionP S i ∷ injectionQ S i ∷ []) 1 (omega arith) ends) in (
             zero-times binary64 (neg (transferred S i .re)) (S .base) (F.neg-zero (transferred S i .re) (null .0)) fp,
-            zero-times binary64 (neg (transferred S i .im)) (S .base) (F.neg-zero (transferred S i .im) (null .1)) fq,
+            zero-times binary64 (transferred S i .im) (S .base) (null .1) fq,
           )
 
 -- ---- the whole row

@@ -1,1 +1,2 @@
 pub mod WardPlaces
+pub mod WardSigns

@@ -11,13 +11,13 @@ unfolding plus0
 sumUp zero f = record { re = plus0; im = plus0 }
 sumUp (suc n) f = cadd (sumUp n f) (f n)
 
--- the current of P and Q at an external bus, per unit
+-- the current of P and Q at an external bus at unit voltage, per unit: that of P + jQ is P - jQ
 unfoldable pub current : Float → Float → Float → Complex
-current base p q = record { re = p ⊘ base; im = q ⊘ base }
+current base p q = record { re = p ⊘ base; im = neg q ⊘ base }
 
 -- what a boundary bus gets, in MW and in MVAr, for the current that the external part draws through it
 unfoldable pub injectedP : Float → Complex → Float
 injectedP base i = neg (i .re) ⊗ base
 
 unfoldable pub injectedQ : Float → Complex → Float
-injectedQ base i = neg (i .im) ⊗ base
+injectedQ base i = i .im ⊗ base

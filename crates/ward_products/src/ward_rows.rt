@@ -76,7 +76,7 @@ pub fn fill(
     while k < e {
         let c = Complex {
             re: p[k] / base,
-            im: q[k] / base,
+            im: -q[k] / base,
         };
         fill_at(y, n, buses, e, k, c, work);
         k += 1;
@@ -275,7 +275,7 @@ pub fn injections(
     while t < boundary.len() {
         let i = row_times(y, n, boundary[t], outer, work, w, c);
         active[t] = -i.re * base;
-        reactive[t] = -i.im * base;
+        reactive[t] = i.im * base;
         t += 1;
     }
 }

@@ -4,7 +4,7 @@ use crate::call::Call;
 use crate::matrices::matrix;
 use crate::numbers::{kind, real, reals, Kind};
 use crate::source::Source;
-use crate::words::{bytes_of, bytes_of_reals, rows_of, wholes_of, word, words_of_wholes, Rows};
+use crate::words::{bytes_of, bytes_of_reals, reals_of, rows_of, wholes_of, word, words_of_wholes, Rows};
 use reference::reduction::{WardEquivalent, WardEquivalentConfig, WardEquivalentResult};
 
 pub const Y: usize = 0;
@@ -102,6 +102,30 @@ pub fn study_of(call: &Call, y: Rows, include_load_transfer: bool) -> WardEquiva
         base_mva: call.reals[0],
     };
     WardEquivalent::new(call.size(), y, config)
+}
+
+fn negated(xs: &[f64]) -> Vec<f64> {
+    xs.iter().map(|x| -x).collect()
+}
+
+// Q as given, and as the Rust is asked: a current is P - jQ by document 02 (P3), and the Rust's is P + jQ
+pub fn own_q(call: &Call) -> Vec<f64> {
+    reals_of(&call.slices[Q_EXT])
+}
+
+pub fn turned_q(call: &Call) -> Vec<f64> {
+    negated(&own_q(call))
+}
+
+// the Rust's answer to Q turned, its own Q turned back; with no external bus no current is turned
+pub fn turned_back(call: &Call, w: WardEquivalentResult) -> WardEquivalentResult {
+    match call.count(EXTERNAL) {
+        0 => w,
+        _ => WardEquivalentResult {
+            q_ward_injections: negated(&w.q_ward_injections),
+            ..w
+        },
+    }
 }
 
 // original size, equivalent size, ratio

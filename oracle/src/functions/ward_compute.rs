@@ -7,7 +7,7 @@ use crate::differences::Difference;
 use crate::expected::{self, faults, Expected};
 use crate::pivots::Judge;
 use crate::source::Source;
-use crate::words::{words_of_reals, words_of_rows};
+use crate::words::{reals_of, words_of_reals, words_of_rows};
 use reference::reduction::WardEquivalentResult;
 
 pub const AT: Places = Places {
@@ -30,11 +30,10 @@ pub fn of(s: &Study) -> Call {
     }
 }
 
-fn asked(call: &Call, include_load_transfer: bool) -> Asked<WardEquivalentResult> {
-    let list = |i: usize| crate::words::reals_of(&call.slices[i]);
+fn asked(call: &Call, include_load_transfer: bool, q: &[f64]) -> Asked<WardEquivalentResult> {
     match ward::study(call, include_load_transfer) {
         None => Asked::NotAsked,
-        Some(w) => ask(|| w.compute(&list(ward::P_EXT), &list(ward::Q_EXT))),
+        Some(w) => ask(|| w.compute(&reals_of(&call.slices[ward::P_EXT]), q)),
     }
 }
 
@@ -47,8 +46,9 @@ fn written(e: Expected, w: &WardEquivalentResult) -> Expected {
 
 pub fn expected(call: &Call) -> Expected {
     let refusals = faults(&ward::refusals(call, &AT));
+    let turned = ward::turned_q(call);
     let with = |include_load_transfer| {
-        let asked = asked(call, include_load_transfer);
+        let asked = asked(call, include_load_transfer, &turned).map(|w| ward::turned_back(call, w));
         expected::by_pivots(
             call,
             &refusals,
@@ -70,9 +70,17 @@ pub fn expected(call: &Call) -> Expected {
     if !again.same(&e) {
         return e.failing("include_load_transfer changes the Rust's answer");
     }
-    match e.judge {
-        Some(Judge::Model { .. }) => e,
-        _ => e.noting(Difference::LoadTransfer),
+    if matches!(e.judge, Some(Judge::Model { .. })) {
+        return e;
+    }
+    let own = asked(call, true, &ward::own_q(call));
+    let own = expected::expected(call, &refusals, own, Some(AT.work), |e, w| written(e, &w));
+    let unlike = !own.same(&e);
+    let e = e.noting(Difference::LoadTransfer);
+    if unlike {
+        e.noting(Difference::Currents)
+    } else {
+        e
     }
 }
 

@@ -7,6 +7,7 @@ use crate::call::{dirty, Call, Function};
 use crate::expected::{self, faults, Expected};
 use crate::source::Source;
 use crate::words::{bytes_of_reals, reals_of, words_of_reals, words_of_rows};
+use reference::reduction::ExtendedWardEquivalentResult;
 
 const V_EXT: usize = 6;
 const CORRECTION: usize = 10;
@@ -41,8 +42,13 @@ pub fn expected(call: &Call) -> Expected {
     let list = |i: usize| reals_of(&call.slices[i]);
     let asked = match ward::study(call, true) {
         None => Asked::NotAsked,
-        Some(w) => ask(|| w.compute_extended(&list(ward::P_EXT), &list(ward::Q_EXT), &list(V_EXT))),
+        Some(w) => ask(|| w.compute_extended(&list(ward::P_EXT), &ward::turned_q(call), &list(V_EXT))),
     };
+    // the extended form's own Q is as in the Rust
+    let asked = asked.map(|x| ExtendedWardEquivalentResult {
+        ward_result: ward::turned_back(call, x.ward_result),
+        ..x
+    });
     let model = || ward_model::extended(call, &list(V_EXT));
     expected::by_pivots(call, &faults(&all), asked, model, AT.work, |e, x| {
         e.words(AT.y_ward, words_of_rows(&x.ward_result.y_ward))

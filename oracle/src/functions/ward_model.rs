@@ -22,7 +22,7 @@ pub fn study(call: &Call) -> Option<Model<WardEquivalentResult>> {
     let (p, q) = (reals_of(&call.slices[P_EXT]), reals_of(&call.slices[Q_EXT]));
     let mut sides = part(&retained);
     for (k, side) in sides.iter_mut().enumerate() {
-        side.push((p[k] / base, q[k] / base));
+        side.push((p[k] / base, -q[k] / base));
     }
     Some(Model::of(&part(&external), &sides, |x| {
         let sum = |bus: usize, column: usize| {
@@ -36,7 +36,7 @@ pub fn study(call: &Call) -> Option<Model<WardEquivalentResult>> {
                 .map(|&i| (0..r).map(|c| entry(i, c)).collect())
                 .collect(),
             p_ward_injections: boundary.iter().map(|&i| -sum(i, r).0 * base).collect(),
-            q_ward_injections: boundary.iter().map(|&i| -sum(i, r).1 * base).collect(),
+            q_ward_injections: boundary.iter().map(|&i| sum(i, r).1 * base).collect(),
             n_buses_reduced: n,
             n_buses_equivalent: r,
             reduction_ratio: 1.0 - r as f64 / n as f64,
