@@ -99,7 +99,8 @@ uint32_t jeturipe_thevenin_impedance(
     uint8_t *work, size_t work_len,
     uint8_t *z, size_t z_len);
 
-/* summary: original size, equivalent size, ratio. Injections in MW and MVAr, base in MVA. */
+/* summary: original size, equivalent size, ratio. Injections in MW and MVAr, base in MVA: at unit voltage the current of
+ * P + jQ is P - jQ, both for p_ext and q_ext and for p_ward and q_ward. */
 uint32_t jeturipe_ward_compute(
     size_t n,
     const uint8_t *y, size_t y_len,

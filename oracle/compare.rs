@@ -74,5 +74,6 @@ fn main() {
     if alike {
         println!("oracle: no study shows that the Rust's currents are of P + jQ");
     }
-    std::process::exit(if failed == 0 && unjudged.is_none() && !alike { 0 } else { 1 });
+    let passed = failed == 0 && unjudged.is_none() && !alike;
+    std::process::exit(if passed { 0 } else { 1 });
 }

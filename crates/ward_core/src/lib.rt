@@ -11,7 +11,8 @@ pub mod ward_corrections;
 pub mod ward_lengths;
 
 // Ward's equivalent of the n buses of y for the internal and boundary buses, in this order: its matrix in y_ward, and what each boundary
-// bus gets, in MW and MVAr, in p_ward and q_ward. p_ext and q_ext are the injections at the external buses, in MW and MVAr, base_mva in MVA.
+// bus gets, in MW and MVAr, in p_ward and q_ward. p_ext and q_ext are the injections at the external buses, in MW and MVAr, base_mva in MVA;
+// at unit voltage the current of P + jQ is P - jQ.
 // Buses are numbered from 0. Refused: 1, 2, 3, 7, 8 from the input, 13 where a pivot is too small; then no output is written.
 // The work slice has 2 e (e + r + 1) numbers for e external and r retained buses, all +0 after acceptance or 13.
 pub fn compute(
