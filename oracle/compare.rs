@@ -72,7 +72,7 @@ fn main() {
     }
     let alike = tally.lacks(Difference::Currents);
     if alike {
-        println!("oracle: no study shows that the Rust's currents are of P + jQ");
+        println!("oracle: no study shows that the Rust's currents are (P + jQ)/base");
     }
     let passed = failed == 0 && unjudged.is_none() && !alike;
     std::process::exit(if passed { 0 } else { 1 });

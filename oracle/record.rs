@@ -14,7 +14,7 @@ use Function::*;
 // a file, and for each function in it: how many small cases, and the larger sizes
 type Wanted<'a> = &'a [(Function, usize, &'a [usize])];
 
-// the file of the answers that the model gives; in the others the Rust gives all
+// the file of the answers that the model gives; in the others the Rust gives all, Ward's with Q turned
 const BY_MODEL: &str = "tied.bin";
 
 fn small_size(s: &mut Source, at: usize) -> usize {

@@ -12,7 +12,7 @@ pub enum Difference {
     ReiSum,
     // the Rust's field include_load_transfer, either way, changes nothing
     LoadTransfer,
-    // the Rust's own currents are of P + jQ
+    // the Rust's own currents are (P + jQ)/base
     Currents,
 }
 

@@ -44,7 +44,7 @@ round-neg : (f : Format) (s : Bool) (a c : ℕ) → round f (not s) a c ≡ neg 
 unfolding round
 round-neg f s a c = units-neg f s _ _
 
--- the sign of a product, turned with its left one's
+-- the sign of a product is turned with its left operand's
 turned : (f : Format) (s t : Bool) (a c : ℕ) → round f (unlike (not s) t) a c ≡ neg (round f (unlike s t) a c)
 turned f s t a c = rw (unlike-not s t) (round-neg f (unlike s t) a c)
 

@@ -15,7 +15,8 @@ sumUp (suc n) f = cadd (sumUp n f) (f n)
 unfoldable pub current : Float → Float → Float → Complex
 current base p q = record { re = p ⊘ base; im = neg q ⊘ base }
 
--- what a boundary bus gets, in MW and in MVAr, for the current that the external part draws through it
+-- what a boundary bus gets, in MW and in MVAr, for the current i that the external part draws through it: the power of -i, which at unit voltage is
+-- its conjugate, (-re, +im)
 unfoldable pub injectedP : Float → Complex → Float
 injectedP base i = neg (i .re) ⊗ base
 

@@ -108,7 +108,7 @@ fn negated(xs: &[f64]) -> Vec<f64> {
     xs.iter().map(|x| -x).collect()
 }
 
-// Q as given, and as the Rust is asked: a current is P - jQ by document 02 (P3), and the Rust's is P + jQ
+// Q as given, and as the Rust is asked: a current is (P - jQ)/base by document 02 (P3), and the Rust's is (P + jQ)/base
 pub fn own_q(call: &Call) -> Vec<f64> {
     reals_of(&call.slices[Q_EXT])
 }

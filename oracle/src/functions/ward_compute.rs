@@ -75,6 +75,9 @@ pub fn expected(call: &Call) -> Expected {
     }
     let own = asked(call, true, &ward::own_q(call));
     let own = expected::expected(call, &refusals, own, Some(AT.work), |e, w| written(e, &w));
+    if own.is_wrong() {
+        return own;
+    }
     let unlike = !own.same(&e);
     let e = e.noting(Difference::LoadTransfer);
     if unlike {
