@@ -78,12 +78,11 @@ pub fn expected(call: &Call) -> Expected {
     if own.is_wrong() {
         return own;
     }
-    let unlike = !own.same(&e);
     let e = e.noting(Difference::LoadTransfer);
-    if unlike {
-        e.noting(Difference::Currents)
-    } else {
+    if own.same(&e) {
         e
+    } else {
+        e.noting(Difference::Currents)
     }
 }
 
