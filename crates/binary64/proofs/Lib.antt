@@ -2,6 +2,9 @@ pub mod Floats
 pub mod Signs
 pub mod Order
 pub mod WholeRoots
-pub mod RootSteps
+pub mod RootSpecial
+pub mod RootDigits
+pub mod RootRounding
 pub mod RootMiddles
 pub mod RootNearest
+mod RootCases

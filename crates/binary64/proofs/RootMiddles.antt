@@ -1,4 +1,4 @@
--- On whole numbers: of the root of M and multiples of t, where nothing lies strictly between q t and (q + 1) t, the one that `rounded` picks is
+-- On whole numbers: of the root of M = q * q + r and multiples of t, where nothing lies strictly between q t and (q + 1) t, the one that `nearestWhole` picks is
 -- on the root's side of every middle.
 -- Assumes nothing.
 use mathlib.Core.Path.{_≡_, refl, sym}
@@ -9,8 +9,7 @@ use native.Mathlib.Nat.{mul-pos, mul-le-mul, mul-le-mul-left, mul-le-mul-right, 
 use native.Mathlib.Omega.{arith}
 use lib.Dec.{ltb}
 use borrow.Author.Tests.{ltb-true, ltb-false}
-use Rattle.binary64.specs.Root.{square, rounded}
-use Rattle.binary64.specs.RootSteps.{WholeRoot}
+use Rattle.binary64.specs.Root.{square, nearestWhole}
 
 square-lt : (a b : ℕ) → a < b → a * a < b * b
 square-lt a b h = lt-of-le-of-lt (mul-le-mul-left a (le-of-lt h)) (mul-lt-mul-of-pos-right h (omega arith))
@@ -45,7 +44,10 @@ upper : (q t y : ℕ) → Apart q t y → q * t < y → (q + 1) * t ≤ y
 upper q t y (inl h) l = absurd (not-le-of-lt l h)
 upper q t y (inr h) l = h
 
-module _ (M q r t y : ℕ) (w : WholeRoot M q r) (p : 0 < t) (apart : Apart q t y) where
+module _ (q r t y : ℕ) (small : r ≤ 2 * q) (p : 0 < t) (apart : Apart q t y) where
+  abbrev M : ℕ
+  M = square q + r
+
   below : (b : Bool) → (b ≡ true → q < r) → (b ≡ false → r ≤ q) → y < cond b (q + 1) q * t → square (y + cond b (q + 1) q * t) < 4 * M * square t
   below false up down h = less M (2 * q) t (y + q * t) (omega arith) (omega arith)
   below true up down h =
@@ -60,8 +62,8 @@ module _ (M q r t y : ℕ) (w : WholeRoot M q r) (p : 0 < t) (apart : Apart q t 
       more-even M (2 * q + 1) t (y + q * t) (omega arith) p (omega arith)
   above true up down h = more M (2 * q + 2) t (y + (q + 1) * t) (omega arith) (omega arith)
 
-  pub below-middle : y < rounded q r * t → square (y + rounded q r * t) < 4 * M * square t
+  pub below-middle : y < nearestWhole q r * t → square (y + nearestWhole q r * t) < 4 * M * square t
   below-middle = below (ltb q r) (ltb-true q r) (ltb-false q r)
 
-  pub above-middle : rounded q r * t < y → 4 * M * square t < square (y + rounded q r * t)
+  pub above-middle : nearestWhole q r * t < y → 4 * M * square t < square (y + nearestWhole q r * t)
   above-middle = above (ltb q r) (ltb-true q r) (ltb-false q r)

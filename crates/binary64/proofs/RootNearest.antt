@@ -1,6 +1,7 @@
--- The root is the binary64 nearest the exact root, and nothing else is: `root-is` and `root-only`.
+-- The root is the binary64 nearest the exact root, and nothing else is: `root-is` and `root-only`. It follows from what the three steps promise:
+-- `root-of-steps`.
 -- Assumes nothing.
-use mathlib.Core.Path.{_≡_, refl, sym, ap, ap₂, subst, _∙_}
+use mathlib.Core.Path.{_≡_, refl, sym, ap, subst, _∙_}
 use mathlib.Core.Logic.{inl, inr}
 use mathlib.Core.Bool.{true, false}
 use Prim.Native.Nat.{ℕ, zero, suc, _+_, _-_, _*_, _^_, _≤_, _<_, zero-le}
@@ -12,13 +13,14 @@ use lib.Dec.{T, ltb→lt, lt→ltb}
 use lib.Pow.{pow-add, pow-pos, pow-mono}
 use lib.Ieee.{Float, nan, inf, fin, binary64, up, down, fits, lt}
 use lib.Ieee.Fits.{down-pos}
-use lib.Ieee.Exact.{HasValue, odd-sign}
 use lib.Ieee.Positive.{num, den, positive, den-pos, value→cross, positive-of-value}
-use Rattle.binary64.specs.Root.{square, NearestRoot, Root, wholeRoot, count, half, radicand, rounded, nearestTo, movedBack, rootOf, root}
-use Rattle.binary64.specs.RootSteps.{WholeRoot, Scaled}
-use Rattle.binary64.proofs.WholeRoots.{same-root, whole-root, root-below, root-above}
+use Rattle.binary64.specs.Root.{square, middleBelow, middleAbove, NearestRoot, Root, Rooted, Steps, taken, rooted, wholeRoot, count, half, radicand, nearestWhole, movedBack, rootOf, root}
+use Rattle.binary64.specs.RootDigits.{WholeRoot}
+use Rattle.binary64.proofs.WholeRoots.{whole-root}
+use Rattle.binary64.proofs.RootSpecial.{special-is, ordinary-is}
+use Rattle.binary64.proofs.RootDigits.{moved, digits, counted, four-is, radicand-is, rooted-of}
+use Rattle.binary64.proofs.RootRounding.{moved-value, moved-fits, nearest-le}
 use Rattle.binary64.proofs.RootMiddles.{Apart, below-middle, above-middle}
-use Rattle.binary64.proofs.RootSteps.{moved, digits, count-exact, four-is, radicand-is, moved-fits, rounded-le}
 use Rattle.binary64.proofs.Floats.{one-way}
 
 -- ---- binary64 has nothing between q and q + 1 times 2 ^ k, for a q of 53 digits or more
@@ -81,51 +83,7 @@ in-units-less y d c k v Q u p r l = omega (arith, mul-lt-mul-of-pos-right l p, a
 in-units-more : (y d c k v Q u : ℕ) → 0 < v → c * v ≡ Q * u * d → c * k < y * d → Q * (u * k) * d < y * v * d
 in-units-more y d c k v Q u p r l = omega (arith, mul-lt-mul-of-pos-right l p, ap (λ (z : ℕ). z * k) r)
 
--- ---- the root of a number above zero
-
--- r has the value Q 2 ^ (H + 484) / 2 ^ 1074, and x is M 4 ^ H / 4 ^ 590, for the whole root q of M with remainder s
-module _ (a b : ℕ) (some : 0 < b) (n M H q s : ℕ) (counted : a * 2 ^ 1074 ≡ n * b) (lossless : n * 4 ^ 53 ≡ M * 4 ^ H) (w : WholeRoot M q s) (least : 2 ^ 52 ≤ q) where
-  abbrev u : ℕ
-  u = 2 ^ (H + 484)
-
-  units : u * u ≡ 4 ^ H * 2 ^ 968
-  units = rw (pow-add, four-is) (mul-mul-mul-comm (2 ^ H) (2 ^ 484) (2 ^ H) (2 ^ 484))
-
-  value : a * (2 ^ 1074 * 2 ^ 1074) ≡ M * (u * u) * b
-  value = scale a b n M (4 ^ H) (4 ^ 53) (2 ^ 968) (2 ^ 1074) (u * u) counted lossless refl (sym units)
-    where
-      scale : (a b n M f g c v z : ℕ) → a * v ≡ n * b → n * g ≡ M * f → v ≡ g * c → f * c ≡ z → a * (v * v) ≡ M * z * b
-      scale a b n M f g c v z e l p t =
-          omega (arith, ap (λ (y : ℕ). y * v) e, ap (λ (y : ℕ). n * b * y) p, ap (λ (y : ℕ). y * (b * c)) l, ap (λ (y : ℕ). M * b * y) t)
-
-  module _ (c d : ℕ) (positive : 0 < d) (r : c * 2 ^ 1074 ≡ rounded q s * u * d) (m : ℕ) (e : ℤ) (h : T (fits binary64 (fin false m e))) where
-    abbrev k : ℕ
-    k = down e
-
-    abbrev y : ℕ
-    y = m * up e
-
-    some-unit : 0 < u * k
-    some-unit = mul-pos (pow-pos (H + 484)) (down-pos e)
-
-    -- r and y in units of u / v
-    less-unit : y * d < c * k → y * 2 ^ 1074 < rounded q s * (u * k)
-    less-unit l = lt-of-mul-lt-mul-right d (in-units-less y d c k (2 ^ 1074) (rounded q s) u (pow-pos 1074) r l)
-
-    more-unit : c * k < y * d → rounded q s * (u * k) < y * 2 ^ 1074
-    more-unit l = lt-of-mul-lt-mul-right d (in-units-more y d c k (2 ^ 1074) (rounded q s) u (pow-pos 1074) r l)
-
-    nearest-below : y * d < c * k → square (y * d + c * k) * b < 4 * square (k * d) * a
-    nearest-below l =
-        fraction-below a b c d y k M (rounded q s) u (2 ^ 1074) value r (mul-pos (mul-pos positive positive) some)
-        (below-middle M q s (u * k) (y * 2 ^ 1074) w some-unit (apart m e h q (H + 484) least) (less-unit l))
-
-    nearest-above : c * k < y * d → 4 * square (k * d) * a < square (y * d + c * k) * b
-    nearest-above l =
-        fraction-above a b c d y k M (rounded q s) u (2 ^ 1074) value r (mul-pos (mul-pos positive positive) some)
-        (above-middle M q s (u * k) (y * 2 ^ 1074) w some-unit (apart m e h q (H + 484) least) (more-unit l))
-
--- ---- `root` is it
+-- ---- the order of fractions
 
 below→cross : (m : ℕ) (e : ℤ) (r : Float) → T (positive r) → T (lt (fin false m e) r) → m * up e * den r < num r * down e
 unfolding lt
@@ -141,44 +99,105 @@ above→cross m e (inf s) p t = absurd p
 above→cross m e (fin true n d) p t = absurd p
 above→cross m e (fin false n d) p t = ltb→lt (n * up d * down e) (m * up e * down d) t
 
-moved-value : (q h : ℕ) → HasValue (movedBack q h) false (q * 2 ^ (h + 484)) (2 ^ 1074)
-unfolding movedBack
-moved-value q h = odd-sign 54 false q (h + 484) 1074
+-- ---- what the second and the third step promise is nearest the root
 
-root-nearest : (m : ℕ) (e : ℤ) → T (fits binary64 (fin false (suc m) e)) → NearestRoot (fin false (suc m) e) (root (fin false (suc m) e))
-unfolding root rootOf
-root-nearest m e h =
-    let x = fin false (suc m) e in
+module _ (x : Float) (q s h : ℕ) (w : Rooted x q s h) where
+  -- x is M (u / v)² and r is Q u / v, for v = 2 ^ 1074
+  abbrev M : ℕ
+  M = square q + s
+
+  abbrev Q : ℕ
+  Q = nearestWhole q s
+
+  abbrev u : ℕ
+  u = 2 ^ (h + 484)
+
+  abbrev r : Float
+  r = movedBack Q h
+
+  units : u * u ≡ 4 ^ h * 2 ^ 968
+  units = rw (pow-add, four-is) (mul-mul-mul-comm (2 ^ h) (2 ^ 484) (2 ^ h) (2 ^ 484))
+
+  value : num x * (2 ^ 1074 * 2 ^ 1074) ≡ M * (u * u) * den x
+  value = scale (num x) (den x) M (4 ^ h) (4 ^ 590) (2 ^ 968) (2 ^ 1074 * 2 ^ 1074) (u * u) (w .exact) refl (sym units)
+    where
+      scale : (a b M f g c v z : ℕ) → a * g ≡ M * f * b → v ≡ g * c → f * c ≡ z → a * v ≡ M * z * b
+      scale a b M f g c v z e p t = omega (arith, ap (λ (y : ℕ). y * c) e, ap (λ (y : ℕ). a * y) p, ap (λ (y : ℕ). M * b * y) t)
+
+  cross : num r * 2 ^ 1074 ≡ Q * u * den r
+  cross = value→cross r (Q * u) (2 ^ 1074) (moved-value Q h)
+
+  some : 0 < den r * den r * den x
+  some = mul-pos (mul-pos (den-pos r) (den-pos r)) (den-pos x)
+
+  module _ (m : ℕ) (e : ℤ) (f : T (fits binary64 (fin false m e))) where
+    abbrev k : ℕ
+    k = down e
+
+    abbrev y : ℕ
+    y = m * up e
+
+    some-unit : 0 < u * k
+    some-unit = mul-pos (pow-pos (h + 484)) (down-pos e)
+
+    -- r and y in units of u / v
+    less-unit : y * den r < num r * k → y * 2 ^ 1074 < Q * (u * k)
+    less-unit l = lt-of-mul-lt-mul-right (den r) (in-units-less y (den r) (num r) k (2 ^ 1074) Q u (pow-pos 1074) cross l)
+
+    more-unit : num r * k < y * den r → Q * (u * k) < y * 2 ^ 1074
+    more-unit l = lt-of-mul-lt-mul-right (den r) (in-units-more y (den r) (num r) k (2 ^ 1074) Q u (pow-pos 1074) cross l)
+
+    nearest-below : y * den r < num r * k → middleBelow x (fin false m e) r
+    nearest-below l =
+        fraction-below (num x) (den x) (num r) (den r) y k M Q u (2 ^ 1074) value cross some
+        (below-middle q s (u * k) (y * 2 ^ 1074) (w .rest) some-unit (apart m e f q (h + 484) (w .least)) (less-unit l))
+
+    nearest-above : num r * k < y * den r → middleAbove x (fin false m e) r
+    nearest-above l =
+        fraction-above (num x) (den x) (num r) (den r) y k M Q u (2 ^ 1074) value cross some
+        (above-middle q s (u * k) (y * 2 ^ 1074) (w .rest) some-unit (apart m e f q (h + 484) (w .least)) (more-unit l))
+
+  rooted-nearest : NearestRoot x r
+  rooted-nearest =
+      let (ge, le) = nearest-le q s in
+      let least = w .least in
+      let most = w .most in
+      let p : T (positive r) = positive-of-value r (Q * u) (2 ^ 1074) (moved-value Q h) (mul-pos (omega arith) (pow-pos (h + 484))) in
+      record {
+        held = moved-fits Q h (omega arith) (w .few);
+        above = p;
+        over = λ m e f l. nearest-below m e f (below→cross m e r p l);
+        under = λ m e f l. nearest-above m e f (above→cross m e r p l);
+      }
+
+-- what the three steps promise is what is asked for
+steps-are : (x r : Float) → Steps x r → Root x r
+steps-are x r (taken e) = special-is x r e
+steps-are x r (rooted e q s h w p) = ordinary-is x r e (subst (NearestRoot x) (sym p) (rooted-nearest x q s h w))
+
+-- ---- `root` keeps the steps' promises
+
+root-rooted : (x : Float) → T (positive x) → T (fits binary64 x)
+    → Rooted x (wholeRoot 53 (radicand (count x))) (radicand (count x) - square (wholeRoot 53 (radicand (count x)))) (half (count x))
+root-rooted x p f =
     let n = count x in
     let M = radicand n in
-    let H = half n in
     let q = wholeRoot 53 M in
-    let s = M - square q in
-    let Q = rounded q s in
-    let r = movedBack Q H in
-    let R = radicand-is n _ _ (digits x (lt→ltb 0 (suc m) (zero-lt-suc m)) h) in
-    let w : WholeRoot M q s = whole-root 53 M (R .most) in
-    let least : 2 ^ 52 ≤ q = root-above M q s (2 ^ 52) w (R .least) in
-    let most : q < 2 ^ 53 = root-below M q s (2 ^ 53) w (R .most) in
-    let (ge, le) = rounded-le q s in
-    let v = moved-value Q H in
-    let p : T (positive r) = positive-of-value r (Q * 2 ^ (H + 484)) (2 ^ 1074) v (mul-pos (omega arith) (pow-pos (H + 484))) in
-    let c = value→cross r (Q * 2 ^ (H + 484)) (2 ^ 1074) v in
-    record {
-      held = moved-fits Q H (omega arith) (R .halves);
-      above = p;
-      over = λ k d f l. nearest-below (suc m * up e) (down e) (down-pos e) n M H q s (count-exact false m e h) (R .lossless) w least (num r) (den r) (den-pos r) c k d f (below→cross k d r p l);
-      under = λ k d f l. nearest-above (suc m * up e) (down e) (down-pos e) n M H q s (count-exact false m e h) (R .lossless) w least (num r) (den r) (den-pos r) c k d f (above→cross k d r p l);
-    }
+    let (z, e, s) = radicand-is n _ _ (digits x p f) in
+    let few = s .few in
+    rooted-of x n z (half n) q (M - square q) (counted x p f) s (subst (λ (y : ℕ). WholeRoot y q (M - square q)) e (whole-root 53 M (omega arith)))
+
+root-steps : (x : Float) → T (fits binary64 x) → Steps x (root x)
+unfolding root rootOf
+root-steps nan f = taken refl
+root-steps (inf true) f = taken refl
+root-steps (inf false) f = taken refl
+root-steps (fin s zero e) f = taken refl
+root-steps (fin true (suc m) e) f = taken refl
+root-steps (fin false (suc m) e) f = rooted refl _ _ _ (root-rooted (fin false (suc m) e) (lt→ltb 0 (suc m) (zero-lt-suc m)) f) refl
 
 pub root-is : (x : Float) → T (fits binary64 x) → Root x (root x)
-unfolding root
-root-is nan h = refl
-root-is (inf true) h = refl
-root-is (inf false) h = refl
-root-is (fin s zero e) h = refl
-root-is (fin true (suc m) e) h = refl
-root-is (fin false (suc m) e) h = root-nearest m e h
+root-is x f = steps-are x (root x) (root-steps x f)
 
 -- ---- and nothing else is
 
@@ -224,25 +243,7 @@ pub root-least : (x r : Float) (n : ℕ) (e : ℤ) → NearestRoot x r → T (fi
 root-least x r n e v f h l =
     not-le-of-lt (v .under n e f l) (middle-most (num x) (den x) (num r) (den r) (n * up e) (down e) h (le-of-lt (above→cross n e r (v .above) l)))
 
--- ---- and what the steps of the code come to
+-- ---- the root follows from what the three steps promise, and from nothing else
 
-picked : (M q r : ℕ) → M < 4 ^ 53 → WholeRoot M q r → rounded q r ≡ nearestTo M (wholeRoot 53 M)
-picked M q r h w =
-    let p = wholeRoot 53 M in
-    let same : q ≡ p = same-root M q r p (M - square p) w (whole-root 53 M h) in
-    let rest : r ≡ M - square q = omega arith in
-    ap₂ rounded same (rest ∙ ap (λ (x : ℕ). M - square x) same)
-
-root-of : (n m h q r : ℕ) → Scaled n m h → WholeRoot (m * 2 ^ 52) q r → movedBack (rounded q r) h ≡ rootOf n
-unfolding rootOf
-root-of n m h q r s w =
-    let few = s .few in
-    ap₂ movedBack (picked (m * 2 ^ 52) q r (omega arith) w ∙ ap (λ (M : ℕ). nearestTo M (wholeRoot 53 M)) (sym (s .scaled))) (sym (s .halved))
-
-pub root-of-steps : (x : Float) → T (positive x) → (m h q r : ℕ) → Scaled (count x) m h → WholeRoot (m * 2 ^ 52) q r → movedBack (rounded q r) h ≡ root x
-unfolding root
-root-of-steps nan p m h q r s w = absurd p
-root-of-steps (inf t) p m h q r s w = absurd p
-root-of-steps (fin true n e) p m h q r s w = absurd p
-root-of-steps (fin false zero e) p m h q r s w = absurd p
-root-of-steps (fin false (suc n) e) p m h q r s w = root-of (count (fin false (suc n) e)) m h q r s w
+pub root-of-steps : (x r : Float) → T (fits binary64 x) → Steps x r → (r ≡ root x) × Root x r
+root-of-steps x r f s = (root-only x r f (steps-are x r s), steps-are x r s)

@@ -8,7 +8,7 @@ use native.Mathlib.Omega.{arith}
 use lib.Dec.{leb}
 use borrow.Author.Tests.{leb-true, leb-false}
 use Rattle.binary64.specs.Root.{square, lastDigit, wholeRoot}
-use Rattle.binary64.specs.RootSteps.{WholeRoot}
+use Rattle.binary64.specs.RootDigits.{WholeRoot}
 
 -- ---- there is one
 

@@ -1,2 +1,2 @@
 pub mod Root
-pub mod RootSteps
+pub mod RootDigits

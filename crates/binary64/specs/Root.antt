@@ -1,12 +1,16 @@
--- The root of a binary64 number. What is asked for is `Root`: the binary64 nearest the exact root, said over whole numbers.
--- What computes it is `root`, in three steps: special operands, a whole root with its remainder, one rounding. It meets `Root` (proofs/RootNearest).
-use Prim.Native.Nat.{ℕ, zero, suc, _+_, _-_, _*_, _/_, _^_, _<_}
+-- The root of a binary64 number, IEEE 754-2019's squareRoot (5.4.1). What is asked for is `Root`: the binary64 nearest the exact root, said over
+-- whole numbers. What computes it is `root`, in three steps, each under its heading here and a function of src/steps.rt in the same order: special
+-- operands, the whole root and its remainder, one rounding. What the three promise is `Steps`, and from that alone follows, for x an f64, that the
+-- answer is `root x` and meets `Root` (proofs/RootNearest `root-of-steps`).
+use Prim.Native.Nat.{ℕ, zero, suc, _+_, _-_, _*_, _/_, _^_, _≤_, _<_}
 use mathlib.Core.Path.{_≡_}
 use mathlib.Core.Bool.{true, false, cond}
 use lib.Dec.{T, leb, ltb}
 use lib.IntN.{ℤ}
 use lib.Ieee.{Float, nan, inf, fin, binary64, size, odd, fits, lt}
 use lib.Ieee.Positive.{num, den, positive}
+use Rattle.binary64.specs.declared.steps.Operand.{Operand}
+use Rattle.binary64.specs.declared.steps.Operand.the-variants.{SpecialRoot, Ordinary}
 
 abbrev pub square : ℕ → ℕ
 square n = n * n
@@ -39,17 +43,32 @@ Root (fin s zero e) r = r ≡ fin s zero e
 Root (fin true (suc m) e) r = r ≡ nan
 Root (fin false (suc m) e) r = NearestRoot (fin false (suc m) e) r
 
--- ---- what computes it
+-- ---- first: special operands
 
--- the whole root of an n below 4 ^ k: twice that of n / 4, or one more
-abbrev pub lastDigit : ℕ → ℕ → ℕ
-lastDigit n q = cond (leb (square (q + 1)) n) (q + 1) q
+-- NaN of NaN (6.2), NaN of a number below zero, -inf too (7.2), inf of inf (6.1), and each zero of itself, -0 of -0 (6.3). There is one NaN here:
+-- its payload, whether it signals, and the flags of clause 7 are outside. Any other operand is an ordinary one, finite and above zero.
+abbrev pub special : Float → Operand
+special nan = SpecialRoot nan
+special (inf true) = SpecialRoot nan
+special (inf false) = SpecialRoot (inf false)
+special (fin s zero e) = SpecialRoot (fin s zero e)
+special (fin true (suc m) e) = SpecialRoot nan
+special (fin false (suc m) e) = Ordinary
 
-unfoldable pub wholeRoot : ℕ → ℕ → ℕ
-wholeRoot zero n = 0
-wholeRoot (suc k) n = lastDigit n (2 * wholeRoot k (n / 4))
+-- ---- second: the whole root and its remainder, which stand for the exact root (5.1)
 
--- how many times binary64's smallest value, 2 ^ -1074, x is. Its root is that number's, times 2 ^ -537.
+-- What the step promises of an ordinary x: it is (q * q + r) * 4 ^ (h - 590), exactly; r is at most 2 q, so that the square of q + 1 is more, q the
+-- whole root and r its remainder; q has 53 binary digits; h is at most 1049, since x is below 2 ^ 1024. No other q, r and h are such
+-- (proofs/RootDigits `rooted-only`).
+pub record Rooted (x : Float) (q r h : ℕ) : Type 0 where
+  pub exact : num x * 4 ^ 590 ≡ (square q + r) * 4 ^ h * den x
+  pub rest : r ≤ 2 * q
+  pub least : 2 ^ 52 ≤ q
+  pub most : q < 2 ^ 53
+  pub few : h ≤ 1049
+
+-- How `root` has them (that they are such is proofs/RootNearest `root-rooted`): first how many times binary64's smallest value, 2 ^ -1074, x is.
+-- Its root is that number's, times 2 ^ -537.
 abbrev pub count : Float → ℕ
 count x = num x * 2 ^ 1074 / den x
 
@@ -62,28 +81,46 @@ unfoldable pub radicand : ℕ → ℕ
 unfolding half
 radicand n = n * 4 ^ 53 / 4 ^ half n
 
--- the whole number nearest the root of q * q + r: the root lies above q + 1/2 where r is above q, and is never q + 1/2
-abbrev pub rounded : ℕ → ℕ → ℕ
-rounded q r = cond (ltb q r) (q + 1) q
+-- the whole root of an n below 4 ^ k: twice that of n / 4, or one more
+abbrev pub lastDigit : ℕ → ℕ → ℕ
+lastDigit n q = cond (leb (square (q + 1)) n) (q + 1) q
 
--- a whole number q of 53 digits moved back to the h digits of the root, and times 2 ^ -537: q * 2 ^ (h - 53) * 2 ^ 537 times the smallest value
+unfoldable pub wholeRoot : ℕ → ℕ → ℕ
+wholeRoot zero n = 0
+wholeRoot (suc k) n = lastDigit n (2 * wholeRoot k (n / 4))
+
+-- ---- third: one rounding, to nearest (4.3.1)
+
+-- The whole number N nearest the root of q * q + r, for r at most 2 q: the root lies above q + 1/2 where r is above q, and is never q + 1/2. So
+-- square (2 N - 1) < 4 (q * q + r) < square (2 N + 1) (proofs/RootRounding `nearest-whole`).
+abbrev pub nearestWhole : ℕ → ℕ → ℕ
+nearestWhole q r = cond (ltb q r) (q + 1) q
+
+-- N * 2 ^ (h - 590), the root of N * N * 4 ^ (h - 590): nothing is lost (`moved-value`), and it is a number of binary64 for N up to 2 ^ 53 and h up
+-- to 1049 (`moved-fits`)
 unfoldable pub movedBack : ℕ → ℕ → Float
-movedBack q h = odd 54 false q (h + 484) 1074
+movedBack N h = odd 54 false N (h + 484) 1074
 
--- the whole number nearest the root of n, for the whole root q of n
-abbrev pub nearestTo : ℕ → ℕ → ℕ
-nearestTo n q = rounded q (n - square q)
+-- what the step promises
+abbrev pub rounded : ℕ → ℕ → ℕ → Float
+rounded q r h = movedBack (nearestWhole q r) h
+
+-- ---- the three together
+
+-- what the three steps promise of the root y of x: the first alone, or all three
+pub data Steps (x y : Float) : Type 0 where
+  taken : special x ≡ SpecialRoot y → Steps x y
+  rooted : special x ≡ Ordinary → (q r h : ℕ) → Rooted x q r h → y ≡ rounded q r h → Steps x y
 
 -- the root of n times the smallest value
 unfoldable pub rootOf : ℕ → Float
 unfolding wholeRoot half radicand movedBack
-rootOf n = movedBack (nearestTo (radicand n) (wholeRoot 53 (radicand n))) (half n)
+rootOf n = rounded (wholeRoot 53 (radicand n)) (radicand n - square (wholeRoot 53 (radicand n))) (half n)
+
+abbrev pub orElse : Operand → Float → Float
+orElse (SpecialRoot y) z = y
+orElse Ordinary z = z
 
 unfoldable pub root : Float → Float
 unfolding rootOf
-root nan = nan
-root (inf true) = nan
-root (inf false) = inf false
-root (fin s zero e) = fin s zero e
-root (fin true (suc m) e) = nan
-root (fin false (suc m) e) = rootOf (count (fin false (suc m) e))
+root x = orElse (special x) (rootOf (count x))

@@ -1,20 +1,21 @@
 // The root of a binary64 number, from its bits and whole numbers.
+use crate::steps::Operand;
 ghost use mathlib.Core.Path.{_≡_};
 ghost use Rattle.binary64.specs.Root.{root, Root};
 
-pub mod steps;
+mod digits;
+mod steps;
 
-// The binary64 nearest the exact root.
+// The binary64 nearest the exact root: special operands, then the whole root and its remainder, then one rounding.
 pub fn sqrt(x: f64) -> f64
     ensures { λ r. ⌜ (r ≡ root x) × Root x r ⌝ }
 {
-    if x > 0.0 {
-        if x < 1.0 / 0.0 {
-            let p = steps::parts(x);
-            let a = steps::scaled(p.m, p.k);
-            let w = steps::whole_root(a.m);
-            return steps::put_together(w.q, w.r, a.half);
+    let s = steps::special(x);
+    match s {
+        Operand::SpecialRoot(r) => r,
+        Operand::Ordinary => {
+            let w = steps::whole_root(x);
+            steps::rounded(w.q, w.r, w.half)
         }
     }
-    steps::special(x)
 }

@@ -1,144 +1,60 @@
-// The steps of the root, for `sqrt` alone: special operands, the number's digits, their whole root with its remainder, one
-// rounding. What a step requires, the step before it ensures.
+// The root in three steps, in the order in which it is checked against IEEE 754: special operands, the whole root and its remainder, one rounding.
+// What a step requires, those before it ensure.
+use crate::digits::long_root;
+use crate::digits::parts;
+use crate::digits::scaled;
 ghost use mathlib.Core.Path.{_≡_};
-ghost use mathlib.Core.Bool.{not};
-ghost use Prim.Native.Nat.{_+_, _*_, _^_, _≤_, _<_};
-ghost use lib.Dec.{T};
-ghost use lib.Ieee.Positive.{positive};
+ghost use Prim.Native.Nat.{_*_, _^_, _≤_, _<_};
 ghost use Rattle.binary64.specs.Root as spec;
-ghost use Rattle.binary64.specs.RootSteps.{Digits, Scaled, WholeRoot};
 
-// A number that is not both finite and above zero.
-pub fn special(x: f64) -> f64
-    requires { ⌜ T (not (positive x)) ⌝ }
-    ensures { λ r. ⌜ r ≡ spec.root x ⌝ }
-{
-    if x < 0.0 { 0.0 / 0.0 } else { x }
+// A special operand's root, or that the operand is an ordinary one: finite and above zero.
+pub enum Operand {
+    SpecialRoot(f64),
+    Ordinary,
 }
 
-// m times 2^k of binary64's smallest value.
-pub struct Units {
-    pub m: u64,
-    pub k: u64,
-}
-
-pub fn parts(x: f64) -> Units
-    requires { ⌜ T (positive x) ⌝ }
-    ensures { λ r. ⌜ Digits (spec.count x) (r .m) (r .k) ⌝ }
+// Special operands: the root of NaN and of a number below zero is NaN; infinity and each zero is its own root.
+pub fn special(x: f64) -> Operand
+    ensures { λ r. ⌜ r ≡ spec.special x ⌝ }
 {
-    let b = f64::to_bits(x);
-    if b < 0x20_0000_0000_0000 {
-        Units { m: b, k: 0 }
-    } else {
-        Units {
-            m: b % 0x10_0000_0000_0000 + 0x10_0000_0000_0000,
-            k: b / 0x10_0000_0000_0000 - 1,
+    if x < 0.0 {
+        return Operand::SpecialRoot(0.0 / 0.0);
+    }
+    if x > 0.0 {
+        if x < 1.0 / 0.0 {
+            return Operand::Ordinary;
         }
     }
+    Operand::SpecialRoot(x)
 }
 
-// The radicand m times 2^52, whose whole root has 53 digits, and how many of them stand before the point.
-pub struct Radicand {
-    pub m: u64,
+// A whole root q of 53 binary digits, its remainder r, and the scale, `half`: the number is (q * q + r) * 4^(half - 590).
+pub struct RootAndRest {
+    pub q: u64,
+    pub r: u64,
     pub half: u64,
 }
 
-pub fn scaled(m: u64, k: u64) -> Radicand
-    requires { ⌜ (0 < m) × (m < 2 ^ 53) × (k ≤ 2045) ⌝ }
-    ensures { λ r. ⌜ Scaled (m * 2 ^ k) (r .m) (r .half) ⌝ }
+// The whole root and its remainder, of x moved without loss until the root has 53 binary digits.
+pub fn whole_root(x: f64) -> RootAndRest
+    requires { ⌜ spec.special x ≡ Operand.Ordinary ⌝ }
+    ensures { λ w. ⌜ spec.Rooted x (w .q) (w .r) (w .half) ⌝ }
 {
-    let z = u64::leading_zeros(m) as u64;
-    let digits = 64 - z + k;
-    Radicand {
-        m: m << (z - 10 - digits % 2),
-        half: (digits + 1) / 2,
+    let p = parts(x);
+    let a = scaled(p.m, p.k);
+    let w = long_root(a.m);
+    RootAndRest {
+        q: w.q,
+        r: w.r,
+        half: a.half,
     }
 }
 
-// A whole root q and its remainder r.
-pub struct Rest {
-    pub q: u64,
-    pub r: u64,
-}
-
-// Newton's step from y towards 2^32 over the root of x = h / 2^30, less 3 for the digits that are cut off, so that it ends below.
-fn nearer(h: u64, y: u64) -> u64
-    requires { ⌜ (h < 2 ^ 32) × (y < 2 ^ 32) ⌝ }
-    ensures { λ r. ⌜ r < 2 ^ 32 ⌝ }
-{
-    let hy = h * y / 0x1_0000_0000;
-    let yy = y * y / 0x1_0000_0000;
-    (3 * y + 0xf_ffff_fffa - hy * yy / 0x4000_0000) / 2 % 0x1_0000_0000
-}
-
-// The whole root of an m of 53 or 54 digits, or one less, from h = m / 2^22. Two steps of Newton's start at
-// 1.749 - 1.123 x + 0.458 x^2 - 0.0935 x^3 + 0.00743 x^4, which is 1 over the root of x = h / 2^30 within 0.22 %.
-// Nothing is promised of how near it comes: `short_root` tests it, and only its time rests on it.
-fn guess(h: u64) -> u64
-    requires { ⌜ h < 2 ^ 32 ⌝ }
-    ensures { λ r. ⌜ r < 2 ^ 32 ⌝ }
-{
-    let hh = h * h / 0x1_0000_0000;
-    let high = 1967320785 - h * 401761978 / 0x4000_0000 + hh * 31913905 / 0x1000_0000;
-    let y = (41871701899 + hh * high / 0x1000_0000 - h * 1205891116 / 0x1000_0000) % 0x1_0000_0000;
-    h * nearer(h, nearer(h, y)) / 0x10_0000_0000
-}
-
-// From the guess upwards, or from 0 were it too high.
-pub fn short_root(m: u64) -> Rest
-    requires { ⌜ m < 2 ^ 54 ⌝ }
-    ensures { λ s. ⌜ WholeRoot m (s .q) (s .r) ⌝ }
-{
-    let low = guess(m / 0x40_0000);
-    let square = low * low;
-    let mut q: u64 = 0;
-    let mut r = m;
-    if square <= m {
-        q = low;
-        r = m - square;
-    }
-    while r > 2 * q {
-        r -= 2 * q + 1;
-        q += 1;
-    }
-    Rest { q, r }
-}
-
-// 52 zeros more behind the radicand, and 26 more digits of its root: those of r times 2^26 over 2 s, or one less.
-pub fn longer(s: u64, r: u64) -> Rest
-    requires { ⌜ (2 ^ 26 ≤ s) × (s < 2 ^ 27) × (r ≤ 2 * s) ⌝ }
-    ensures { λ t. ⌜ WholeRoot ((s * s + r) * 2 ^ 52) (t .q) (t .r) ⌝ }
-{
-    let digits = r * 0x400_0000 / (2 * s);
-    let rest = r * 0x400_0000 % (2 * s) * 0x400_0000;
-    let square = digits * digits;
-    let q = s * 0x400_0000 + digits;
-    if rest < square {
-        let less = q - 1;
-        return Rest {
-            q: less,
-            r: rest + (2 * less + 1) - square,
-        };
-    }
-    Rest {
-        q,
-        r: rest - square,
-    }
-}
-
-// 27 digits of the root, then the other 26.
-pub fn whole_root(m: u64) -> Rest
-    requires { ⌜ (2 ^ 52 ≤ m) × (m < 2 ^ 54) ⌝ }
-    ensures { λ s. ⌜ WholeRoot (m * 2 ^ 52) (s .q) (s .r) ⌝ }
-{
-    let s = short_root(m);
-    longer(s.q, s.r)
-}
-
-// One rounding, and the bits put together: a carry out of the 53 digits adds one to the exponent's field.
-pub fn put_together(q: u64, r: u64, half: u64) -> f64
-    requires { ⌜ (2 ^ 52 ≤ q) × (q < 2 ^ 53) × (half ≤ 1049) ⌝ }
-    ensures { λ x. ⌜ x ≡ spec.movedBack (spec.rounded q r) half ⌝ }
+// One rounding: the whole number nearest the root of q * q + r, times 2^(half - 590). A carry out of the 53 digits, which no number's root has,
+// would add one to the exponent's field.
+pub fn rounded(q: u64, r: u64, half: u64) -> f64
+    requires { ⌜ (2 ^ 52 ≤ q) × (q < 2 ^ 53) × (r ≤ 2 * q) × (half ≤ 1049) ⌝ }
+    ensures { λ x. ⌜ x ≡ spec.rounded q r half ⌝ }
 {
     let up: u64 = if q < r { 1 } else { 0 };
     f64::from_bits((half + 484) * 0x10_0000_0000_0000 + (q + up))

@@ -5,6 +5,6 @@ pub mod Matrices
 pub mod Finite
 pub mod SameValue
 pub mod Squares
-mod RootCases
+mod MagnitudeCases
 pub mod Fronts
 pub mod Bits

@@ -1,23 +1,28 @@
 -- `binary64::steps::whole_root` meets its contract.
 -- Assumes nothing.
-use Prim.Native.Nat.{_^_}
-use native.Mathlib.Omega.{arith}
 use borrow.Author.Needs.{needs}
-use Rattle.binary64.proofs.WholeRoots.{root-below, root-above}
+use Rattle.binary64.specs.Root.{count}
+use Rattle.binary64.proofs.RootSpecial.{ordinary}
+use Rattle.binary64.proofs.RootDigits.{counted, rooted-of}
 use Rattle.binary64.proofs.steps.whole_root.Statement.{statement}
 use Rattle.binary64.proofs.steps.whole_root.Tie as tie
 
-short-root-requires : tie.Need-short-root-requires
-short-root-requires c κs = search needs
+parts-requires : tie.Need-parts-requires
+parts-requires c κs = ordinary (c .args .x) (c .pre)
 
-longer-requires : tie.Need-longer-requires
-longer-requires c κs =
-    let m = c .before .args .m in
-    let w = c .short-root .ensures in
-    (root-above m (c .short-root .result .q) (c .short-root .result .r) (2 ^ 26) w (omega arith), root-below m (c .short-root .result .q) (c .short-root .result .r) (2 ^ 27) w (omega arith), w .small)
+scaled-requires : tie.Need-scaled-requires
+scaled-requires c κs = search needs
+
+long-root-requires : tie.Need-long-root-requires
+long-root-requires c κs = search needs
 
 returns : tie.Need-returns
-returns c = omega arith
+returns c =
+    let s = c .before in
+    let p = s .before in
+    let x = p .before .args .x in
+    let units = counted x (ordinary x (p .before .pre)) (rw (p .before .good .0 .1) tt) in
+    rooted-of x (count x) (s .scaled .result .m) (s .scaled .result .half) (c .long-root .result .q) (c .long-root .result .r) units (rw (p .parts .ensures .value) (s .scaled .ensures)) (c .long-root .ensures)
 
 pub whole-root-spec : {M : Type 1} → statement M
-whole-root-spec = tie.close (tie.spec short-root-requires longer-requires returns)
+whole-root-spec = tie.close (tie.spec parts-requires scaled-requires long-root-requires returns)

@@ -1,11 +1,11 @@
--- `binary64::steps::scaled` meets its contract.
+-- `binary64::digits::scaled` meets its contract.
 -- Assumes nothing.
 use mathlib.Core.Path.{refl}
 use native.Mathlib.Omega.{arith}
 use lib.Count.{leadingZeros}
-use Rattle.binary64.proofs.RootSteps.{zeros-before, scaled-as}
-use Rattle.binary64.proofs.steps.scaled.Statement.{statement}
-use Rattle.binary64.proofs.steps.scaled.Tie as tie
+use Rattle.binary64.proofs.RootDigits.{zeros-before, scaled-as}
+use Rattle.binary64.proofs.digits.scaled.Statement.{statement}
+use Rattle.binary64.proofs.digits.scaled.Tie as tie
 
 cast-z : tie.Need-cast-z
 cast-z c = let z = zeros-before (c .args .m) (c .pre .0) (c .pre .1) in omega arith

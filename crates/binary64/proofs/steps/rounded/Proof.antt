@@ -1,4 +1,4 @@
--- `binary64::steps::put_together` meets its contract.
+-- `binary64::steps::rounded` meets its contract.
 -- Assumes nothing.
 use mathlib.Core.Path.{_≡_, ap, _∙_}
 use mathlib.Core.Logic.{inl, inr, ⊎-elim}
@@ -6,13 +6,13 @@ use Prim.Native.Nat.{ℕ, _+_, _*_, _^_, _≤_}
 use native.Mathlib.Omega.{arith}
 use borrow.Author.Needs.{needs}
 use lib.Ieee.{binary64, ofBits}
-use Rattle.binary64.specs.Root.{rounded}
-use Rattle.binary64.proofs.RootSteps.{bits-back, not-nan-bits, rounded-is, rounded-le}
-use Rattle.binary64.proofs.steps.put_together.Statement.{statement}
-use Rattle.binary64.proofs.steps.put_together.Tie as tie
+use Rattle.binary64.specs.Root.{nearestWhole}
+use Rattle.binary64.proofs.RootRounding.{bits-back, not-nan-bits, nearest-is, nearest-le}
+use Rattle.binary64.proofs.steps.rounded.Statement.{statement}
+use Rattle.binary64.proofs.steps.rounded.Tie as tie
 
-last : (c : tie.Joined1) → (c .before .args .q + c .if1 .up ≡ rounded (c .before .args .q) (c .before .args .r)) × (c .if1 .up ≤ 1)
-last c = rounded-is (c .before .args .q) (c .before .args .r) (c .if1 .up) (⊎-elim (λ w. inl (w .0 .taken, w .1)) (λ w. inr (w .0 .left, w .1)) (c .if1 .came))
+last : (c : tie.Joined1) → (c .before .args .q + c .if1 .up ≡ nearestWhole (c .before .args .q) (c .before .args .r)) × (c .if1 .up ≤ 1)
+last c = nearest-is (c .before .args .q) (c .before .args .r) (c .if1 .up) (⊎-elim (λ w. inl (w .0 .taken, w .1)) (λ w. inr (w .0 .left, w .1)) (c .if1 .came))
 
 add-result : tie.Need-add-result
 add-result c = search needs
@@ -37,10 +37,10 @@ returns c =
     let l = last (c .before) in
     let a = c .before .before .args in
     let p = c .before .before .pre in
-    let w = rounded-le (a .q) (a .r) in
-    ap (λ (x : ℕ). ofBits binary64 ((a .half + 484) * 2 ^ 52 + x)) (l .0) ∙ bits-back (rounded (a .q) (a .r)) (a .half) (omega arith) (omega arith) (p .2)
+    let w = nearest-le (a .q) (a .r) in
+    ap (λ (x : ℕ). ofBits binary64 ((a .half + 484) * 2 ^ 52 + x)) (l .0) ∙ bits-back (nearestWhole (a .q) (a .r)) (a .half) (omega arith) (omega arith) (p .3)
 
-pub put-together-spec : {M : Type 1} → statement M
-put-together-spec =
+pub rounded-spec : {M : Type 1} → statement M
+rounded-spec =
     tie.close
     (tie.spec add-result mul-result add-result-2 add-result-3 float-from-bits-result returns)

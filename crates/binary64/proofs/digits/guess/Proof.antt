@@ -1,11 +1,11 @@
--- `binary64::steps::guess` meets its contract.
+-- `binary64::digits::guess` meets its contract.
 -- Assumes nothing.
 use Prim.Native.Nat.{_+_, _-_, _*_, _/_, _^_, _<_}
 use native.Mathlib.Omega.{arith}
 use borrow.Author.Needs.{needs}
 use Rattle.binary64.proofs.WholeRoots.{product-fits}
-use Rattle.binary64.proofs.steps.guess.Statement.{statement}
-use Rattle.binary64.proofs.steps.guess.Tie as tie
+use Rattle.binary64.proofs.digits.guess.Statement.{statement}
+use Rattle.binary64.proofs.digits.guess.Tie as tie
 
 square-fits : (c : tie.Start) → c .args .h * c .args .h < 2 ^ 64
 square-fits c = product-fits (c .args .h) (c .args .h) (c .pre) (c .pre)

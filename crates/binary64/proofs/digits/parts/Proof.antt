@@ -1,9 +1,9 @@
--- `binary64::steps::parts` meets its contract.
+-- `binary64::digits::parts` meets its contract.
 -- Assumes nothing.
 use borrow.Author.Needs.{needs}
-use Rattle.binary64.proofs.RootSteps.{not-nan, own-digits, field-digits}
-use Rattle.binary64.proofs.steps.parts.Statement.{statement}
-use Rattle.binary64.proofs.steps.parts.Tie as tie
+use Rattle.binary64.proofs.RootDigits.{not-nan, own-digits, field-digits}
+use Rattle.binary64.proofs.digits.parts.Statement.{statement}
+use Rattle.binary64.proofs.digits.parts.Tie as tie
 
 float-to-bits-b : tie.Need-float-to-bits-b
 float-to-bits-b c = not-nan (c .args .x) (c .pre)

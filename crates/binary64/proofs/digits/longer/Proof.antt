@@ -1,10 +1,10 @@
--- `binary64::steps::longer` meets its contract.
+-- `binary64::digits::longer` meets its contract.
 -- Assumes nothing.
 use native.Mathlib.Omega.{arith}
 use borrow.Author.Needs.{needs}
 use Rattle.binary64.proofs.WholeRoots.{divided, digits-few, digits-right, digits-over}
-use Rattle.binary64.proofs.steps.longer.Statement.{statement}
-use Rattle.binary64.proofs.steps.longer.Tie as tie
+use Rattle.binary64.proofs.digits.longer.Statement.{statement}
+use Rattle.binary64.proofs.digits.longer.Tie as tie
 
 mul-digits : tie.Need-mul-digits
 mul-digits c = search needs

@@ -1,4 +1,4 @@
--- `binary64::steps::short_root` meets its contract. The invariant: the square of q, and r, make m. The measure is r.
+-- `binary64::digits::short_root` meets its contract. The invariant: the square of q, and r, make m. The measure is r.
 -- Assumes nothing.
 use mathlib.Core.Path.{_≡_}
 use mathlib.Core.Logic.{⊎-elim}
@@ -6,8 +6,8 @@ use Prim.Native.Nat.{_+_, _*_, _^_, _<_}
 use native.Mathlib.Omega.{arith}
 use borrow.Author.Needs.{needs}
 use Rattle.binary64.proofs.WholeRoots.{product-fits}
-use Rattle.binary64.proofs.steps.short_root.Statement.{statement}
-use Rattle.binary64.proofs.steps.short_root.Tie as tie
+use Rattle.binary64.proofs.digits.short_root.Statement.{statement}
+use Rattle.binary64.proofs.digits.short_root.Tie as tie
 
 abbrev Inv-loop : tie.InvT-loop
 Inv-loop m low square q₀ r₀ q r = (q * q + r ≡ m) × (q < 2 ^ 54)

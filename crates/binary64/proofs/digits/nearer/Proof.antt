@@ -1,11 +1,11 @@
--- `binary64::steps::nearer` meets its contract.
+-- `binary64::digits::nearer` meets its contract.
 -- Assumes nothing.
 use Prim.Native.Nat.{_*_, _/_, _^_, _<_}
 use native.Mathlib.Omega.{arith}
 use borrow.Author.Needs.{needs}
 use Rattle.binary64.proofs.WholeRoots.{product-fits}
-use Rattle.binary64.proofs.steps.nearer.Statement.{statement}
-use Rattle.binary64.proofs.steps.nearer.Tie as tie
+use Rattle.binary64.proofs.digits.nearer.Statement.{statement}
+use Rattle.binary64.proofs.digits.nearer.Tie as tie
 
 mul-hy : tie.Need-mul-hy
 mul-hy c = omega (arith, product-fits (c .args .h) (c .args .y) (c .pre .0) (c .pre .1))

@@ -1,0 +1,103 @@
+// Times one root: the port's, that of another build of the port where OTHER is defined, and the processor's own. Half the operands are
+// random bit patterns, half lie between 0.5 and 2. The three take turns; a time is the thread's processor time for one root.
+#include "jeturipe.h"
+#include <math.h>
+#include <stdio.h>
+#include <stdlib.h>
+#include <string.h>
+#include <time.h>
+
+enum { OPERANDS = 1000000, ROUNDS = 41, SIDES = 3 };
+
+static double operands[OPERANDS];
+
+static uint64_t next_random(void) {
+    static uint64_t state = 88172645463325252u;
+    state ^= state << 13;
+    state ^= state >> 7;
+    state ^= state << 17;
+    return state;
+}
+
+static void draw(void) {
+    for (int i = 0; i < OPERANDS; i++) {
+        uint64_t bits = next_random();
+        if (i % 2) bits = 0x3fe0000000000000u + (bits >> 11);
+        memcpy(&operands[i], &bits, 8);
+    }
+}
+
+static double port(double x) {
+    double r = 0;
+    jeturipe_sqrt(x, (uint8_t *)&r, 8);
+    return r;
+}
+
+#ifdef OTHER
+uint32_t other_sqrt(double x, uint8_t *out, size_t out_len);
+static double other(double x) {
+    double r = 0;
+    other_sqrt(x, (uint8_t *)&r, 8);
+    return r;
+}
+#endif
+
+static double processor(double x) { return sqrt(x); }
+
+static const struct { const char *name; double (*root)(double); } sides[SIDES] = {
+    { "port", port },
+#ifdef OTHER
+    { "other", other },
+#else
+    { NULL, NULL },
+#endif
+    { "processor", processor },
+};
+
+static double nanoseconds(void) {
+    struct timespec t;
+    clock_gettime(CLOCK_THREAD_CPUTIME_ID, &t);
+    return 1e9 * (double)t.tv_sec + (double)t.tv_nsec;
+}
+
+static double round_of(double (*root)(double)) {
+    static volatile double kept;
+    double sum = 0, began = nanoseconds();
+    for (int i = 0; i < OPERANDS; i++) sum += root(operands[i]);
+    kept = sum;
+    return (nanoseconds() - began) / OPERANDS;
+}
+
+static int by_size(const void *a, const void *b) {
+    double x = *(const double *)a, y = *(const double *)b;
+    return (x > y) - (x < y);
+}
+
+// How many roots differ from the processor's, any NaN agreeing with any NaN.
+static int differing(double (*root)(double)) {
+    int n = 0;
+    for (int i = 0; i < OPERANDS; i++) {
+        double r = root(operands[i]), p = processor(operands[i]);
+        n += memcmp(&r, &p, 8) != 0 && !(isnan(r) && isnan(p));
+    }
+    return n;
+}
+
+int main(void) {
+    static double times[SIDES][ROUNDS];
+    int wrong = 0;
+    draw();
+    for (int r = 0; r < ROUNDS; r++)
+        for (int k = 0; k < SIDES; k++) {
+            int side = (k + r) % SIDES;
+            if (sides[side].root) times[side][r] = round_of(sides[side].root);
+        }
+    for (int side = 0; side < SIDES; side++) {
+        if (!sides[side].root) continue;
+        int n = differing(sides[side].root);
+        qsort(times[side], ROUNDS, sizeof(double), by_size);
+        printf("%-10s best %5.1f ns, median %5.1f ns, %d of %d roots differ\n", sides[side].name, times[side][0], times[side][ROUNDS / 2], n, OPERANDS);
+        wrong += n;
+    }
+    return wrong != 0;
+}
