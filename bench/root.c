@@ -60,8 +60,10 @@ static double nanoseconds(void) {
     return 1e9 * (double)t.tv_sec + (double)t.tv_nsec;
 }
 
+// Written to, so that no root is left out.
+volatile double kept;
+
 static double round_of(double (*root)(double)) {
-    static volatile double kept;
     double sum = 0, began = nanoseconds();
     for (int i = 0; i < OPERANDS; i++) sum += root(operands[i]);
     kept = sum;
