@@ -1,5 +1,5 @@
-// Times one root: the port's, that of another build of the port where OTHER is defined, and the processor's own. Half the operands are
-// random bit patterns, half lie between 0.5 and 2. The three take turns; a time is the thread's processor time for one root.
+// Times one root: the port's, with OTHER defined that of another build of the port too, and the processor's own. Half the operands are random bit
+// patterns, half lie between 0.5 and 2. They take turns; a time is the thread's processor time for one root.
 #include "jeturipe.h"
 #include <math.h>
 #include <stdio.h>

@@ -5,7 +5,7 @@ use Prim.Native.Nat.{ℕ, _^_, _<_}
 use lib.Count.{trailingZeros}
 use lib.Dec.{lit≤, lit<}
 use lib.Ieee.{binary64, odd, ofBits, ofFields, size, span, climb}
-use Rattle.binary64.specs.Root.{Rooted, Steps, taken, rooted, root, rootOf, radicand, half, wholeRoot, movedBack}
+use Rattle.binary64.specs.Root.{Rooted, Steps, firstAlone, allThree, root, rootOf, radicand, half, wholeRoot, movedBack}
 use Rattle.binary64.proofs.RootRounding.{nearest-whole}
 
 -- to open this is to open all that the cases compute with
@@ -22,7 +22,8 @@ two : Case 0x4000000000000000 6369051672525772 7192236498376048 538 0x3ff6a09e66
 unfolding opened
 two = (record { exact = refl; rest = lit≤ tt; least = lit≤ tt; most = lit< tt; few = lit≤ tt }, refl)
 
--- of the smallest number, the largest subnormal, the smallest normal and the largest number: q has its least and its most, r is 0, 2 q, 0 and q, h its most
+-- of the smallest number above zero, the largest subnormal, the smallest normal and the largest number: r is 0, 2 q, 0 and q, and q and h come to
+-- their least and their most
 smallest : Case 1 (2 ^ 52) 0 1 0x1e60000000000000
 unfolding opened
 smallest = (record { exact = refl; rest = lit≤ tt; least = lit≤ tt; most = lit< tt; few = lit≤ tt }, refl)
@@ -43,19 +44,19 @@ largest = (record { exact = refl; rest = lit≤ tt; least = lit≤ tt; most = li
 three : (9 < 12) × (12 < 25)
 three = nearest-whole 1 2 (lit< tt) (lit≤ tt)
 
--- by the three steps: of 2, of -0, of -1, which is a NaN, and of infinity
+-- by the three steps: of 2, of -0, of -1, whose root is NaN, and of infinity
 two-steps : Steps (ofBits binary64 0x4000000000000000) (ofBits binary64 0x3ff6a09e667f3bcd)
 unfolding opened
-two-steps = rooted refl 6369051672525772 7192236498376048 538 (two .0) refl
+two-steps = allThree refl 6369051672525772 7192236498376048 538 (two .0) refl
 
 minus-zero : Steps (ofBits binary64 0x8000000000000000) (ofBits binary64 0x8000000000000000)
 unfolding opened
-minus-zero = taken refl
+minus-zero = firstAlone refl
 
 minus-one : Steps (ofBits binary64 0xbff0000000000000) (ofBits binary64 0x7ff8000000000000)
 unfolding opened
-minus-one = taken refl
+minus-one = firstAlone refl
 
 infinite : Steps (ofBits binary64 0x7ff0000000000000) (ofBits binary64 0x7ff0000000000000)
 unfolding opened
-infinite = taken refl
+infinite = firstAlone refl

@@ -14,7 +14,7 @@ use lib.Pow.{pow-add, pow-pos, pow-mono}
 use lib.Ieee.{Float, nan, inf, fin, binary64, up, down, fits, lt}
 use lib.Ieee.Fits.{down-pos}
 use lib.Ieee.Positive.{num, den, positive, den-pos, value→cross, positive-of-value}
-use Rattle.binary64.specs.Root.{square, middleBelow, middleAbove, NearestRoot, Root, Rooted, Steps, taken, rooted, wholeRoot, count, half, radicand, nearestWhole, movedBack, rootOf, root}
+use Rattle.binary64.specs.Root.{square, middleBelow, middleAbove, NearestRoot, Root, Rooted, Steps, firstAlone, allThree, wholeRoot, count, half, radicand, nearestWhole, movedBack, rootOf, root}
 use Rattle.binary64.specs.RootDigits.{WholeRoot}
 use Rattle.binary64.proofs.WholeRoots.{whole-root}
 use Rattle.binary64.proofs.RootSpecial.{special-is, ordinary-is}
@@ -172,8 +172,8 @@ module _ (x : Float) (q s h : ℕ) (w : Rooted x q s h) where
 
 -- what the three steps promise is what is asked for
 steps-are : (x r : Float) → Steps x r → Root x r
-steps-are x r (taken e) = special-is x r e
-steps-are x r (rooted e q s h w p) = ordinary-is x r e (subst (NearestRoot x) (sym p) (rooted-nearest x q s h w))
+steps-are x r (firstAlone e) = special-is x r e
+steps-are x r (allThree e q s h w p) = ordinary-is x r e (subst (NearestRoot x) (sym p) (rooted-nearest x q s h w))
 
 -- ---- `root` keeps the steps' promises
 
@@ -189,12 +189,12 @@ root-rooted x p f =
 
 root-steps : (x : Float) → T (fits binary64 x) → Steps x (root x)
 unfolding root rootOf
-root-steps nan f = taken refl
-root-steps (inf true) f = taken refl
-root-steps (inf false) f = taken refl
-root-steps (fin s zero e) f = taken refl
-root-steps (fin true (suc m) e) f = taken refl
-root-steps (fin false (suc m) e) f = rooted refl _ _ _ (root-rooted (fin false (suc m) e) (lt→ltb 0 (suc m) (zero-lt-suc m)) f) refl
+root-steps nan f = firstAlone refl
+root-steps (inf true) f = firstAlone refl
+root-steps (inf false) f = firstAlone refl
+root-steps (fin s zero e) f = firstAlone refl
+root-steps (fin true (suc m) e) f = firstAlone refl
+root-steps (fin false (suc m) e) f = allThree refl _ _ _ (root-rooted (fin false (suc m) e) (lt→ltb 0 (suc m) (zero-lt-suc m)) f) refl
 
 pub root-is : (x : Float) → T (fits binary64 x) → Root x (root x)
 root-is x f = steps-are x (root x) (root-steps x f)

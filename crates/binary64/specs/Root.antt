@@ -1,7 +1,7 @@
 -- The root of a binary64 number, IEEE 754-2019's squareRoot (5.4.1). What is asked for is `Root`: the binary64 nearest the exact root, said over
--- whole numbers. What computes it is `root`, in three steps, each under its heading here and a function of src/steps.rt in the same order: special
--- operands, the whole root and its remainder, one rounding. What the three promise is `Steps`, and from that alone follows, for x an f64, that the
--- answer is `root x` and meets `Root` (proofs/RootNearest `root-of-steps`).
+-- whole numbers. What computes it is `root`, in three steps: special operands, the whole root and its remainder, one rounding. Each step has its
+-- heading here and its function in src/steps.rt. `Steps` is what they promise; from it alone follows, for x an f64, that the answer is `root x` and
+-- meets `Root` (proofs/RootNearest `root-of-steps`).
 use Prim.Native.Nat.{ℕ, zero, suc, _+_, _-_, _*_, _/_, _^_, _≤_, _<_}
 use mathlib.Core.Path.{_≡_}
 use mathlib.Core.Bool.{true, false, cond}
@@ -55,11 +55,10 @@ special (fin s zero e) = SpecialRoot (fin s zero e)
 special (fin true (suc m) e) = SpecialRoot nan
 special (fin false (suc m) e) = Ordinary
 
--- ---- second: the whole root and its remainder, which stand for the exact root (5.1)
+-- ---- second: the whole root q and its remainder r, which stand for the exact root (5.1)
 
--- What the step promises of an ordinary x: it is (q * q + r) * 4 ^ (h - 590), exactly; r is at most 2 q, so that the square of q + 1 is more, q the
--- whole root and r its remainder; q has 53 binary digits; h is at most 1049, since x is below 2 ^ 1024. No other q, r and h are such
--- (proofs/RootDigits `rooted-only`).
+-- For an ordinary x: x is (q * q + r) * 4 ^ (h - 590), exactly. r is at most 2 q, so q is the whole root of q * q + r, and r its remainder. q has 53
+-- binary digits. h, the code's `half`, is at most 1049, since x is below 2 ^ 1024. No other q, r and h are such (proofs/RootDigits `rooted-only`).
 pub record Rooted (x : Float) (q r h : ℕ) : Type 0 where
   pub exact : num x * 4 ^ 590 ≡ (square q + r) * 4 ^ h * den x
   pub rest : r ≤ 2 * q
@@ -67,8 +66,31 @@ pub record Rooted (x : Float) (q r h : ℕ) : Type 0 where
   pub most : q < 2 ^ 53
   pub few : h ≤ 1049
 
--- How `root` has them (that they are such is proofs/RootNearest `root-rooted`): first how many times binary64's smallest value, 2 ^ -1074, x is.
--- Its root is that number's, times 2 ^ -537.
+-- ---- third: one rounding, to nearest (4.3.1)
+
+-- The whole number N nearest the root of q * q + r, for q above 0 and r at most 2 q: the root lies above q + 1/2 where r is above q, and is never
+-- q + 1/2. So square (2 N - 1) < 4 (q * q + r) < square (2 N + 1) (proofs/RootRounding `nearest-whole`).
+abbrev pub nearestWhole : ℕ → ℕ → ℕ
+nearestWhole q r = cond (ltb q r) (q + 1) q
+
+-- N * 2 ^ (h - 590), the root of N * N * 4 ^ (h - 590): N * 2 ^ (h + 484) / 2 ^ 1074, written as a number by `odd`. Nothing is lost (`moved-value`),
+-- and it is a number of binary64 for N up to 2 ^ 53 and h up to 1049 (`moved-fits`).
+unfoldable pub movedBack : ℕ → ℕ → Float
+movedBack N h = odd 54 false N (h + 484) 1074
+
+abbrev pub rounded : ℕ → ℕ → ℕ → Float
+rounded q r h = movedBack (nearestWhole q r) h
+
+-- ---- the three together
+
+-- what the three steps promise of the root y of x: the first alone, or all three
+pub data Steps (x y : Float) : Type 0 where
+  firstAlone : special x ≡ SpecialRoot y → Steps x y
+  allThree : special x ≡ Ordinary → (q r h : ℕ) → Rooted x q r h → y ≡ rounded q r h → Steps x y
+
+-- ---- `root`, and how it finds q, r and h: no step promises this. That they are `Rooted` is proofs/RootNearest `root-rooted`.
+
+-- how many times binary64's smallest positive value, 2 ^ -1074, x is. Its root is that number's, times 2 ^ -537.
 abbrev pub count : Float → ℕ
 count x = num x * 2 ^ 1074 / den x
 
@@ -89,30 +111,7 @@ unfoldable pub wholeRoot : ℕ → ℕ → ℕ
 wholeRoot zero n = 0
 wholeRoot (suc k) n = lastDigit n (2 * wholeRoot k (n / 4))
 
--- ---- third: one rounding, to nearest (4.3.1)
-
--- The whole number N nearest the root of q * q + r, for r at most 2 q: the root lies above q + 1/2 where r is above q, and is never q + 1/2. So
--- square (2 N - 1) < 4 (q * q + r) < square (2 N + 1) (proofs/RootRounding `nearest-whole`).
-abbrev pub nearestWhole : ℕ → ℕ → ℕ
-nearestWhole q r = cond (ltb q r) (q + 1) q
-
--- N * 2 ^ (h - 590), the root of N * N * 4 ^ (h - 590): nothing is lost (`moved-value`), and it is a number of binary64 for N up to 2 ^ 53 and h up
--- to 1049 (`moved-fits`)
-unfoldable pub movedBack : ℕ → ℕ → Float
-movedBack N h = odd 54 false N (h + 484) 1074
-
--- what the step promises
-abbrev pub rounded : ℕ → ℕ → ℕ → Float
-rounded q r h = movedBack (nearestWhole q r) h
-
--- ---- the three together
-
--- what the three steps promise of the root y of x: the first alone, or all three
-pub data Steps (x y : Float) : Type 0 where
-  taken : special x ≡ SpecialRoot y → Steps x y
-  rooted : special x ≡ Ordinary → (q r h : ℕ) → Rooted x q r h → y ≡ rounded q r h → Steps x y
-
--- the root of n times the smallest value
+-- the root of n times the smallest positive value
 unfoldable pub rootOf : ℕ → Float
 unfolding wholeRoot half radicand movedBack
 rootOf n = rounded (wholeRoot 53 (radicand n)) (radicand n - square (wholeRoot 53 (radicand n))) (half n)

@@ -1,12 +1,12 @@
 // What the whole root is found by: a number's digits, moved until their whole root has 53, and that root in two halves.
-// Only `steps::whole_root` calls it, and its promise does not speak of it.
+// Only `steps::whole_root` calls it; that step's promise, `Rooted`, says nothing of it.
 ghost use Prim.Native.Nat.{_+_, _*_, _^_, _≤_, _<_};
 ghost use lib.Dec.{T};
 ghost use lib.Ieee.Positive.{positive};
 ghost use Rattle.binary64.specs.Root.{count};
 ghost use Rattle.binary64.specs.RootDigits.{Digits, Scaled, WholeRoot};
 
-// The number m * 2^k, in units of binary64's smallest value, 2^-1074.
+// The number m * 2^k, in units of binary64's smallest positive value, 2^-1074.
 pub struct Units {
     pub m: u64,
     pub k: u64,
@@ -28,7 +28,7 @@ pub fn parts(x: f64) -> Units
     }
 }
 
-// The number m * 2^52 * 4^(half - 53): the whole root of its radicand, m * 2^52, has 53 binary digits.
+// In the same units, the number m * 2^52 * 4^(half - 53): the whole root of its radicand, m * 2^52, has 53 binary digits.
 pub struct Radicand {
     pub m: u64,
     pub half: u64,

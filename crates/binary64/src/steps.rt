@@ -1,5 +1,5 @@
-// The root in three steps, in the order in which it is checked against IEEE 754: special operands, the whole root and its remainder, one rounding.
-// What a step requires, those before it ensure.
+// The root in three steps, in the order in which it is checked against IEEE 754-2019, whose clauses are named: special operands, the whole root and
+// its remainder, one rounding. What a step requires, those before it ensure.
 use crate::digits::long_root;
 use crate::digits::parts;
 use crate::digits::scaled;
@@ -13,9 +13,9 @@ pub enum Operand {
     Ordinary,
 }
 
-// Special operands: the root of NaN and of a number below zero is NaN; infinity and each zero is its own root.
+// Special operands (6.1, 6.2, 6.3, 7.2): the root of NaN and of a number below zero is NaN; infinity and each zero are their own roots.
 pub fn special(x: f64) -> Operand
-    ensures { λ r. ⌜ r ≡ spec.special x ⌝ }
+    ensures { λ o. ⌜ o ≡ spec.special x ⌝ }
 {
     if x < 0.0 {
         return Operand::SpecialRoot(0.0 / 0.0);
@@ -35,7 +35,7 @@ pub struct RootAndRest {
     pub half: u64,
 }
 
-// The whole root and its remainder, of x moved without loss until the root has 53 binary digits.
+// The whole root and its remainder, which stand for the exact root (5.1), of x moved without loss until the root has 53 binary digits.
 pub fn whole_root(x: f64) -> RootAndRest
     requires { ⌜ spec.special x ≡ Operand.Ordinary ⌝ }
     ensures { λ w. ⌜ spec.Rooted x (w .q) (w .r) (w .half) ⌝ }
@@ -50,11 +50,11 @@ pub fn whole_root(x: f64) -> RootAndRest
     }
 }
 
-// One rounding: the whole number nearest the root of q * q + r, times 2^(half - 590). A carry out of the 53 digits, which no number's root has,
-// would add one to the exponent's field.
+// One rounding (4.3.1): the whole number nearest the root of q * q + r, times 2^(half - 590). The exponent's field is half + 485, and the leading
+// one of the 53 digits adds the last of it; a carry out of them, which no number's root has, would add another.
 pub fn rounded(q: u64, r: u64, half: u64) -> f64
     requires { ⌜ (2 ^ 52 ≤ q) × (q < 2 ^ 53) × (r ≤ 2 * q) × (half ≤ 1049) ⌝ }
-    ensures { λ x. ⌜ x ≡ spec.rounded q r half ⌝ }
+    ensures { λ y. ⌜ y ≡ spec.rounded q r half ⌝ }
 {
     let up: u64 = if q < r { 1 } else { 0 };
     f64::from_bits((half + 484) * 0x10_0000_0000_0000 + (q + up))

@@ -2,7 +2,7 @@
 -- Assumes nothing.
 use mathlib.Core.Path.{sym, _∙_}
 use borrow.Author.Needs.{needs}
-use Rattle.binary64.specs.Root.{taken, rooted}
+use Rattle.binary64.specs.Root.{firstAlone, allThree}
 use Rattle.binary64.proofs.RootNearest.{root-of-steps}
 use Rattle.binary64.proofs.sqrt.Statement.{statement}
 use Rattle.binary64.proofs.sqrt.Tie as tie
@@ -26,7 +26,7 @@ returns : tie.Need-returns
 returns c =
     let told = c .before in
     let first = told .before .before in
-    root-of-steps (first .before .args .x) _ (rw (first .before .good .0 .1) tt) (taken (sym (first .special .ensures) ∙ told .s .given .1))
+    root-of-steps (first .before .args .x) _ (rw (first .before .good .0 .1) tt) (firstAlone (sym (first .special .ensures) ∙ told .s .given .1))
 
 returns-2 : tie.Need-returns-2
 returns-2 c =
@@ -34,7 +34,7 @@ returns-2 c =
     let told = second .before in
     let first = told .before .before in
     root-of-steps (first .before .args .x) _ (rw (first .before .good .0 .1) tt)
-    (rooted (sym (first .special .ensures) ∙ told .enum-told .given .1) _ _ _ (second .whole-root .ensures) (c .rounded .ensures))
+    (allThree (sym (first .special .ensures) ∙ told .enum-told .given .1) _ _ _ (second .whole-root .ensures) (c .rounded .ensures))
 
 pub sqrt-spec : {M : Type 1} → statement M
 sqrt-spec =
