@@ -40,7 +40,7 @@ pow-le-back i j h =
 
 -- ---- the digits of a number of binary64
 
--- m * 2 ^ e is m * 2 ^ j times the smallest value
+-- m * 2 ^ e is m * 2 ^ j times the smallest positive value
 pub moved : (s : Bool) (m : ℕ) (e : ℤ) → T (fits binary64 (fin s (suc m) e)) → (j : ℕ) × (suc m * up e * 2 ^ 1074 ≡ suc m * 2 ^ j * down e) × (suc m < 2 ^ 53) × (suc m * 2 ^ j < 2 ^ 2098)
 unfolding fits
 moved s m e h =
@@ -65,25 +65,17 @@ parted m j n e p h t =
     let high : size n ≤ 2098 = size-le n 2098 t in
     record { value = whole ∙ ap (λ (x : ℕ). x * 2 ^ k) (sym a); some = rw a (mul-pos p (pow-pos (j - k))); few = kept-lt 53 n; moved = omega arith }
 
-pub digits : (x : Float) → T (positive x) → T (fits binary64 x) → Digits (count x) (count x / 2 ^ (size (count x) - 53)) (size (count x) - 53)
-digits nan p h = absurd p
-digits (inf s) p h = absurd p
-digits (fin true m e) p h = absurd p
-digits (fin false zero e) p h = absurd p
-digits (fin false (suc m) e) p h =
-    let (j, q, few, top) = moved false m e h in
-    let n : count (fin false (suc m) e) ≡ suc m * 2 ^ j = div-eq-of-eq-mul-left (down-pos e) q in
-    parted (suc m) j (count (fin false (suc m) e)) n (zero-lt-suc m) few (rw n top)
-
--- x is that many times the smallest value, exactly
-pub counted : (x : Float) → T (positive x) → T (fits binary64 x) → num x * 2 ^ 1074 ≡ count x * den x
+-- x is a number of smallest positive values, exactly, and this number's digits
+pub counted : (x : Float) → T (positive x) → T (fits binary64 x)
+    → (num x * 2 ^ 1074 ≡ count x * den x) × Digits (count x) (count x / 2 ^ (size (count x) - 53)) (size (count x) - 53)
 counted nan p h = absurd p
 counted (inf s) p h = absurd p
 counted (fin true m e) p h = absurd p
 counted (fin false zero e) p h = absurd p
 counted (fin false (suc m) e) p h =
     let (j, q, few, top) = moved false m e h in
-    q ∙ ap (λ (x : ℕ). x * down e) (sym (div-eq-of-eq-mul-left (down-pos e) q))
+    let n : count (fin false (suc m) e) ≡ suc m * 2 ^ j = div-eq-of-eq-mul-left (down-pos e) q in
+    (q ∙ ap (λ (x : ℕ). x * down e) (sym n), parted (suc m) j (count (fin false (suc m) e)) n (zero-lt-suc m) few (rw n top))
 
 -- ---- and its bits: the field is 0 or 1 where the number is its own digits
 
@@ -119,13 +111,13 @@ module _ (x : Float) (p : T (positive x)) (h : T (fits binary64 x)) where
   -- its digits, where the bits b are below 2 ^ 53, and from there on
   pub own-digits : toBits binary64 x < 2 ^ 53 → Digits (count x) (toBits binary64 x) 0
   own-digits t =
-      let d = digits x p h in
+      let d = counted x p h .1 in
       let (k, a) = own-bits (toBits binary64 x) (size (count x) - 53) (count x / 2 ^ (size (count x) - 53)) (bits-are x p) (d .few) (leading (count x)) t in
       subst₂ (λ (a k : ℕ). Digits (count x) a k) a k d
 
   pub field-digits : 2 ^ 53 ≤ toBits binary64 x → Digits (count x) (toBits binary64 x % 2 ^ 52 + 2 ^ 52) (toBits binary64 x / 2 ^ 52 - 1)
   field-digits t =
-      let d = digits x p h in
+      let d = counted x p h .1 in
       let (a, k) = field-bits (toBits binary64 x) (size (count x) - 53) (count x / 2 ^ (size (count x) - 53)) (bits-are x p) (d .few) (leading (count x)) t in
       subst₂ (λ (a k : ℕ). Digits (count x) a k) (sym a) (sym k) d
 
@@ -195,7 +187,7 @@ radicand-is n m k d =
     let (r, h) = radicand-of m j k l t few (d .moved) in
     rw (d .value) (m * 2 ^ move m j k l t few (d .moved), r, rw h (scaled-is m j k l t few (d .moved)))
 
--- ---- what the second step promises, from a number n of smallest values and the whole root of its radicand
+-- ---- what the second step promises, from a number n of smallest positive values and the whole root of its radicand
 
 pub rooted-of : (x : Float) (n m h q r : ℕ) → num x * 2 ^ 1074 ≡ n * den x → Scaled n m h → WholeRoot (m * 2 ^ 52) q r → Rooted x q r h
 rooted-of x n m h q r e s w =

@@ -18,7 +18,7 @@ use Rattle.binary64.specs.Root.{square, middleBelow, middleAbove, Neares
 use Rattle.binary64.specs.RootDigits.{WholeRoot}
 use Rattle.binary64.proofs.WholeRoots.{whole-root}
 use Rattle.binary64.proofs.RootSpecial.{special-is, ordinary-is}
-use Rattle.binary64.proofs.RootDigits.{moved, digits, counted, four-is, radicand-is, rooted-of}
+use Rattle.binary64.proofs.RootDigits.{moved, counted, four-is, radicand-is, rooted-of}
 use Rattle.binary64.proofs.RootRounding.{moved-value, moved-fits, nearest-le}
 use Rattle.binary64.proofs.RootMiddles.{Apart, below-middle, above-middle}
 use Rattle.binary64.proofs.Floats.{one-way}
@@ -183,9 +183,10 @@ root-rooted x p f =
     let n = count x in
     let M = radicand n in
     let q = wholeRoot 53 M in
-    let (z, e, s) = radicand-is n _ _ (digits x p f) in
+    let (units, d) = counted x p f in
+    let (z, e, s) = radicand-is n _ _ d in
     let few = s .few in
-    rooted-of x n z (half n) q (M - square q) (counted x p f) s (subst (λ (y : ℕ). WholeRoot y q (M - square q)) e (whole-root 53 M (omega arith)))
+    rooted-of x n z (half n) q (M - square q) units s (subst (λ (y : ℕ). WholeRoot y q (M - square q)) e (whole-root 53 M (omega arith)))
 
 root-steps : (x : Float) → T (fits binary64 x) → Steps x (root x)
 unfolding root rootOf

@@ -2,11 +2,11 @@
 -- Assumes nothing.
 use mathlib.Core.Path.{_≡_, refl, sym, ap}
 use mathlib.Core.Bool.{Bool, true, false, true≢false}
-use Prim.Native.Nat.{zero, suc, _+_, _*_}
+use Prim.Native.Nat.{ℕ, zero, suc, _+_, _*_}
 use native.Mathlib.Nat.{mul-pos, zero-lt-suc}
 use native.Mathlib.Omega.{arith}
 use borrow.Author.Tests.{ltb-true, ltb-false}
-use lib.IntN.{pos}
+use lib.IntN.{ℤ, pos}
 use lib.Dec.{T, lt→ltb}
 use lib.Ieee.{Float, nan, inf, fin, up, down, lt}
 use lib.Ieee.Fits.{up-pos}
@@ -62,22 +62,21 @@ none Ordinary = true
 not-none : {r : Float} → SpecialRoot r ≡ Ordinary → ⊥
 not-none e = true≢false (sym (ap none e))
 
-pub ordinary : (x : Float) → special x ≡ Ordinary → T (positive x)
-ordinary nan e = absurd (not-none e)
-ordinary (inf true) e = absurd (not-none e)
-ordinary (inf false) e = absurd (not-none e)
-ordinary (fin s zero d) e = absurd (not-none e)
-ordinary (fin true (suc m) d) e = absurd (not-none e)
-ordinary (fin false (suc m) d) e = lt→ltb 0 (suc m) (zero-lt-suc m)
+-- what holds of every finite number above zero holds of an ordinary operand
+only-ordinary : (P : Float → Type 0) → ((m : ℕ) (d : ℤ) → P (fin false (suc m) d)) → (x : Float) → special x ≡ Ordinary → P x
+only-ordinary P f nan e = absurd (not-none e)
+only-ordinary P f (inf true) e = absurd (not-none e)
+only-ordinary P f (inf false) e = absurd (not-none e)
+only-ordinary P f (fin s zero d) e = absurd (not-none e)
+only-ordinary P f (fin true (suc m) d) e = absurd (not-none e)
+only-ordinary P f (fin false (suc m) d) e = f m d
 
--- what is asked for of an ordinary operand
+pub ordinary : (x : Float) → special x ≡ Ordinary → T (positive x)
+ordinary = only-ordinary (λ x. T (positive x)) (λ m d. lt→ltb 0 (suc m) (zero-lt-suc m))
+
+-- what is asked for of it
 pub ordinary-is : (x r : Float) → special x ≡ Ordinary → NearestRoot x r → Root x r
-ordinary-is nan r e v = absurd (not-none e)
-ordinary-is (inf true) r e v = absurd (not-none e)
-ordinary-is (inf false) r e v = absurd (not-none e)
-ordinary-is (fin s zero d) r e v = absurd (not-none e)
-ordinary-is (fin true (suc m) d) r e v = absurd (not-none e)
-ordinary-is (fin false (suc m) d) r e v = v
+ordinary-is x r = only-ordinary (λ y. NearestRoot y r → Root y r) (λ m d v. v) x
 
 -- ---- a special operand's root is as it is asked for
 

@@ -21,7 +21,7 @@ returns c =
     let s = c .before in
     let p = s .before in
     let x = p .before .args .x in
-    let units = counted x (ordinary x (p .before .pre)) (rw (p .before .good .0 .1) tt) in
+    let units = counted x (ordinary x (p .before .pre)) (rw (p .before .good .0 .1) tt) .0 in
     rooted-of x (count x) (s .scaled .result .m) (s .scaled .result .half) (c .long-root .result .q) (c .long-root .result .r) units (rw (p .parts .ensures .value) (s .scaled .ensures)) (c .long-root .ensures)
 
 pub whole-root-spec : {M : Type 1} → statement M
