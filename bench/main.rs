@@ -4,17 +4,11 @@ mod port_side;
 mod rust_side;
 mod timing;
 
-#[macro_use]
-#[path = "../oracle/entries.rs"]
-#[allow(unused_macros)]
-mod entries;
+#[cfg(port_linked)]
+#[path = "../oracle/linked.rs"]
+mod linked;
 
-use port_side::Exports;
-
-#[cfg(slices_linked)]
-entries!(slices, "jeturipe_f64_");
-#[cfg(bytes_linked)]
-entries!(bytes, "jeturipe_");
+use oracle::port::Port;
 
 #[derive(Clone, Copy, Debug)]
 pub enum Task {
@@ -29,9 +23,11 @@ pub enum Task {
     Retained,
     BBus,
     Lodf,
+    NumbersOfBytes,
+    BytesOfNumbers,
 }
 
-const TASKS: [Task; 11] = [
+const TASKS: [Task; 13] = [
     Task::Removal,
     Task::Removals,
     Task::Solve,
@@ -43,52 +39,35 @@ const TASKS: [Task; 11] = [
     Task::Retained,
     Task::BBus,
     Task::Lodf,
+    Task::NumbersOfBytes,
+    Task::BytesOfNumbers,
 ];
 
 const SIZES: [usize; 4] = [8, 16, 32, 64];
 
-fn exports() -> Vec<Exports> {
-    vec![
-        #[cfg(slices_linked)]
-        Exports {
-            name: "port",
-            unit: 8,
-            call: slices::on_slices,
-        },
-        #[cfg(bytes_linked)]
-        Exports {
-            name: "port by bytes",
-            unit: 1,
-            call: bytes::on_slices,
-        },
-    ]
-}
+#[cfg(port_linked)]
+const PORT: Option<Port> = Some(linked::call);
+#[cfg(not(port_linked))]
+const PORT: Option<Port> = None;
 
 fn shown(seconds: f64) -> String {
     format!("{:.2} µs", seconds * 1e6)
 }
 
 fn main() {
-    let exports = exports();
-    let mut head = "| task | buses | Rust |".to_string();
-    for e in &exports {
-        head += &format!(" {} | ratio |", e.name);
-    }
-    println!("{head}\n|{}", "---|".repeat(3 + 2 * exports.len()));
+    println!("| task | buses | Rust | port | ratio |\n|---|---|---|---|---|");
     for task in TASKS {
         for n in SIZES {
             let given = inputs::inputs(n);
-            let mut rust = rust_side::side(task, &given);
-            let mut others: Vec<_> = exports.iter().map(|&e| port_side::side(task, &given, e)).collect();
-            let (of_rust, of_port) = timing::timed(rust.as_mut(), &mut others);
-            let mut line = format!("| {task:?} | {n} | {} |", shown(of_rust));
-            for (time, ratio) in of_port {
-                line += &format!(" {} | {ratio:.2} |", shown(time));
-            }
-            println!("{line}");
+            let port = PORT.map(|port| port_side::side(task, &given, port));
+            let (of_rust, of_port) = timing::timed(rust_side::side(task, &given), port);
+            let of_port = of_port.map_or("- | -".to_string(), |(time, ratio)| {
+                format!("{} | {ratio:.2}", shown(time))
+            });
+            println!("| {task:?} | {n} | {} | {of_port} |", shown(of_rust));
         }
     }
-    if exports.is_empty() {
+    if PORT.is_none() {
         println!("bench: no port linked; these are the Rust's times alone");
     }
 }

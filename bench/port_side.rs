@@ -3,18 +3,11 @@ use crate::inputs::Inputs;
 use crate::timing::Work;
 use crate::Task;
 use oracle::call::Call;
-use oracle::functions::reducer::record_words;
 use oracle::functions::ward::Study;
 use oracle::functions::*;
-use oracle::words::{bytes_of, bytes_of_reals, words_of};
-
-// How an export is called, and how many bytes its lengths count by.
-#[derive(Clone, Copy)]
-pub struct Exports {
-    pub name: &'static str,
-    pub unit: usize,
-    pub call: fn(&Call, &[(*mut u8, usize)]) -> u32,
-}
+use oracle::header::{Function, Of};
+use oracle::port::{Part, Port};
+use oracle::words::{bytes_of_reals, words_of, words_of_reals};
 
 fn study(i: &Inputs) -> Study {
     Study {
@@ -32,9 +25,11 @@ fn study(i: &Inputs) -> Study {
 
 fn call(task: Task, i: &Inputs) -> Call {
     let n = i.n;
-    let record = || bytes_of(&record_words(n, &(0..n).collect::<Vec<_>>()));
+    let record = || reducer::bytes(n, &(0..n).collect::<Vec<_>>());
     let y = || bytes_of_reals(&i.y);
     match task {
+        Task::NumbersOfBytes => conversions::of(Function::NumbersOfBytes, &words_of_reals(&i.y)),
+        Task::BytesOfNumbers => conversions::of(Function::BytesOfNumbers, &words_of_reals(&i.y)),
         Task::Removal => eliminate_bus::of(record(), y(), n / 2),
         Task::Removals => eliminate_buses::of(record(), y(), &i.half),
         Task::Solve => solve_linear::of(n, &i.y, &i.right),
@@ -52,21 +47,28 @@ fn call(task: Task, i: &Inputs) -> Call {
 // The slices of one call, aligned as numbers, and where they stand.
 struct Lent {
     _slices: Vec<Vec<u64>>,
-    at: Vec<(*mut u8, usize)>,
+    parts: Vec<Part>,
 }
 
-fn lent(call: &Call, unit: usize) -> Lent {
+fn lent(call: &Call) -> Lent {
     let mut slices: Vec<Vec<u64>> = call.slices.iter().map(|bytes| words_of(bytes)).collect();
-    let at = slices
-        .iter_mut()
-        .map(|s| (s.as_mut_ptr().cast(), 8 * s.len() / unit))
+    let of_slices = call.function.slices().iter().zip(&mut slices);
+    let parts = of_slices
+        .map(|(slice, words)| Part {
+            at: words.as_mut_ptr().cast(),
+            count: if slice.of == Of::Bytes {
+                8 * words.len()
+            } else {
+                words.len()
+            },
+        })
         .collect();
-    Lent { _slices: slices, at }
+    Lent { _slices: slices, parts }
 }
 
 struct PortWork {
     call: Call,
-    exports: Exports,
+    port: Port,
     // a removal changes its slices, so each call has its own
     changing: bool,
     copies: Vec<Lent>,
@@ -76,20 +78,21 @@ impl Work for PortWork {
     fn reset(&mut self, copies: usize) {
         let wanted = if self.changing { copies } else { 1 };
         if self.changing || self.copies.is_empty() {
-            self.copies = (0..wanted).map(|_| lent(&self.call, self.exports.unit)).collect();
+            self.copies = (0..wanted).map(|_| lent(&self.call)).collect();
         }
     }
     fn run(&mut self, copy: usize) {
-        let at = &self.copies[if self.changing { copy } else { 0 }].at;
-        assert_eq!((self.exports.call)(&self.call, at), 0);
+        let parts = &self.copies[if self.changing { copy } else { 0 }].parts;
+        let call = &self.call;
+        assert_eq!((self.port)(call.function, &call.wholes, &call.reals, parts), 0);
     }
 }
 
-pub fn side(task: Task, i: &Inputs, exports: Exports) -> Box<dyn Work> {
+pub fn side(task: Task, i: &Inputs, port: Port) -> Box<dyn Work> {
     let changing = matches!(task, Task::Removal | Task::Removals);
     Box::new(PortWork {
         call: call(task, i),
-        exports,
+        port,
         changing,
         copies: Vec::new(),
     })

@@ -27,27 +27,16 @@ static void draw(void) {
     }
 }
 
-static double port(double x) {
-    double r = 0;
-    jeturipe_sqrt(x, (uint8_t *)&r, 8);
-    return r;
-}
-
 #ifdef OTHER
-uint32_t other_sqrt(double x, uint8_t *out, size_t out_len);
-static double other(double x) {
-    double r = 0;
-    other_sqrt(x, (uint8_t *)&r, 8);
-    return r;
-}
+double other_sqrt(double x);
 #endif
 
 static double processor(double x) { return sqrt(x); }
 
 static const struct { const char *name; double (*root)(double); } sides[SIDES] = {
-    { "port", port },
+    { "port", jeturipe_sqrt },
 #ifdef OTHER
-    { "other", other },
+    { "other", other_sqrt },
 #else
     { NULL, NULL },
 #endif

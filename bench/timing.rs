@@ -70,21 +70,18 @@ fn median(mut xs: Vec<f64>) -> f64 {
     xs[xs.len() / 2]
 }
 
-// The Rust's median time, and for each other side its median time and the median of the rounds' ratios.
-pub fn timed(rust: &mut dyn Work, others: &mut [Box<dyn Work>]) -> (f64, Vec<(f64, f64)>) {
-    round(rust, 2);
-    let calls = ((ROUND_SECONDS / round(rust, 8)) as usize).clamp(2, MOST);
-    let mut times = vec![Vec::new(); 1 + others.len()];
+// The Rust's median time, and the port's with the median of the rounds' ratios.
+pub fn timed(mut rust: Box<dyn Work>, mut port: Option<Box<dyn Work>>) -> (f64, Option<(f64, f64)>) {
+    round(rust.as_mut(), 2);
+    let calls = ((ROUND_SECONDS / round(rust.as_mut(), 8)) as usize).clamp(2, MOST);
+    let (mut of_rust, mut of_port, mut ratios) = (Vec::new(), Vec::new(), Vec::new());
     for _ in 0..ROUNDS {
-        times[0].push(round(rust, calls));
-        for (i, side) in others.iter_mut().enumerate() {
-            times[i + 1].push(round(side.as_mut(), calls));
+        let time = round(rust.as_mut(), calls);
+        of_rust.push(time);
+        if let Some(port) = &mut port {
+            of_port.push(round(port.as_mut(), calls));
+            ratios.push(of_port[of_port.len() - 1] / time);
         }
     }
-    let of_rust = times[0].clone();
-    let ratios = |ts: &Vec<f64>| median(ts.iter().zip(&of_rust).map(|(t, r)| t / r).collect());
-    (
-        median(of_rust.clone()),
-        times[1..].iter().map(|ts| (median(ts.clone()), ratios(ts))).collect(),
-    )
+    (median(of_rust), port.map(|_| (median(of_port), median(ratios))))
 }

@@ -1,19 +1,105 @@
-// The port as linked in: the entries of include/jeturipe.h.
-use oracle::call::Call;
-use oracle::port::{Lent, Port};
-use oracle::small::is_scalar;
+// The port as linked in: the entries of include/jeturipe.h, declared and called by the table of them.
+use oracle::header;
+use oracle::header::Function;
+use oracle::port::Part;
+use std::slice::Iter;
 
-entries!(bytes, "jeturipe_");
+// What a call has still to hand over.
+struct Given<'a> {
+    wholes: Iter<'a, u64>,
+    reals: Iter<'a, f64>,
+    slices: &'a [Part],
+}
 
-pub struct Linked;
+impl Given<'_> {
+    fn whole(&mut self) -> usize {
+        *self.wholes.next().expect("a whole number") as usize
+    }
 
-impl Port for Linked {
-    fn call(&self, call: &Call, slices: &mut [Lent]) -> u32 {
-        let lent: Vec<(*mut u8, usize)> = slices.iter_mut().map(|l| (l.at(), l.len())).collect();
-        if is_scalar(call.function) {
-            bytes::on_numbers(call, &lent)
-        } else {
-            bytes::on_slices(call, &lent)
-        }
+    fn real(&mut self) -> f64 {
+        *self.reals.next().expect("a real number")
+    }
+
+    // where the next slice stands
+    fn at<T>(&self) -> *mut T {
+        self.slices[0].at.cast()
+    }
+
+    // how many elements it has; the one behind it is next
+    fn count(&mut self) -> usize {
+        let count = self.slices[0].count;
+        self.slices = &self.slices[1..];
+        count
+    }
+
+    fn single<T>(&mut self) -> *mut T {
+        let at = self.at();
+        self.count();
+        at
     }
 }
+
+// The number of a call: 0 of an entry that cannot refuse.
+trait Answer {
+    fn number(self, given: &mut Given) -> u32;
+}
+
+impl Answer for u32 {
+    fn number(self, _: &mut Given) -> u32 {
+        self
+    }
+}
+
+impl Answer for () {
+    fn number(self, _: &mut Given) -> u32 {
+        0
+    }
+}
+
+impl Answer for f64 {
+    fn number(self, given: &mut Given) -> u32 {
+        unsafe { *given.single() = self };
+        0
+    }
+}
+
+// Takes the parameters off one by one: [their types in C] [the values handed over], then declares the entry and calls it.
+macro_rules! entry {
+    ($name:ident $given:ident [$($type:ty,)*] [$($value:expr,)*] () $($answer:tt)*) => {{
+        extern "C" {
+            #[link_name = concat!("jeturipe_", stringify!($name))]
+            fn entry($(_: $type),*) $($answer)*;
+        }
+        unsafe { entry($($value),*) }.number(&mut $given)
+    }};
+    ($name:ident $given:ident [$($type:tt)*] [$($value:tt)*] (usize, $($rest:tt)*) $($answer:tt)*) => {
+        entry!($name $given [$($type)* usize,] [$($value)* $given.whole(),] ($($rest)*) $($answer)*)
+    };
+    ($name:ident $given:ident [$($type:tt)*] [$($value:tt)*] (f64, $($rest:tt)*) $($answer:tt)*) => {
+        entry!($name $given [$($type)* f64,] [$($value)* $given.real(),] ($($rest)*) $($answer)*)
+    };
+    ($name:ident $given:ident [$($type:tt)*] [$($value:tt)*] (&[$of:ident], $($rest:tt)*) $($answer:tt)*) => {
+        entry!($name $given [$($type)* *const $of, usize,] [$($value)* $given.at(), $given.count(),]
+            ($($rest)*) $($answer)*)
+    };
+    ($name:ident $given:ident [$($type:tt)*] [$($value:tt)*] (&mut [$of:ident], $($rest:tt)*) $($answer:tt)*) => {
+        entry!($name $given [$($type)* *mut $of, usize,] [$($value)* $given.at(), $given.count(),]
+            ($($rest)*) $($answer)*)
+    };
+    ($name:ident $given:ident [$($type:tt)*] [$($value:tt)*] (&mut $of:ident, $($rest:tt)*) $($answer:tt)*) => {
+        entry!($name $given [$($type)* *mut $of,] [$($value)* $given.single(),] ($($rest)*) $($answer)*)
+    };
+}
+
+macro_rules! linked {
+    ($($function:ident $name:ident($($parameters:tt)*) $(-> $answer:ident)?;)*) => {
+        pub fn call(function: Function, wholes: &[u64], reals: &[f64], slices: &[Part]) -> u32 {
+            let mut given = Given { wholes: wholes.iter(), reals: reals.iter(), slices };
+            match function {
+                $(Function::$function => entry!($name given [] [] ($($parameters)*,) $(-> $answer)?),)*
+            }
+        }
+    };
+}
+
+header!(linked);

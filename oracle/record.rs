@@ -1,17 +1,18 @@
 // Records answers of the Rust and, in one file, of the model of elimination: record FOLDER.
 // README.md describes the files.
 use oracle::ask::quietly;
-use oracle::call::{Call, Function};
-use oracle::functions::{expected, sound, SCALARS};
+use oracle::call::Call;
+use oracle::functions::{conversions, expected, sound};
+use oracle::header::Function;
 use oracle::pivots::Judge;
-use oracle::recorded::{case, plain};
+use oracle::recorded::{case, filled};
 use oracle::source::Source;
 use oracle::spoil::{spoil, unmatch};
 use oracle::words::bytes_of;
 use std::collections::BTreeMap;
 use Function::*;
 
-// a file, and for each function in it: how many small cases, and the larger sizes
+// for each function of a file: how many small cases, and the larger sizes
 type Wanted<'a> = &'a [(Function, usize, &'a [usize])];
 
 // the file of the answers that the model gives; in the others the Rust gives all, Ward's with Q turned
@@ -45,7 +46,7 @@ struct File {
 
 impl File {
     fn add(&mut self, call: &Call) -> bool {
-        let call = plain(call.clone());
+        let call = filled(call.clone());
         let e = expected(&call);
         if self.by_model != matches!(e.judge, Some(Judge::Model { .. })) {
             return false;
@@ -103,56 +104,60 @@ fn sizeable(call: &Call, n: usize) -> bool {
     call.slices.iter().map(|s| s.len()).sum::<usize>() >= 8 * n
 }
 
+const FILES: [(&str, Wanted); 8] = [
+    (
+        "systems.bin",
+        &[
+            (SolveLinear, 500, &[7, 8, 16, 33, 64]),
+            (ComplexMatrixInverse, 400, &[7, 8, 16, 32, 64]),
+        ],
+    ),
+    (
+        "reducers.bin",
+        &[
+            (KronNew, 60, &[16, 64]),
+            (EliminateBus, 180, &[16, 64]),
+            (ActiveBuses, 80, &[16, 64]),
+            (ReducedMatrix, 80, &[16]),
+        ],
+    ),
+    ("lists.bin", &[(EliminateBuses, 220, &[8, 16, 33])]),
+    ("thevenin.bin", &[(TheveninImpedance, 300, &[8, 16, 48])]),
+    (
+        "ward.bin",
+        &[
+            (WardCompute, 300, &[8, 16, 48]),
+            (WardComputeExtended, 300, &[8, 16, 32]),
+        ],
+    ),
+    ("rei.bin", &[(ReiCompute, 250, &[8, 16, 40])]),
+    (
+        "dc.bin",
+        &[
+            (RetainedBuses, 150, &[16, 64]),
+            (BuildBBus, 250, &[8, 16, 64]),
+            (LodfMatrix, 250, &[8, 16, 40]),
+        ],
+    ),
+    (
+        BY_MODEL,
+        &[
+            (SolveLinear, 120, &[8, 16]),
+            (ComplexMatrixInverse, 120, &[8, 16]),
+            (TheveninImpedance, 120, &[8, 16]),
+            (WardCompute, 120, &[8, 16]),
+            (WardComputeExtended, 120, &[8, 16]),
+        ],
+    ),
+];
+
 fn main() {
     quietly();
     let folder = std::env::args().nth(1).expect("a folder");
-    let files: [(&str, Wanted); 9] = [
-        (
-            "systems.bin",
-            &[
-                (SolveLinear, 500, &[7, 8, 16, 33, 64]),
-                (ComplexMatrixInverse, 400, &[7, 8, 16, 32, 64]),
-            ],
-        ),
-        (
-            "reducers.bin",
-            &[
-                (KronNew, 60, &[16, 64]),
-                (EliminateBus, 180, &[16, 64]),
-                (ReducedMatrix, 80, &[16]),
-            ],
-        ),
-        ("lists.bin", &[(EliminateBuses, 220, &[8, 16, 33])]),
-        ("thevenin.bin", &[(TheveninImpedance, 300, &[8, 16, 48])]),
-        (
-            "ward.bin",
-            &[
-                (WardCompute, 300, &[8, 16, 48]),
-                (WardComputeExtended, 300, &[8, 16, 32]),
-            ],
-        ),
-        ("rei.bin", &[(ReiCompute, 250, &[8, 16, 40])]),
-        (
-            "dc.bin",
-            &[
-                (RetainedBuses, 150, &[16, 64]),
-                (BuildBBus, 250, &[8, 16, 64]),
-                (LodfMatrix, 250, &[8, 16, 40]),
-            ],
-        ),
-        ("scalars.bin", &SCALARS.map(|function| (function, 100, &[][..]))),
-        (
-            BY_MODEL,
-            &[
-                (SolveLinear, 120, &[8, 16]),
-                (ComplexMatrixInverse, 120, &[8, 16]),
-                (TheveninImpedance, 120, &[8, 16]),
-                (WardCompute, 120, &[8, 16]),
-                (WardComputeExtended, 120, &[8, 16]),
-            ],
-        ),
-    ];
-    for (i, (name, wanted)) in files.into_iter().enumerate() {
+    let scalars: Vec<_> = Function::scalars().map(|scalar| (scalar, 100, &[][..])).collect();
+    let conversions = conversions::ALL.map(|conversion| (conversion, 60, &[][..]));
+    let others: [(&str, Wanted); 2] = [("scalars.bin", &scalars), ("conversions.bin", &conversions)];
+    for (i, (name, wanted)) in FILES.into_iter().chain(others).enumerate() {
         record(&folder, name, i as u64 + 1, wanted);
     }
 }

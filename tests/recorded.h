@@ -3,8 +3,9 @@
 #include <stdlib.h>
 #include <string.h>
 
-/* More bytes than a file has, and than a slice in it; bytes on both sides of a slice, which no call may change. */
-enum { MOST = 1 << 20, EDGE = 16, FILL = 0x5c };
+/* More bytes than a file has, and than a slice in it; bytes on both sides of a slice, which no call may change. A slice that is not shifted is
+ * aligned for elements of 8 bytes and no further. */
+enum { MOST = 1 << 20, EDGE = 24, FILL = 0x5c };
 
 typedef struct {
     const uint8_t *at, *end;
@@ -56,8 +57,8 @@ static Head head(Reader *r) {
     return h;
 }
 
-/* A slice within a buffer, at any alignment. */
-static Slice room(size_t len, size_t shift) {
+/* A slice within a buffer, shifted from where it would be aligned. */
+static Slice within(size_t len, size_t shift) {
     Slice s = {malloc(EDGE + shift + len + EDGE), NULL, len};
     if (!s.buffer)
         abort();
@@ -72,7 +73,7 @@ static Slice slice(Reader *r, size_t shift) {
     uint64_t repeated = word(r);
     const uint8_t *bytes = repeated ? NULL : take(r, len);
     r->cut_off |= repeated > 256 || len > MOST;
-    Slice s = room(r->cut_off ? 0 : len, shift);
+    Slice s = within(r->cut_off ? 0 : len, shift);
     if (bytes)
         memcpy(s.at, bytes, s.len);
     else
@@ -80,13 +81,38 @@ static Slice slice(Reader *r, size_t shift) {
     return s;
 }
 
-/* The same bytes, and those around the first as they were. */
 static int same(const Slice *a, const Slice *b) {
-    size_t before = (size_t)(a->at - a->buffer);
-    int kept = a->len == b->len && memcmp(a->at, b->at, a->len) == 0;
-    for (size_t i = 0; i < before; i++)
-        kept &= a->buffer[i] == FILL;
+    return a->len == b->len && memcmp(a->at, b->at, a->len) == 0;
+}
+
+/* The bytes around a slice are as they were. */
+static int edges_held(const Slice *s) {
+    int held = 1;
+    for (const uint8_t *b = s->buffer; b < s->at; b++)
+        held &= *b == FILL;
     for (size_t i = 0; i < EDGE; i++)
-        kept &= a->at[a->len + i] == FILL;
-    return kept;
+        held &= s->at[s->len + i] == FILL;
+    return held;
+}
+
+/* Bytes of numbers: every NaN in the pattern that is written, 7ff8000000000000. */
+static void plain(const Slice *s) {
+    static const uint8_t nan[8] = {0, 0, 0, 0, 0, 0, 0xf8, 0x7f};
+    for (size_t i = 0; i + 8 <= s->len; i += 8) {
+        Reader r = {s->at + i, s->at + i + 8, 0};
+        double x = real(&r);
+        if (x != x)
+            memcpy(s->at + i, nan, sizeof nan);
+    }
+}
+
+/* A room of numbers: every NaN in one of several patterns, by its place. */
+static void vary(const Slice *s) {
+    static const uint64_t nans[4] = {0x7ff0000000000001, 0xfff8000000000000, 0xffffffffffffffff, 0x7ff8000000000000};
+    for (size_t i = 0; i + 8 <= s->len; i += 8) {
+        double x;
+        memcpy(&x, s->at + i, sizeof x);
+        if (x != x)
+            memcpy(s->at + i, &nans[i / 8 % 4], sizeof x);
+    }
 }

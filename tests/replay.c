@@ -1,83 +1,159 @@
-/* Makes recorded calls again through the C entries: replay FILE.. prints of each file how many agree, in the
- * number answered and in every byte of every slice, those that are only read too. */
+/* Makes recorded calls again through the C entries: replay FILE.. prints of each file how many agree, in the number answered and in every byte
+ * of every slice, those that are only read too. Numbers and words go from their bytes into an aligned room and back by the entries' own
+ * conversions. */
 #include "jeturipe.h"
 #include "recorded.h"
 
 #include <stdio.h>
 
-enum { FUNCTIONS = 22, SLICES = 14 };
+enum { FUNCTIONS = 27, SLICES = 16 };
 
-/* The slices of each entry as the header has them: w those that it may write, r those that it only reads. */
+/* The slices of each entry as the header has them: n numbers, w words, b bytes, in capitals where it may write them; x one number and k one
+ * word that it answers, by pointer or as its value. */
 static const char *const SHAPES[FUNCTIONS + 1] = {
-    "",     "w",   "w",  "w",  "w",    "w",   "w",    "w",           "w",              "w",          "rrww",
-    "rww",  "rw",  "ww", "wwrw", "rrw", "rrww", "rrrrrrwwwww", "rrrrrrrwwwwwww", "rrrrrwwwww", "rww", "rrrw",
-    "rrrw",
+    "",
+    "bN", "nB", "bW", "wB",
+    "xx", "xx", "xx", "xx", "xx", "xx", "x", "x", "x",
+    "nnNN", "nNN",
+    "nB", "BN", "BNwk", "bWk", "bnN", "bnNxx",
+    "nwwwnnNNNNkkx", "nwwwnnnNNNNNNkkx", "wwnnnWNWNkxxxk",
+    "wWk", "wwnN", "nwwN",
 };
+
+/* A slice in bytes, which go back and forth; its room, and what that held before the call; and the bytes that must come back. */
+typedef struct {
+    char kind;
+    Slice bytes, room, before, left;
+} Lent;
+
+static int is(const Lent *l, const char *kinds) { return strchr(kinds, l->kind) != NULL; }
 
 #define W(i) h->whole[i]
 #define R(i) h->real[i]
-#define S(i) s[i].at, s[i].len
+#define BYTES(i) l[i].bytes.at, l[i].bytes.len
+#define NUMBER(i) (double *)(void *)l[i].room.at
+#define NUMBERS(i) NUMBER(i), l[i].room.len / 8
+#define WORD(i) (size_t *)(void *)l[i].room.at
+#define WORDS(i) WORD(i), l[i].room.len / 8
 
-static uint32_t on_numbers(const Head *h, const Slice *s) {
+static uint32_t on_numbers(const Head *h, const Lent *l) {
     switch (h->function) {
-    case 1: return jeturipe_cadd(R(0), R(1), R(2), R(3), S(0));
-    case 2: return jeturipe_csub(R(0), R(1), R(2), R(3), S(0));
-    case 3: return jeturipe_cneg(R(0), R(1), S(0));
-    case 4: return jeturipe_cmul(R(0), R(1), R(2), R(3), S(0));
-    case 5: return jeturipe_cdiv(R(0), R(1), R(2), R(3), S(0));
-    case 6: return jeturipe_complex_inv(R(0), R(1), S(0));
-    case 7: return jeturipe_abs(R(0), S(0));
-    case 8: return jeturipe_sqrt(R(0), S(0));
-    default: return jeturipe_magnitude(R(0), R(1), S(0));
+    case 1: return jeturipe_numbers_of_bytes(BYTES(0), NUMBERS(1));
+    case 2: return jeturipe_bytes_of_numbers(NUMBERS(0), BYTES(1));
+    case 3: return jeturipe_words_of_bytes(BYTES(0), WORDS(1));
+    case 4: return jeturipe_bytes_of_words(WORDS(0), BYTES(1));
+    case 5: return jeturipe_cadd(R(0), R(1), R(2), R(3), NUMBER(0), NUMBER(1)), 0;
+    case 6: return jeturipe_csub(R(0), R(1), R(2), R(3), NUMBER(0), NUMBER(1)), 0;
+    case 7: return jeturipe_cmul(R(0), R(1), R(2), R(3), NUMBER(0), NUMBER(1)), 0;
+    case 8: return jeturipe_cdiv(R(0), R(1), R(2), R(3), NUMBER(0), NUMBER(1)), 0;
+    case 9: return jeturipe_cneg(R(0), R(1), NUMBER(0), NUMBER(1)), 0;
+    case 10: return jeturipe_complex_inv(R(0), R(1), NUMBER(0), NUMBER(1)), 0;
+    case 11: return *NUMBER(0) = jeturipe_abs(R(0)), 0;
+    case 12: return *NUMBER(0) = jeturipe_sqrt(R(0)), 0;
+    default: return *NUMBER(0) = jeturipe_magnitude(R(0), R(1)), 0;
     }
 }
 
-static uint32_t on_slices(const Head *h, const Slice *s) {
+static uint32_t on_slices(const Head *h, const Lent *l) {
     switch (h->function) {
-    case 10: return jeturipe_solve_linear(W(0), S(0), S(1), S(2), S(3));
-    case 11: return jeturipe_complex_matrix_inverse(W(0), S(0), S(1), S(2));
-    case 12: return jeturipe_kron_new(W(0), S(0), S(1));
-    case 13: return jeturipe_eliminate_bus(S(0), S(1), W(0));
-    case 14: return jeturipe_eliminate_buses(S(0), S(1), S(2), S(3));
-    case 15: return jeturipe_reduced_matrix(S(0), S(1), S(2));
-    case 16: return jeturipe_thevenin_impedance(S(0), S(1), W(0), W(1), S(2), S(3));
-    case 17: return jeturipe_ward_compute(W(0), S(0), S(1), S(2), S(3), R(0), S(4), S(5), S(6), S(7), S(8), S(9), S(10));
-    case 18:
-        return jeturipe_ward_compute_extended(W(0), S(0), S(1), S(2), S(3), R(0), S(4), S(5), S(6), S(7), S(8), S(9),
-                                              S(10), S(11), S(12), S(13));
-    case 19: return jeturipe_rei_compute(S(0), S(1), S(2), S(3), S(4), W(0), S(5), S(6), S(7), S(8), S(9));
-    case 20: return jeturipe_retained_buses(W(0), S(0), S(1), S(2));
-    case 21: return jeturipe_build_b_bus(W(0), S(0), S(1), S(2), S(3));
-    default: return jeturipe_lodf_matrix(W(0), S(0), S(1), S(2), S(3));
+    case 14: return jeturipe_solve_linear(W(0), NUMBERS(0), NUMBERS(1), NUMBERS(2), NUMBERS(3));
+    case 15: return jeturipe_complex_matrix_inverse(W(0), NUMBERS(0), NUMBERS(1), NUMBERS(2));
+    case 16: return jeturipe_kron_new(W(0), NUMBERS(0), BYTES(1));
+    case 17: return jeturipe_eliminate_bus(BYTES(0), NUMBERS(1), W(0));
+    case 18: return jeturipe_eliminate_buses(BYTES(0), NUMBERS(1), WORDS(2), WORD(3));
+    case 19: return jeturipe_active_buses(BYTES(0), WORDS(1), WORD(2));
+    case 20: return jeturipe_reduced_matrix(BYTES(0), NUMBERS(1), NUMBERS(2));
+    case 21: return jeturipe_thevenin_impedance(BYTES(0), NUMBERS(1), W(0), W(1), NUMBERS(2), NUMBER(3), NUMBER(4));
+    case 22:
+        return jeturipe_ward_compute(W(0), NUMBERS(0), WORDS(1), WORDS(2), WORDS(3), R(0), NUMBERS(4), NUMBERS(5), NUMBERS(6), NUMBERS(7),
+                                     NUMBERS(8), NUMBERS(9), WORD(10), WORD(11), NUMBER(12));
+    case 23:
+        return jeturipe_ward_compute_extended(W(0), NUMBERS(0), WORDS(1), WORDS(2), WORDS(3), R(0), NUMBERS(4), NUMBERS(5), NUMBERS(6),
+                                              NUMBERS(7), NUMBERS(8), NUMBERS(9), NUMBERS(10), NUMBERS(11), NUMBERS(12), WORD(13),
+                                              WORD(14), NUMBER(15));
+    case 24:
+        return jeturipe_rei_compute(WORDS(0), WORDS(1), NUMBERS(2), NUMBERS(3), NUMBERS(4), W(0), WORDS(5), NUMBERS(6), WORDS(7), NUMBERS(8),
+                                    WORD(9), NUMBER(10), NUMBER(11), NUMBER(12), WORD(13));
+    case 25: return jeturipe_retained_buses(W(0), WORDS(0), WORDS(1), WORD(2));
+    case 26: return jeturipe_build_b_bus(W(0), WORDS(0), WORDS(1), NUMBERS(2), NUMBERS(3));
+    default: return jeturipe_lodf_matrix(W(0), NUMBERS(0), WORDS(1), WORDS(2), NUMBERS(3));
     }
 }
 
-/* Reads the slices of one kind, each at another alignment. */
-static void slices(Reader *r, const char *shape, char kind, Slice *s) {
+/* Fills the room, with NaNs of several patterns, and makes the bytes those that come back where it is held; 0 where they do not fit. */
+static int enter(Lent *l) {
+    size_t len = l->bytes.len;
+    int fits = is(l, "bB") || (is(l, "xk") ? len == 8 : len % 8 == 0);
+    l->room = within(is(l, "bB") ? 0 : len, 0);
+    l->before = within(l->room.len, 0);
+    if (fits && is(l, "wWk"))
+        fits = jeturipe_words_of_bytes(BYTES(0), WORDS(0)) == 0;
+    if (fits && is(l, "nNx")) {
+        fits = jeturipe_numbers_of_bytes(BYTES(0), NUMBERS(0)) == 0;
+        vary(&l->room);
+        plain(&l->bytes);
+    }
+    memcpy(l->before.at, l->room.at, l->room.len);
+    return fits;
+}
+
+/* After the call: the bytes must come back as recorded, and a room that is only read, or held by a refusal, must have its bits. */
+static int leave(Lent *l, uint64_t outcome) {
+    int held = (is(l, "nwb") || outcome) && same(&l->bytes, &l->left);
+    int agrees = 1;
+    for (size_t i = 0; i < l->room.len; i++)
+        l->bytes.at[i] ^= 0xff;
+    if (is(l, "wWk"))
+        agrees = jeturipe_bytes_of_words(WORDS(0), BYTES(0)) == 0;
+    if (is(l, "nNx"))
+        agrees = jeturipe_bytes_of_numbers(NUMBERS(0), BYTES(0)) == 0;
+    agrees &= edges_held(&l->room) && (!held || same(&l->room, &l->before));
+    return agrees && edges_held(&l->bytes) && same(&l->bytes, &l->left);
+}
+
+static void give_back(const Lent *l) {
+    free(l->bytes.buffer);
+    free(l->room.buffer);
+    free(l->before.buffer);
+    free(l->left.buffer);
+}
+
+/* Reads a case's slices, each at another alignment: the written ones, those that are only read, the written ones after the call. What is only
+ * read comes back as it stands there. */
+static void slices(Reader *r, const char *shape, size_t turn, Lent *l) {
+    for (size_t i = 0; shape[i]; i++) {
+        l[i].kind = shape[i];
+        if (!is(&l[i], "nwb"))
+            l[i].bytes = slice(r, (turn + i) % 8);
+    }
     for (size_t i = 0; shape[i]; i++)
-        if (shape[i] == kind)
-            s[i] = slice(r, i);
+        if (is(&l[i], "nwb")) {
+            Reader again = *r;
+            l[i].bytes = slice(r, (turn + i) % 8);
+            l[i].left = slice(&again, 0);
+            if (l[i].kind == 'n')
+                plain(&l[i].left);
+        }
+    for (size_t i = 0; shape[i]; i++)
+        if (!is(&l[i], "nwb"))
+            l[i].left = slice(r, 0);
 }
 
-/* One case: the slices lent and those expected after the call. What is only read is expected as it stands there. */
-static int case_agrees(Reader r) {
-    Slice lent[SLICES], left[SLICES];
+static int case_agrees(Reader r, size_t turn) {
+    Lent l[SLICES];
     Head h = head(&r);
     if (r.cut_off || h.function < 1 || h.function > FUNCTIONS)
         return 0;
     const char *shape = SHAPES[h.function];
-    slices(&r, shape, 'w', lent);
-    Reader again = r;
-    slices(&r, shape, 'r', lent);
-    slices(&again, shape, 'r', left);
-    slices(&r, shape, 'w', left);
+    slices(&r, shape, turn, l);
     int agrees = !r.cut_off && r.at == r.end;
+    for (size_t i = 0; shape[i]; i++)
+        agrees &= enter(&l[i]);
     if (agrees)
-        agrees = (h.function < 10 ? on_numbers(&h, lent) : on_slices(&h, lent)) == h.outcome;
+        agrees = (h.function < 14 ? on_numbers(&h, l) : on_slices(&h, l)) == h.outcome;
     for (size_t i = 0; shape[i]; i++) {
-        agrees &= same(&lent[i], &left[i]);
-        free(lent[i].buffer);
-        free(left[i].buffer);
+        agrees = agrees && leave(&l[i], h.outcome);
+        give_back(&l[i]);
     }
     return agrees;
 }
@@ -89,7 +165,7 @@ static int replay(const char *name, Reader r) {
         size_t len = word(&r);
         const uint8_t *bytes = take(&r, len);
         if (bytes)
-            agree += case_agrees((Reader){bytes, bytes + len, 0});
+            agree += case_agrees((Reader){bytes, bytes + len, 0}, i);
     }
     printf("%s: %llu of %llu agree\n", name, (unsigned long long)agree, (unsigned long long)count);
     return agree == count && !r.cut_off && r.at == r.end;

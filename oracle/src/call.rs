@@ -1,41 +1,17 @@
 // One call of an entry: the numbers and the slices that it is handed, in the order of include/jeturipe.h.
-
-#[derive(Clone, Copy, Debug, PartialEq, Eq, PartialOrd, Ord)]
-pub enum Function {
-    Cadd,
-    Csub,
-    Cneg,
-    Cmul,
-    Cdiv,
-    ComplexInv,
-    Abs,
-    Sqrt,
-    Magnitude,
-    SolveLinear,
-    ComplexMatrixInverse,
-    KronNew,
-    EliminateBus,
-    EliminateBuses,
-    ReducedMatrix,
-    TheveninImpedance,
-    WardCompute,
-    WardComputeExtended,
-    ReiCompute,
-    RetainedBuses,
-    BuildBBus,
-    LodfMatrix,
-}
+pub use crate::header::Function;
 
 #[derive(Clone, Debug)]
 pub struct Call {
     pub function: Function,
     pub wholes: Vec<u64>,
     pub reals: Vec<f64>,
+    // in bytes, 8 a number; a single answer is a slice of one
     pub slices: Vec<Vec<u8>>,
 }
 
 impl Call {
-    // numbers of 8 bytes in slice i, the last one perhaps cut
+    // numbers of 8 bytes in slice i
     pub fn count(&self, i: usize) -> usize {
         self.slices[i].len() / 8
     }
@@ -43,11 +19,6 @@ impl Call {
     // slice i holds exactly so many numbers
     pub fn holds(&self, i: usize, count: u128) -> bool {
         self.slices[i].len() as u128 == 8 * count
-    }
-
-    // some slice ends within a number
-    pub fn cut(&self) -> bool {
-        self.slices.iter().any(|s| s.len() % 8 != 0)
     }
 
     pub fn size(&self) -> usize {

@@ -2,17 +2,28 @@
 use crate::ask::{Asked, Kind};
 use crate::call::{Call, Function};
 use crate::differences::{judged, state_number, Difference, Told};
+use crate::header::Of;
 use crate::pivots::{self, Judge, Model};
-use crate::words::{words_of, NAN};
+use crate::words::{bytes_of, plain, words_of};
 
 #[derive(Clone, Debug, PartialEq)]
 pub enum After {
-    // the same bytes
+    // the same bits
     Held,
-    // the same numbers, a NaN perhaps written anew
-    Alike,
     Zero,
     Words(Vec<u64>),
+}
+
+impl After {
+    // the bytes that come back of a slice that held `before`
+    pub fn bytes(&self, of: Of, before: &[u8]) -> Vec<u8> {
+        match self {
+            After::Held if of == Of::Numbers => bytes_of(&plain(of, &words_of(before))),
+            After::Held => before.to_vec(),
+            After::Zero => vec![0; before.len()],
+            After::Words(words) => bytes_of(words),
+        }
+    }
 }
 
 pub struct Expected {
@@ -47,6 +58,14 @@ impl Expected {
 
     pub fn words(self, slice: usize, words: Vec<u64>) -> Self {
         self.with(slice, After::Words(words))
+    }
+
+    // single answers, one in each slice from the first
+    pub fn singles(self, first: usize, words: &[u64]) -> Self {
+        let places = first..;
+        places
+            .zip(words)
+            .fold(self, |e, (slice, &word)| e.words(slice, vec![word]))
     }
 
     // of an answer that the Rust gives
@@ -139,23 +158,6 @@ fn may_refuse(function: Function, number: u32) -> bool {
         ),
         _ => false,
     }
-}
-
-// Whether a slice that held `before` holds what it must.
-pub fn met(after: &After, before: &[u8], got: &[u8]) -> bool {
-    match after {
-        After::Held => got == before,
-        After::Zero => got.iter().all(|&b| b == 0),
-        After::Words(words) => words_of(got) == *words && got.len() == 8 * words.len(),
-        After::Alike => {
-            let (a, b) = (words_of(before), words_of(got));
-            a.len() == b.len() && a.iter().zip(&b).all(|(&x, &y)| x == y || (nan(x) && y == NAN))
-        }
-    }
-}
-
-fn nan(word: u64) -> bool {
-    f64::from_bits(word).is_nan()
 }
 
 // The refusals of a list of (number, whether it applies), lowest first.

@@ -65,6 +65,17 @@ pub const SPECIALS: [f64; 40] = [
     -1e-162,
 ];
 
+// patterns of a NaN, quiet and signalling, of both signs
+pub const NANS: [u64; 7] = [
+    0xfff8_0000_0000_0000,
+    0x7ff0_0000_0000_0001,
+    0xfff0_0000_0000_0001,
+    0x7fff_ffff_ffff_ffff,
+    0xffff_ffff_ffff_ffff,
+    0x7ff7_ffff_ffff_ffff,
+    0xfff4_0000_0000_0000,
+];
+
 // 2^e, for exponents within the normal range
 pub fn two_to(e: i64) -> f64 {
     f64::from_bits(((e + 1023) as u64) << 52)

@@ -1,12 +1,17 @@
-// The port's side of a comparison: whatever carries out a call in lent slices.
-use crate::call::Call;
+// The port's side of a comparison: what carries out a call, and the bytes that it is lent.
+use crate::header::Function;
 
-pub trait Port {
-    // carries the call out on these slices and gives the number that the entry returned
-    fn call(&self, call: &Call, slices: &mut [Lent]) -> u32;
+// A slice as an entry takes it: where it stands, and how many elements it has.
+#[derive(Clone, Copy)]
+pub struct Part {
+    pub at: *mut u8,
+    pub count: usize,
 }
 
-// A slice within a buffer with other bytes around it, at any alignment.
+// Calls the entry with these whole numbers, real numbers and slices, and gives the number that it answered.
+pub type Port = fn(Function, &[u64], &[f64], &[Part]) -> u32;
+
+// Bytes within a buffer with others around them, at any alignment.
 pub struct Lent {
     buffer: Vec<u8>,
     start: usize,
@@ -32,16 +37,17 @@ impl Lent {
         &self.buffer[self.start..self.start + self.length]
     }
 
-    pub fn at(&mut self) -> *mut u8 {
-        self.buffer[self.start..].as_mut_ptr()
+    // every byte becomes another, so that what is written after is seen
+    pub fn flip(&mut self) {
+        let end = self.start + self.length;
+        self.buffer[self.start..end].iter_mut().for_each(|b| *b = !*b);
     }
 
-    pub fn len(&self) -> usize {
-        self.length
-    }
-
-    pub fn is_empty(&self) -> bool {
-        self.length == 0
+    pub fn part(&mut self) -> Part {
+        Part {
+            at: self.buffer[self.start..].as_mut_ptr(),
+            count: self.length,
+        }
     }
 
     // nothing outside the slice was written

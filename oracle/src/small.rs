@@ -1,9 +1,10 @@
 // Every small case: one and two buses with entries from short lists, and short lists of branches.
-use crate::call::{Call, Function};
+use crate::call::Call;
 use crate::functions::*;
-use crate::functions::{reducer::record_words, ward::Study};
-use crate::numbers::SPECIALS;
-use crate::words::{bytes_of, bytes_of_reals};
+use crate::functions::{reducer::bytes, ward::Study};
+use crate::header::{Function, Of};
+use crate::numbers::{NANS, SPECIALS};
+use crate::words::bytes_of_reals;
 
 // all lists of `count` numbers out of `from`
 fn each(from: &[f64], count: usize, visit: &mut dyn FnMut(&[f64])) {
@@ -21,7 +22,7 @@ fn each(from: &[f64], count: usize, visit: &mut dyn FnMut(&[f64])) {
 
 // the record of a making of n buses
 fn fresh(n: usize) -> Vec<u8> {
-    bytes_of(&record_words(n, &(0..n).collect::<Vec<_>>()))
+    bytes(n, &(0..n).collect::<Vec<_>>())
 }
 
 // every call of a matrix of one or two buses
@@ -127,10 +128,53 @@ fn branches(visit: &mut dyn FnMut(Call)) {
     }
 }
 
+// every set of up to six buses left
+fn active(visit: &mut dyn FnMut(Call)) {
+    for made in 0..=6 {
+        for set in 0..1 << made {
+            let left: Vec<usize> = (0..made).filter(|bus| set >> bus & 1 == 1).collect();
+            visit(active_buses::of(bytes(made, &left), made));
+        }
+    }
+}
+
+// records that are not of their length, beside sizes and lists up to the limit and above it
+fn unfit(visit: &mut dyn FnMut(Call)) {
+    for length in [0, 8, 520, 527, 529, 536, 1056] {
+        for count in [0, 1, 64, 65] {
+            let mut call = kron_new::of(count, &vec![1.0; 2 * count * count]);
+            call.slices[1].resize(length, 0);
+            visit(call);
+            let mut record = fresh(1);
+            record.resize(length, 0);
+            let y = bytes_of_reals(&[1.0, 0.0]);
+            visit(eliminate_buses::of(record, y, &vec![0; count]));
+        }
+    }
+}
+
+// every edge number and pattern of a NaN alone, and every length in bytes beside every short count
+fn converted(visit: &mut dyn FnMut(Call)) {
+    for function in conversions::ALL {
+        let edges = SPECIALS.iter().map(|x| x.to_bits());
+        for word in edges.chain(NANS) {
+            visit(conversions::of(function, &[word]));
+        }
+        let bytes = function.slices().iter().position(|slice| slice.of == Of::Bytes);
+        for length in 0..40 {
+            for count in 0..5 {
+                let mut call = conversions::of(function, &NANS[..count]);
+                call.slices[bytes.expect("a slice of bytes")].resize(length, 0);
+                visit(call);
+            }
+        }
+    }
+}
+
 pub fn every(visit: &mut dyn FnMut(Call)) {
     each(&SPECIALS, 2, &mut |y| {
         on_matrix(1, y, visit);
-        for function in SCALARS {
+        for function in Function::scalars() {
             let (a, b) = (y[0], y[1]);
             visit(scalars::of(function, vec![a, b, b, a]));
             visit(scalars::of(function, vec![1.0, a, a, b]));
@@ -144,8 +188,7 @@ pub fn every(visit: &mut dyn FnMut(Call)) {
     equal_pivots(visit);
     currents(visit);
     branches(visit);
-}
-
-pub fn is_scalar(function: Function) -> bool {
-    SCALARS.contains(&function)
+    active(visit);
+    unfit(visit);
+    converted(visit);
 }

@@ -1,8 +1,9 @@
 // Calls made wrong: lengths, sizes, lists and records that are refused.
 use crate::call::{Call, Function};
 use crate::functions::reducer::RECORD;
+use crate::header::Of;
 use crate::source::Source;
-use crate::words::{bytes_of, words_of};
+use crate::words::words_of;
 
 pub fn spoil(s: &mut Source, call: &mut Call) {
     let ways = 1 + s.below(5) / 4;
@@ -40,25 +41,35 @@ pub fn unmatch(s: &mut Source, call: &mut Call) {
     );
 }
 
-// a slice longer or shorter, by whole numbers or within one
+// a slice longer or shorter: bytes by any number of them, others by whole elements; single answers have no length
 fn stretch(s: &mut Source, call: &mut Call) {
-    let i = s.below(call.slices.len());
+    let slices = call.function.slices();
+    let open: Vec<usize> = (0..slices.len()).filter(|&i| !slices[i].single).collect();
+    if open.is_empty() {
+        return;
+    }
+    let i = s.pick(&open);
     let length = call.slices[i].len();
-    let new = match s.below(12) {
-        0 => length + 1,
-        1 => length.saturating_sub(1),
-        2 => length + 4,
-        3 => 0,
-        4 => 2 * length,
-        5 => 8 * (64 + s.below(3)),
-        6 => length + 16,
-        7 => length.saturating_sub(16),
-        8 => 8 * 64 + 8 + s.below(8),
-        9 => length / 2,
-        10 => length.saturating_sub(8),
-        _ => length + 8,
+    let new = if slices[i].of == Of::Bytes && s.one_in(3) {
+        let any = s.below(600);
+        s.pick(&[length + 1, length.saturating_sub(1), length + 4, any])
+    } else {
+        8 * elements(s, length / 8)
     };
     call.slices[i].resize(new, 0);
+}
+
+fn elements(s: &mut Source, count: usize) -> usize {
+    match s.below(8) {
+        0 => 0,
+        1 => 2 * count,
+        2 => 64 + s.below(3),
+        3 => count + 2,
+        4 => count.saturating_sub(2),
+        5 => count / 2,
+        6 => count.saturating_sub(1),
+        _ => count + 1,
+    }
 }
 
 // another size or bus number
@@ -77,16 +88,15 @@ fn resize(s: &mut Source, call: &mut Call) {
     };
 }
 
-fn lists(function: Function) -> &'static [usize] {
-    use Function::*;
-    match function {
-        EliminateBus | ReducedMatrix | TheveninImpedance => &[0],
-        EliminateBuses => &[0, 0, 0, 2],
-        WardCompute | WardComputeExtended => &[1, 2, 3],
-        BuildBBus => &[0, 1],
-        LodfMatrix => &[1, 2],
-        _ => &[],
-    }
+// lists of words and records that the call reads; a record that it reads is its first slice
+fn lists(function: Function) -> Vec<usize> {
+    let slices = function.slices();
+    let read = |i: &usize| match slices[*i].of {
+        Of::Words => !slices[*i].written,
+        Of::Bytes => *i == 0,
+        Of::Numbers => false,
+    };
+    (0..slices.len()).filter(read).collect()
 }
 
 // a number in a list or record that should not stand there
@@ -95,8 +105,8 @@ fn unlist(s: &mut Source, call: &mut Call) {
     if lists.is_empty() {
         return stretch(s, call);
     }
-    let i = s.pick(lists);
-    let mut words = words_of(&call.slices[i]);
+    let i = s.pick(&lists);
+    let words = words_of(&call.slices[i]);
     if words.is_empty() {
         return stretch(s, call);
     }
@@ -106,13 +116,13 @@ fn unlist(s: &mut Source, call: &mut Call) {
         s.below(words.len())
     };
     let other = words[s.below(words.len())];
-    words[at] = match s.below(6) {
+    let new = match s.below(6) {
         0 => other,
-        1 => words[at] + 1,
+        1 => words[at].wrapping_add(1),
         2 => words[at].wrapping_sub(1),
         3 => s.pick(&[64, 65, 66, 1 << 32, u64::MAX, 1 << 61]),
         4 => 0,
         _ => call.wholes.first().copied().unwrap_or(1),
     };
-    call.slices[i] = bytes_of(&words);
+    call.slices[i][8 * at..8 * at + 8].copy_from_slice(&new.to_le_bytes());
 }

@@ -1,11 +1,12 @@
 // Counts of a run, by entry, by number and by difference, and the first calls that fail.
 use crate::ask::Manner;
 use crate::call::{shown, Call, Function};
+use crate::crossing::Crossing;
 use crate::differences::{Difference, Told};
-use crate::expected::{met, Expected};
+use crate::expected::Expected;
 use crate::functions::expected;
 use crate::pivots::Judge;
-use crate::port::{Lent, Port};
+use crate::port::{Part, Port};
 use std::collections::BTreeMap;
 
 #[derive(Default)]
@@ -30,7 +31,7 @@ const PIVOTING: [Function; 5] = [
 
 impl Tally {
     // one call: what the reference says of it and, where there is a port, what that does
-    pub fn run(&mut self, call: &Call, port: Option<&dyn Port>) {
+    pub fn run(&mut self, call: &Call, port: Option<Port>) {
         let e = expected(call);
         *self.calls.entry(call.function).or_default() += 1;
         *self.answers.entry((call.function, e.number)).or_default() += 1;
@@ -117,29 +118,21 @@ impl Tally {
     }
 }
 
-fn compared(call: &Call, e: &Expected, port: &dyn Port, turn: usize) -> Result<(), String> {
-    let mut lent: Vec<Lent> = call
-        .slices
-        .iter()
-        .enumerate()
-        .map(|(i, s)| Lent::of(s, (turn + i) % 8))
-        .collect();
-    let number = port.call(call, &mut lent);
+fn compared(call: &Call, e: &Expected, port: Port, turn: usize) -> Result<(), String> {
+    let of_slice = |i: usize| move |why: String| format!("slice {i} {why}");
+    let slices = call.function.slices();
+    assert_eq!(call.slices.len(), slices.len());
+    let mut crossings = Vec::new();
+    for (i, (&slice, bytes)) in slices.iter().zip(&call.slices).enumerate() {
+        crossings.push(Crossing::to(port, slice, bytes, (turn + i) % 8).map_err(of_slice(i))?);
+    }
+    let parts: Vec<Part> = crossings.iter_mut().map(Crossing::part).collect();
+    let number = port(call.function, &call.wholes, &call.reals, &parts);
     if number != e.number {
         return Err(format!("answered {number}, expected {}", e.number));
     }
-    for (i, after) in e.after.iter().enumerate() {
-        if !lent[i].edges_held() {
-            return Err(format!("wrote outside slice {i}"));
-        }
-        if !met(after, &call.slices[i], lent[i].bytes()) {
-            let mut got = call.clone();
-            got.slices[i] = lent[i].bytes().to_vec();
-            return Err(format!(
-                "answered {number}, slice {i} must be {after:?} and is in\n  {}",
-                shown(&got)
-            ));
-        }
+    for (i, crossing) in crossings.into_iter().enumerate() {
+        crossing.back(port, &e.after[i], &call.slices[i]).map_err(of_slice(i))?;
     }
     Ok(())
 }

@@ -1,4 +1,5 @@
 // Numbers as 8 little-endian bytes, and flat slices as rows of complex numbers.
+use crate::header::Of;
 
 pub type Pair = (f64, f64);
 pub type Rows = Vec<Vec<Pair>>;
@@ -11,6 +12,18 @@ pub fn word(x: f64) -> u64 {
         NAN
     } else {
         x.to_bits()
+    }
+}
+
+pub fn nan(word: u64) -> bool {
+    f64::from_bits(word).is_nan()
+}
+
+// words as the port's bytes have them: of numbers, every NaN in that pattern
+pub fn plain(of: Of, words: &[u64]) -> Vec<u64> {
+    match of {
+        Of::Numbers => words.iter().map(|&w| if nan(w) { NAN } else { w }).collect(),
+        _ => words.to_vec(),
     }
 }
 

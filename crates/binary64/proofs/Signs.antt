@@ -1,6 +1,6 @@
 -- A turned sign passes through a product and a quotient, to the bit.
---     neg-mul, neg-div  (-x) y is -(x y), and (-x) / y is -(x / y)
---     neg-neg           a sign turned twice is as it was
+--     neg-mul, mul-neg, neg-div  (-x) y and x (-y) are -(x y), and (-x) / y is -(x / y)
+--     neg-neg                    a sign turned twice is as it was
 -- Assumes nothing.
 use mathlib.Core.Path.{_≡_, refl, ap, _∙_}
 use mathlib.Core.Bool.{Bool, true, false, not, cond}
@@ -21,6 +21,12 @@ unlike-not true true = refl
 unlike-not true false = refl
 unlike-not false true = refl
 unlike-not false false = refl
+
+unlike-not-right : (s t : Bool) → unlike s (not t) ≡ not (unlike s t)
+unlike-not-right true true = refl
+unlike-not-right true false = refl
+unlike-not-right false true = refl
+unlike-not-right false false = refl
 
 -- of either branch
 neg-cond : (b : Bool) (x y : Float) → cond b (neg x) (neg y) ≡ neg (cond b x y)
@@ -59,6 +65,16 @@ neg-mul f (inf s) (fin t n d) = rw (unlike-not s t) (neg-cond (eqb n 0) nan (inf
 neg-mul f (fin s m e) nan = refl
 neg-mul f (fin s m e) (inf t) = rw (unlike-not s t) (neg-cond (eqb m 0) nan (inf (unlike s t)))
 neg-mul f (fin s m e) (fin t n d) = turned f s t (m * up e * (n * up d)) (down e * down d)
+
+pub mul-neg : (f : Format) (x y : Float) → mul f x (neg y) ≡ neg (mul f x y)
+unfolding mul neg
+mul-neg f nan y = refl
+mul-neg f (inf s) nan = refl
+mul-neg f (inf s) (inf t) = ap inf (unlike-not-right s t)
+mul-neg f (inf s) (fin t n d) = rw (unlike-not-right s t) (neg-cond (eqb n 0) nan (inf (unlike s t)))
+mul-neg f (fin s m e) nan = refl
+mul-neg f (fin s m e) (inf t) = rw (unlike-not-right s t) (neg-cond (eqb m 0) nan (inf (unlike s t)))
+mul-neg f (fin s m e) (fin t n d) = rw (unlike-not-right s t) (round-neg f (unlike s t) (m * up e * (n * up d)) (down e * down d))
 
 -- a divisor that is zero, a dividend that is zero, and any others
 either : (b c s t : Bool) (x y : Float) → x ≡ neg y

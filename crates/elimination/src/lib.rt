@@ -15,7 +15,7 @@ ghost use Rattle.complex.specs.Matrices.{entryAt, grid};
 ghost use Rattle.refusals.specs.Refusals.{limit};
 ghost use Rattle.gauss_jordan.specs.GaussJordan as spec;
 ghost use Rattle.gauss_jordan.specs.Solving.{operations};
-ghost use Rattle.gauss_jordan.specs.Work.{Augmented, Column, withRow, reducedRow};
+ghost use Rattle.gauss_jordan.specs.Work.{Augmented, BesideTurned, Column, withRow, reducedRow};
 
 // Of two rows, the one that is held: the first, unless the other's squared magnitude is strictly greater.
 fn stronger(work: &[f64], n: usize, w: usize, c: usize, held: usize, next: usize) -> usize
@@ -58,7 +58,7 @@ fn swap(work: &mut [f64], n: usize, w: usize, c: usize, p: usize, row: &mut [f64
 
 // Row i is reduced by the pivot row in column c, unless it is row c itself.
 fn reduce_row(work: &mut [f64], n: usize, w: usize, i: usize, c: usize, pivot: &[f64])
-    requires { ⌜ (Augmented n w (length (now work))) × (i < n) × (c < n) × (length (now pivot) ≡ 2 * w) ⌝ }
+    requires { ⌜ (Augmented n w (length (now work))) × (i < n) × (c < n) × (BesideTurned w (now pivot)) ⌝ }
     ensures { λ _. ⌜ ((r j : ℕ) → j < w → entryAt w (now (work .exit)) r j ≡ withRow i (reducedRow c (entry (now (pivot .entry))) (entryAt w (now (work .entry))) i) (entryAt w (now (work .entry))) r j) ⌝ }
 {
     if i == c {
@@ -70,7 +70,7 @@ fn reduce_row(work: &mut [f64], n: usize, w: usize, i: usize, c: usize, pivot: &
 
 // All rows but row c are reduced by the pivot row, which is row c.
 fn reduce_others(work: &mut [f64], n: usize, w: usize, c: usize, pivot: &[f64])
-    requires { ⌜ (Augmented n w (length (now work))) × (c < n) × (length (now pivot) ≡ 2 * w) × ((j : ℕ) → j < w → entry (now pivot) j ≡ entryAt w (now work) c j) ⌝ }
+    requires { ⌜ (Augmented n w (length (now work))) × (c < n) × (BesideTurned w (now pivot)) × ((j : ℕ) → j < w → entry (now pivot) j ≡ entryAt w (now work) c j) ⌝ }
     ensures { λ _. ⌜ ((i j : ℕ) → i < n → j < w → entryAt w (now (work .exit)) i j ≡ spec.reduced operations c (entryAt w (now (work .entry))) i j) ⌝ }
 {
     let mut i = 0;
@@ -80,24 +80,27 @@ fn reduce_others(work: &mut [f64], n: usize, w: usize, c: usize, pivot: &[f64])
     }
 }
 
-// Row c, which `row` holds, is scaled by its pivot's inverse, and the others are reduced.
+// Row c, which the first half of `row` holds, is scaled by its pivot's inverse, and the others are reduced.
 fn clear_column(work: &mut [f64], n: usize, w: usize, c: usize, row: &mut [f64])
-    requires { ⌜ (Augmented n w (length (now work))) × (c < n) × (length (now row) ≡ 2 * w) × ((j : ℕ) → j < w → entry (now row) j ≡ entryAt w (now work) c j) ⌝ }
+    requires { ⌜ (Augmented n w (length (now work))) × (c < n) × (length (now row) ≡ 4 * w) × ((j : ℕ) → j < w → entry (now row) j ≡ entryAt w (now work) c j) ⌝ }
     ensures { λ _. ⌜ ((i j : ℕ) → i < n → j < w → entryAt w (now (work .exit)) i j ≡ spec.cleared operations c (entryAt w (now (work .entry))) i j) ⌝ }
 {
     rows::scale(row, w, complex::complex_inv(get(row, c)));
     let Span { start, end } = span_of(n, w, 0, w, c);
-    rows::copy(row, &mut work[start..end]);
+    let e = 2 * w;
+    rows::copy(&row[0..e], &mut work[start..end]);
+    rows::turn(row, w);
     reduce_others(work, n, w, c, row);
 }
 
-// One column. Whether its pivot is too small: then the rows have changed places, and no more.
+// One column; `row` has room for a row and the same row turned. Whether its pivot is too small: then the rows have changed places, and no more.
 fn column(work: &mut [f64], n: usize, w: usize, c: usize, row: &mut [f64]) -> bool
-    requires { ⌜ (Augmented n w (length (now work))) × (c < n) × (length (now row) ≡ 2 * w) ⌝ }
+    requires { ⌜ (Augmented n w (length (now work))) × (c < n) × (length (now row) ≡ 4 * w) ⌝ }
     ensures { λ r. ⌜ Column n w c r (now (work .entry)) (now (work .exit)) ⌝ }
 {
     let p = pivot_row(work, n, w, c);
-    swap(work, n, w, c, p, row);
+    let e = 2 * w;
+    swap(work, n, w, c, p, &mut row[0..e]);
     if complex::sqmag(get(row, c)) < TINY {
         return true;
     }
@@ -106,7 +109,7 @@ fn column(work: &mut [f64], n: usize, w: usize, c: usize, row: &mut [f64]) -> bo
 }
 
 fn columns(work: &mut [f64], n: usize, w: usize, row: &mut [f64]) -> bool
-    requires { ⌜ (Augmented n w (length (now work))) × (length (now row) ≡ 2 * w) ⌝ }
+    requires { ⌜ (Augmented n w (length (now work))) × (length (now row) ≡ 4 * w) ⌝ }
     ensures { λ r. ⌜ (r ≡ spec.run operations n (entryAt w (now (work .entry))) .singular) × (now (work .exit) ≡ grid n w (spec.run operations n (entryAt w (now (work .entry))) .left)) ⌝ }
 {
     let mut c = 0;
@@ -124,7 +127,7 @@ pub fn gauss_jordan(work: &mut [f64], n: usize, w: usize) -> bool
     requires { ⌜ (n ≤ w) × (w ≤ 2 * limit) × (length (now work) ≡ 2 * (n * w)) ⌝ }
     ensures { λ r. ⌜ (r ≡ spec.run operations n (entryAt w (now (work .entry))) .singular) × (now (work .exit) ≡ grid n w (spec.run operations n (entryAt w (now (work .entry))) .left)) ⌝ }
 {
-    let mut buffer = [0.0; 4 * LIMIT];
-    let e = 2 * w;
+    let mut buffer = [0.0; 8 * LIMIT];
+    let e = 4 * w;
     columns(work, n, w, &mut buffer[0..e])
 }

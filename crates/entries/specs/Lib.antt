@@ -1,1 +1,4 @@
-pub mod Scalars
+pub mod Answers
+pub mod Kron
+pub mod Numbers
+pub mod Studies

@@ -1,56 +1,146 @@
-// The exported entries of Kron reduction.
-use kron_entries::remove_all_in;
-use kron_entries::remove_in;
-use reading_entries::see_in;
-use reading_entries::show_in;
-use record_entries::make_in;
-ghost use Rattle.kron_entries.specs.Removing as removing;
-ghost use Rattle.reading_entries.specs.Reading as reading;
-ghost use Rattle.record_entries.specs.Records as records;
+// Kron reduction. The record is a byte slice of exactly RECORD bytes; where it has another length the call is refused and nothing is touched.
+// Admittances are in per unit; buses keep the numbers of their rows at making, counted from 0.
+use crate::answers::give_count;
+use crate::answers::give_value;
+use equivalents::kron::KronReducer;
+use equivalents::kron::eliminated_bus;
+use equivalents::kron::eliminated_buses;
+use equivalents::kron::number_of;
+use record_entries::RECORD;
+use record_entries::record_in;
+use record_entries::store_record;
+use refusals::LIMIT;
+use refusals::number;
+ghost use mathlib.Core.Path.{_≡_};
+ghost use Rattle.refusals.specs.Refusals.{limit, tooMany, wrongLength, refuse};
+ghost use lib.Dec.{ltb};
+ghost use Rattle.entries.specs.Answers as answers;
+ghost use Rattle.entries.specs.Kron as spec;
 
-#[no_mangle]
-pub extern "C" fn jeturipe_kron_new(n: usize, y: &[u8], rec: &mut [u8]) -> u32
-    ensures { λ r. ⌜ records.Made n (now (y .entry)) (now (rec .entry)) r (now (rec .exit)) ⌝ }
+// The refusal where the record is not of its length: 1 for more than the limit, else 2.
+fn unfit(l: usize) -> u32
+    ensures { λ r. ⌜ r ≡ refuse (ltb limit l) tooMany wrongLength ⌝ }
 {
-    make_in(n, y, rec)
+    if l > LIMIT { 1 } else { 2 }
 }
 
+// Makes a reducer of n buses: y is its matrix (2 n n numbers, in per unit), rec its record.
 #[no_mangle]
-pub extern "C" fn jeturipe_eliminate_bus(rec: &mut [u8], y: &mut [u8], bus: usize) -> u32
-    ensures { λ r. ⌜ removing.Removed (now (rec .entry)) (now (y .entry)) bus r (now (rec .exit)) (now (y .exit)) ⌝ }
+pub extern "C" fn jeturipe_kron_new(n: usize, y: &[f64], rec: &mut [u8]) -> u32
+    ensures { λ f. ⌜ spec.Fresh n (now (y .entry)) (now (rec .entry)) f (now (rec .exit)) ⌝ }
 {
-    remove_in(rec, y, bus)
+    if rec.len() != RECORD {
+        return unfit(n);
+    }
+    let fresh = KronReducer::new(n, y);
+    let answer = fresh.answer;
+    let record = fresh.rec;
+    let refusal = number(answer);
+    store_record(rec, record, refusal);
+    refusal
 }
 
+// Removes one bus: y (in per unit) and rec are then those of the buses left.
+#[no_mangle]
+pub extern "C" fn jeturipe_eliminate_bus(rec: &mut [u8], y: &mut [f64], bus: usize) -> u32
+    ensures { λ f. ⌜ spec.Removed (now (rec .entry)) (now (y .entry)) bus f (now (rec .exit)) (now (y .exit)) ⌝ }
+{
+    if rec.len() != RECORD {
+        return 2;
+    }
+    let taken = eliminated_bus(record_in(rec), y, bus);
+    let answer = taken.answer;
+    let left = taken.rec;
+    let refusal = number(answer);
+    store_record(rec, left, refusal);
+    refusal
+}
+
+// The refusal where it is told from the input; 0 where a list is carried out or stopped, by 11 or 12.
+fn from_input(refusal: u32) -> u32
+    ensures { λ r. ⌜ r ≡ spec.fromInput refusal ⌝ }
+{
+    if refusal == 11 {
+        return 0;
+    }
+    if refusal == 12 { 0 } else { refusal }
+}
+
+// The refusal of a list that removed no bus, else 0.
+fn none_removed(refusal: u32, count: usize) -> u32
+    ensures { λ r. ⌜ r ≡ spec.noneRemoved refusal count ⌝ }
+{
+    if count == 0 { refusal } else { 0 }
+}
+
+// Removes the buses of a list, in order, up to the first refused one; removed is how many it removed, also where 11 or 12 stops it.
 #[no_mangle]
 pub extern "C" fn jeturipe_eliminate_buses(
     rec: &mut [u8],
-    y: &mut [u8],
-    buses: &[u8],
-    removed: &mut [u8],
+    y: &mut [f64],
+    buses: &[usize],
+    removed: &mut usize,
 ) -> u32
-    ensures { λ r. ⌜ removing.Listed (now (rec .entry)) (now (y .entry)) (now (buses .entry)) (now (removed .entry)) r (now (rec .exit)) (now (y .exit)) (now (removed .exit)) ⌝ }
+    ensures { λ f. ⌜ spec.Listed (now (rec .entry)) (now (y .entry)) (now (buses .entry)) (now (removed .entry)) f (now (rec .exit)) (now (y .exit)) (now (removed .exit)) ⌝ }
 {
-    remove_all_in(rec, y, buses, removed)
+    if rec.len() != RECORD {
+        return unfit(buses.len());
+    }
+    let taken = eliminated_buses(record_in(rec), y, buses);
+    let removals = taken.removals;
+    let answer = removals.answer;
+    let count = removals.removed;
+    let left = taken.rec;
+    let refusal = number(answer);
+    store_record(rec, left, none_removed(refusal, count));
+    give_count(removed, count, from_input(refusal));
+    refusal
 }
 
+// The bus of each present row, in order, at the front of buses (one place for each row at making), 0 behind; count is how many.
 #[no_mangle]
-pub extern "C" fn jeturipe_reduced_matrix(rec: &[u8], y: &[u8], out: &mut [u8]) -> u32
-    ensures { λ r. ⌜ reading.Shown (now (rec .entry)) (now (y .entry)) (now (out .entry)) r (now (out .exit)) ⌝ }
+pub extern "C" fn jeturipe_active_buses(rec: &[u8], buses: &mut [usize], count: &mut usize) -> u32
+    ensures { λ f. ⌜ spec.Active (now (rec .entry)) (now (buses .entry)) (now (count .entry)) f (now (buses .exit)) (now (count .exit)) ⌝ }
 {
-    show_in(rec, y, out)
+    if rec.len() != RECORD {
+        return 2;
+    }
+    let r = record_in(rec);
+    let present = r.n_buses;
+    let refusal = number(equivalents::kron::active_buses(r, buses));
+    give_count(count, present, refusal);
+    refusal
 }
 
+// Copies the present rows, in per unit, to the front of out, +0 behind.
+#[no_mangle]
+pub extern "C" fn jeturipe_reduced_matrix(rec: &[u8], y: &[f64], out: &mut [f64]) -> u32
+    ensures { λ f. ⌜ spec.Shown (now (rec .entry)) (now (y .entry)) (now (out .entry)) f (now (out .exit)) ⌝ }
+{
+    if rec.len() != RECORD {
+        return 2;
+    }
+    number(equivalents::kron::reduced_matrix(record_in(rec), y, out))
+}
+
+// The Thevenin impedance between two active buses, in per unit.
 #[no_mangle]
 pub extern "C" fn jeturipe_thevenin_impedance(
     rec: &[u8],
-    y: &[u8],
+    y: &[f64],
     bus_i: usize,
     bus_j: usize,
-    work: &mut [u8],
-    z: &mut [u8],
+    work: &mut [f64],
+    z_re: &mut f64,
+    z_im: &mut f64,
 ) -> u32
-    ensures { λ r. ⌜ reading.Seen (now (rec .entry)) (now (y .entry)) «bus_i» «bus_j» (now (work .entry)) (now (z .entry)) r (now (work .exit)) (now (z .exit)) ⌝ }
+    ensures { λ f. ⌜ spec.Seen (now (rec .entry)) (now (y .entry)) «bus_i» «bus_j» (now (work .entry)) (answers.complexOf (now («z_re» .entry)) (now («z_im» .entry)))
+        f (now (work .exit)) (answers.complexOf (now («z_re» .exit)) (now («z_im» .exit))) ⌝ }
 {
-    see_in(rec, y, bus_i, bus_j, work, z)
+    if rec.len() != RECORD {
+        return 2;
+    }
+    let answer = equivalents::kron::thevenin_impedance(record_in(rec), y, bus_i, bus_j, work);
+    give_value(answer, z_re, z_im);
+    number_of(answer)
 }

@@ -1,29 +1,36 @@
-// The exported entries of the solver.
-use solver_entries::invert_in;
-use solver_entries::solve_in;
-ghost use Rattle.solver_entries.specs.Systems as spec;
+// Linear systems of n complex unknowns, of the caller's units. A matrix stands row after row, each entry real then imaginary.
+use refusals::number;
+ghost use mathlib.Core.Path.{_≡_};
+ghost use Rattle.refusals.specs.Refusals as refusals;
+ghost use Rattle.solver.specs.Calls as spec;
 
+// Solves a x = b: a is 2 n n numbers, b and x 2 n, work 2 n (n + 1).
 #[no_mangle]
 pub extern "C" fn jeturipe_solve_linear(
     n: usize,
-    a: &[u8],
-    b: &[u8],
-    x: &mut [u8],
-    work: &mut [u8],
+    a: &[f64],
+    b: &[f64],
+    x: &mut [f64],
+    work: &mut [f64],
 ) -> u32
-    ensures { λ r. ⌜ spec.Solved n (now (a .entry)) (now (b .entry)) (now (x .entry)) (now (work .entry)) r (now (x .exit)) (now (work .exit)) ⌝ }
+    ensures { λ f. ⌜ (f ≡ refusals.number (spec.afterSolve n (now (a .entry)) (now (b .entry)) (now (x .entry)) (now (work .entry)) .answer))
+        × (now (x .exit) ≡ spec.afterSolve n (now (a .entry)) (now (b .entry)) (now (x .entry)) (now (work .entry)) .output)
+        × (now (work .exit) ≡ spec.afterSolve n (now (a .entry)) (now (b .entry)) (now (x .entry)) (now (work .entry)) .work) ⌝ }
 {
-    solve_in(n, a, b, x, work)
+    number(solver::solve_linear(n, a, b, x, work))
 }
 
+// Inverts mat: mat and inverse are 2 n n numbers, work 4 n n.
 #[no_mangle]
 pub extern "C" fn jeturipe_complex_matrix_inverse(
     n: usize,
-    mat: &[u8],
-    inverse: &mut [u8],
-    work: &mut [u8],
+    mat: &[f64],
+    inverse: &mut [f64],
+    work: &mut [f64],
 ) -> u32
-    ensures { λ r. ⌜ spec.Inverted n (now (mat .entry)) (now (inverse .entry)) (now (work .entry)) r (now (inverse .exit)) (now (work .exit)) ⌝ }
+    ensures { λ f. ⌜ (f ≡ refusals.number (spec.afterInverse n (now (mat .entry)) (now (inverse .entry)) (now (work .entry)) .answer))
+        × (now (inverse .exit) ≡ spec.afterInverse n (now (mat .entry)) (now (inverse .entry)) (now (work .entry)) .output)
+        × (now (work .exit) ≡ spec.afterInverse n (now (mat .entry)) (now (inverse .entry)) (now (work .entry)) .work) ⌝ }
 {
-    invert_in(n, mat, inverse, work)
+    number(solver::complex_matrix_inverse(n, mat, inverse, work))
 }

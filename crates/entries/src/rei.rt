@@ -1,27 +1,46 @@
-// The exported entry of the REI equivalent.
-use rei_entries::reduce_in;
-ghost use Rattle.rei_entries.specs.ReiCall as spec;
+// The REI equivalent. Bus numbers are the caller's own.
+use crate::answers::give_equivalent;
+ghost use Rattle.entries.specs.Answers as answers;
+ghost use Rattle.entries.specs.Studies as spec;
 
+// The REI equivalent of generators and loads: rows of y_sub (per unit) and injections (MW, MVAr) are the generators, then the loads; so are the
+// spokes (per unit). A tie is two bus numbers and one admittance in per unit.
 #[no_mangle]
 pub extern "C" fn jeturipe_rei_compute(
-    generator_buses: &[u8],
-    load_buses: &[u8],
-    y_sub: &[u8],
-    p_inj: &[u8],
-    q_inj: &[u8],
+    generator_buses: &[usize],
+    load_buses: &[usize],
+    y_sub: &[f64],
+    p_inj: &[f64],
+    q_inj: &[f64],
     next_bus_id: usize,
-    spoke_buses: &mut [u8],
-    spokes: &mut [u8],
-    tie_buses: &mut [u8],
-    ties: &mut [u8],
-    summary: &mut [u8],
+    spoke_buses: &mut [usize],
+    spokes: &mut [f64],
+    tie_buses: &mut [usize],
+    ties: &mut [f64],
+    rei_bus_id: &mut usize,
+    rei_voltage_pu: &mut f64,
+    rei_p_mw: &mut f64,
+    rei_q_mvar: &mut f64,
+    n_ties: &mut usize,
 ) -> u32
-    ensures { λ r. ⌜ spec.Computed (now («generator_buses» .entry)) (now («load_buses» .entry)) (now («y_sub» .entry)) (now («p_inj» .entry)) (now («q_inj» .entry)) «next_bus_id»
-        (spec.outputsOf (now («spoke_buses» .entry)) (now (spokes .entry)) (now («tie_buses» .entry)) (now (ties .entry)) (now (summary .entry)))
-        r
-        (spec.outputsOf (now («spoke_buses» .exit)) (now (spokes .exit)) (now («tie_buses» .exit)) (now (ties .exit)) (now (summary .exit))) ⌝ }
+    ensures { λ f. ⌜ spec.Reduced
+        (record {
+          generators = now («generator_buses» .entry);
+          loads = now («load_buses» .entry);
+          entries = now («y_sub» .entry);
+          p = now («p_inj» .entry);
+          q = now («q_inj» .entry);
+          busId = «next_bus_id»;
+          spokeBuses = now («spoke_buses» .entry);
+          spokes = now (spokes .entry);
+          tieBuses = now («tie_buses» .entry);
+          ties = now (ties .entry);
+        })
+        f (now («spoke_buses» .exit)) (now (spokes .exit)) (now («tie_buses» .exit)) (now (ties .exit))
+        (answers.reiOf (now («rei_bus_id» .entry)) (now («rei_voltage_pu» .entry)) (now («rei_p_mw» .entry)) (now («rei_q_mvar» .entry)) (now («n_ties» .entry)))
+        (answers.reiOf (now («rei_bus_id» .exit)) (now («rei_voltage_pu» .exit)) (now («rei_p_mw» .exit)) (now («rei_q_mvar» .exit)) (now («n_ties» .exit))) ⌝ }
 {
-    reduce_in(
+    let answer = equivalents::rei::compute(
         generator_buses,
         load_buses,
         y_sub,
@@ -32,6 +51,14 @@ pub extern "C" fn jeturipe_rei_compute(
         spokes,
         tie_buses,
         ties,
-        summary,
-    )
+    );
+    give_equivalent(
+        answer,
+        rei_bus_id,
+        rei_voltage_pu,
+        rei_p_mw,
+        rei_q_mvar,
+        n_ties,
+    );
+    equivalents::rei::number_of(answer)
 }

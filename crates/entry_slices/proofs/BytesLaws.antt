@@ -1,12 +1,12 @@
--- Laws of elements read and written: one more of them, how many there are, and a word in its place.
+-- Laws of numbers read and written: one more of them, how many there are, and a number in its place.
 -- Assumes nothing.
 use mathlib.Core.Path.{_≡_, refl, sym, ap, _∙_}
 use mathlib.Core.List.{List, [], _∷_, _++_, map, append-assoc, append-nil}
-use Prim.Native.Nat.{ℕ, _+_, _*_, _≤_, _<_}
-use native.Mathlib.Numerals.{add-one}
+use Prim.Native.Nat.{ℕ, zero, suc, _+_, _*_, _/_, _%_, _≤_, _<_}
+use native.Mathlib.Numerals.{add-one, towards-suc, unary-clauses}
 use native.Mathlib.Omega.{arith}
 use lib.ListN.{length, take, drop, getD, length-append, length-map}
-use lib.Seq.{sets-eq, length-sets, take-at, take-suc, length-take-le}
+use lib.Seq.{sets, sets-eq, length-sets, take-at, take-suc, length-take-le}
 use lib.Ieee.{binary64, ofBits}
 use Rattle.complex.specs.Matrices.{upTo}
 use Rattle.complex.proofs.Matrices.{length-upTo}
@@ -18,62 +18,93 @@ map-append f (x ∷ xs) ys = ap (λ l. f x ∷ l) (map-append f xs ys)
 
 -- ---- reading
 
-pub words-suc : (n : ℕ) (bs : List ℕ) → words (n + 1) bs ≡ words n bs ++ (word bs (8 * n) ∷ [])
+pub words-suc : (k n : ℕ) (bs : List ℕ) → words k (n + 1) bs ≡ words k n bs ++ (word k bs (k * n) ∷ [])
 unfolding words upTo
-words-suc n bs = rw add-one (map-append (λ (k : ℕ). word bs (8 * k)) (upTo n) (n ∷ []))
+words-suc k n bs = rw add-one (map-append (λ (i : ℕ). word k bs (k * i)) (upTo n) (n ∷ []))
 
-pub floats-suc : (n : ℕ) (bs : List ℕ) → floats (n + 1) bs ≡ floats n bs ++ (ofBits binary64 (word bs (8 * n)) ∷ [])
+pub floats-suc : (n : ℕ) (bs : List ℕ) → floats (n + 1) bs ≡ floats n bs ++ (ofBits binary64 (word 8 bs (8 * n)) ∷ [])
 unfolding floats
-floats-suc n bs = ap (map (ofBits binary64)) (words-suc n bs) ∙ map-append (ofBits binary64) (words n bs) (word bs (8 * n) ∷ [])
+floats-suc n bs = ap (map (ofBits binary64)) (words-suc 8 n bs) ∙ map-append (ofBits binary64) (words 8 n bs) (word 8 bs (8 * n) ∷ [])
 
-pub length-words : (n : ℕ) (bs : List ℕ) → length (words n bs) ≡ n
+pub length-words : (k n : ℕ) (bs : List ℕ) → length (words k n bs) ≡ n
 unfolding words
-length-words n bs = length-map (upTo n) (λ (k : ℕ). word bs (8 * k)) ∙ length-upTo n
+length-words k n bs = length-map (upTo n) (λ (i : ℕ). word k bs (k * i)) ∙ length-upTo n
 
 pub length-floats : (n : ℕ) (bs : List ℕ) → length (floats n bs) ≡ n
 unfolding floats
-length-floats n bs = length-map (words n bs) (ofBits binary64) ∙ length-words n bs
+length-floats n bs = length-map (words 8 n bs) (ofBits binary64) ∙ length-words 8 n bs
+
+pub half-bytes : (bs : List ℕ) (a : ℕ) → getD bs a 0 + 0x100 * getD bs (a + 1) 0 + 0x1_0000 * getD bs (a + 2) 0 + 0x100_0000 * getD bs (a + 3) 0 ≡ word 4 bs a
+unfolding word
+half-bytes bs a = simp towards-suc (omega arith)
+
+-- a word is its two halves
+pub word-halves : (bs : List ℕ) (a : ℕ) → word 4 bs a + 0x1_0000_0000 * word 4 bs (a + 4) ≡ word 8 bs a
+unfolding word
+word-halves bs a = simp towards-suc (omega arith)
 
 -- ---- writing
 
-pub length-bytesOf : (w : ℕ) → length (bytesOf w) ≡ 8
+pub length-bytesOf : (k w : ℕ) → length (bytesOf k w) ≡ k
 unfolding bytesOf
-length-bytesOf w = refl
+length-bytesOf zero w = refl
+length-bytesOf (suc k) w = ap suc (length-bytesOf k (w / 256))
 
-pub length-ofWords : (ws : List ℕ) → length (ofWords ws) ≡ 8 * length ws
+pub length-ofWords : (k : ℕ) (ws : List ℕ) → length (ofWords k ws) ≡ k * length ws
 unfolding ofWords
-length-ofWords [] = refl
-length-ofWords (w ∷ ws) = let e = length-ofWords ws in rw (length-append, length-bytesOf) (omega arith)
+length-ofWords k [] = simp unary-clauses refl
+length-ofWords k (w ∷ ws) = let e = length-ofWords k ws in simp unary-clauses (rw (length-append, length-bytesOf) (omega (arith, e)))
 
-ofWords-append : (us ws : List ℕ) → ofWords (us ++ ws) ≡ ofWords us ++ ofWords ws
+ofWords-append : (k : ℕ) (us ws : List ℕ) → ofWords k (us ++ ws) ≡ ofWords k us ++ ofWords k ws
 unfolding ofWords
-ofWords-append [] ws = refl
-ofWords-append (u ∷ us) ws = rw (ofWords-append us ws) (sym (append-assoc (bytesOf u) (ofWords us) (ofWords ws)))
+ofWords-append k [] ws = refl
+ofWords-append k (u ∷ us) ws = rw (ofWords-append k us ws) (sym (append-assoc (bytesOf k u) (ofWords k us) (ofWords k ws)))
 
-ofWords-snoc : (us : List ℕ) (w : ℕ) → ofWords (us ++ (w ∷ [])) ≡ ofWords us ++ bytesOf w
+pub ofWords-snoc : (k : ℕ) (us : List ℕ) (w : ℕ) → ofWords k (us ++ (w ∷ [])) ≡ ofWords k us ++ bytesOf k w
 unfolding ofWords
-ofWords-snoc us w = ofWords-append us (w ∷ []) ∙ ap (λ (l : List ℕ). ofWords us ++ l) (append-nil (bytesOf w))
+ofWords-snoc k us w = ofWords-append k us (w ∷ []) ∙ ap (λ (l : List ℕ). ofWords k us ++ l) (append-nil (bytesOf k w))
 
-pub length-putWord : (bs : List ℕ) (a w : ℕ) → length (putWord bs a w) ≡ length bs
+low-same : (x q y : ℕ) → x ≡ 256 * q + y → x % 256 ≡ y % 256
+low-same x q y e = omega (arith, e)
+
+-- a word's bytes are those of its two halves
+pub bytes-halves : (w : ℕ) → bytesOf 8 w ≡ bytesOf 4 (w % 0x1_0000_0000) ++ bytesOf 4 (w / 0x1_0000_0000)
+unfolding bytesOf
+bytes-halves w =
+    let d1 : w / 256 ≡ 0x100_0000 * (w / 0x1_0000_0000) + w % 0x1_0000_0000 / 256 = omega arith in
+    let d2 : w / 256 / 256 ≡ 0x1_0000 * (w / 0x1_0000_0000) + w % 0x1_0000_0000 / 256 / 256 = omega (arith, d1) in
+    let d3 : w / 256 / 256 / 256 ≡ 0x100 * (w / 0x1_0000_0000) + w % 0x1_0000_0000 / 256 / 256 / 256 = omega (arith, d2) in
+    let e0 : w % 256 ≡ w % 0x1_0000_0000 % 256 = omega arith in
+    let e1 : w / 256 % 256 ≡ w % 0x1_0000_0000 / 256 % 256 = omega (arith, d1) in
+    let e2 : w / 256 / 256 % 256 ≡ w % 0x1_0000_0000 / 256 / 256 % 256 = omega (arith, d2) in
+    let e3 : w / 256 / 256 / 256 % 256 ≡ w % 0x1_0000_0000 / 256 / 256 / 256 % 256 = low-same (w / 256 / 256 / 256) (w / 0x1_0000_0000) (w % 0x1_0000_0000 / 256 / 256 / 256) d3 in
+    let e4 : w / 256 / 256 / 256 / 256 ≡ w / 0x1_0000_0000 = omega (arith, d3) in
+    rw (e4, ← e0, ← e1, ← e2, ← e3) refl
+
+pub put-halves : (bs : List ℕ) (a w : ℕ) → putWord 4 (putWord 4 bs a (w % 0x1_0000_0000)) (a + 4) (w / 0x1_0000_0000) ≡ putWord 8 bs a w
+unfolding putWord bytesOf
+put-halves bs a w = simp towards-suc (ap (sets bs a) (sym (bytes-halves w)))
+
+pub length-putWord : (k : ℕ) (bs : List ℕ) (a w : ℕ) → length (putWord k bs a w) ≡ length bs
 unfolding putWord
-length-putWord bs a w = length-sets bs a (bytesOf w)
+length-putWord k bs a w = length-sets bs a (bytesOf k w)
 
--- what stands before the next place, once the word is written
-front-putWord : (bs : List ℕ) (a w : ℕ) → a + 8 ≤ length bs → take (a + 8) (putWord bs a w) ≡ take a bs ++ bytesOf w
+-- what stands before the next place, once the number is written
+front-putWord : (k : ℕ) (bs : List ℕ) (a w : ℕ) → a + k ≤ length bs → take (a + k) (putWord k bs a w) ≡ take a bs ++ bytesOf k w
 unfolding putWord
-front-putWord bs a w h =
-    ap (take (a + 8)) (sets-eq (bytesOf w) bs a (rw length-bytesOf h))
-    ∙ take-at (take a bs ++ bytesOf w) (drop (a + length (bytesOf w)) bs) (a + 8)
-    (length-append (take a bs) (bytesOf w) ∙ ap (λ (n : ℕ). n + length (bytesOf w)) (length-take-le a bs (omega arith)) ∙ ap (λ (n : ℕ). a + n) (length-bytesOf w))
+front-putWord k bs a w h =
+    ap (take (a + k)) (sets-eq (bytesOf k w) bs a (rw length-bytesOf h))
+    ∙ take-at (take a bs ++ bytesOf k w) (drop (a + length (bytesOf k w)) bs) (a + k)
+    (length-append (take a bs) (bytesOf k w) ∙ ap (λ (n : ℕ). n + length (bytesOf k w)) (length-take-le a bs (omega arith)) ∙ ap (λ (n : ℕ). a + n) (length-bytesOf k w))
 
--- One more word written: the loops' step, over the list of words that are to be written.
-pub written-more : (bs ws : List ℕ) (i : ℕ) → 8 * (i + 1) ≤ length bs → i < length ws → take (8 * i) bs ≡ ofWords (take i ws)
-    → take (8 * (i + 1)) (putWord bs (8 * i) (getD ws i 0)) ≡ ofWords (take (i + 1) ws)
-written-more bs ws i h l e =
-    let n : 8 * (i + 1) ≡ 8 * i + 8 = omega arith in
-    ap (λ (k : ℕ). take k (putWord bs (8 * i) (getD ws i 0))) n
-    ∙ front-putWord bs (8 * i) (getD ws i 0) (omega arith)
-    ∙ ap (λ (f : List ℕ). f ++ bytesOf (getD ws i 0)) e
-    ∙ sym (ofWords-snoc (take i ws) (getD ws i 0))
-    ∙ ap ofWords (sym (take-suc ws i 0 l))
-    ∙ ap (λ (k : ℕ). ofWords (take k ws)) (sym (add-one i))
+-- One more number written: the loops' step, over the list of numbers that are to be written.
+pub written-more : (k : ℕ) (bs ws : List ℕ) (i : ℕ) → k * (i + 1) ≤ length bs → i < length ws → take (k * i) bs ≡ ofWords k (take i ws)
+    → take (k * (i + 1)) (putWord k bs (k * i) (getD ws i 0)) ≡ ofWords k (take (i + 1) ws)
+written-more k bs ws i h l e =
+    let n : k * (i + 1) ≡ k * i + k = simp (add-one, unary-clauses) (omega arith) in
+    ap (λ (j : ℕ). take j (putWord k bs (k * i) (getD ws i 0))) n
+    ∙ front-putWord k bs (k * i) (getD ws i 0) (omega (arith, h, n))
+    ∙ ap (λ (f : List ℕ). f ++ bytesOf k (getD ws i 0)) e
+    ∙ sym (ofWords-snoc k (take i ws) (getD ws i 0))
+    ∙ ap (ofWords k) (sym (take-suc ws i 0 l))
+    ∙ ap (λ (j : ℕ). ofWords k (take j ws)) (sym (add-one i))

@@ -1,6 +1,3 @@
 pub mod BytesLaws
-pub mod SlicesLaws
-pub mod OutcomesLaws
-pub mod StoredLaws
-pub mod RoomLaws
-pub mod PartsLaws
+pub mod RoundTrip
+pub mod BytesCases

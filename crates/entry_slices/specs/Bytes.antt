@@ -1,57 +1,43 @@
--- Elements of 8 bytes, the lowest byte first.
-use Prim.Native.Nat.{ℕ, _+_, _*_, _/_, _%_}
+-- Numbers in bytes, the lowest byte first: whole numbers of k bytes each, and numbers of binary64 by the 8 bytes of their bits.
+use Prim.Native.Nat.{ℕ, zero, suc, _+_, _*_, _/_, _%_}
 use mathlib.Core.List.{List, [], _∷_, _++_, map}
 use lib.ListN.{getD}
 use lib.Seq.{sets}
 use lib.Ieee.{Float, binary64, ofBits, toBits}
 use Rattle.complex.specs.Matrices.{upTo}
 
--- the word at byte a
-unfoldable pub word : List ℕ → ℕ → ℕ
-word bs a =
-    getD bs a 0 + 0x100 * getD bs (a + 1) 0
-    + 0x1_0000 * getD bs (a + 2) 0
-    + 0x100_0000 * getD bs (a + 3) 0
-    + 0x1_0000_0000 * getD bs (a + 4) 0
-    + 0x100_0000_0000 * getD bs (a + 5) 0
-    + 0x1_0000_0000_0000 * getD bs (a + 6) 0
-    + 0x100_0000_0000_0000 * getD bs (a + 7) 0
+-- the number of the k bytes from place a on
+unfoldable pub word : ℕ → List ℕ → ℕ → ℕ
+word zero bs a = 0
+word (suc k) bs a = getD bs a 0 + 256 * word k bs (suc a)
 
-abbrev pub low : ℕ → ℕ
-low w = w % 256
+-- the k lowest bytes of a number
+unfoldable pub bytesOf : ℕ → ℕ → List ℕ
+bytesOf zero w = []
+bytesOf (suc k) w = w % 256 ∷ bytesOf k (w / 256)
 
--- the bytes of a word
-unfoldable pub bytesOf : ℕ → List ℕ
-bytesOf w =
-    low w
-    ∷ low (w / 0x100)
-    ∷ low (w / 0x1_0000)
-    ∷ low (w / 0x100_0000)
-    ∷ low (w / 0x1_0000_0000)
-    ∷ low (w / 0x100_0000_0000)
-    ∷ low (w / 0x1_0000_0000_0000)
-    ∷ low (w / 0x100_0000_0000_0000)
-    ∷ []
-
-unfoldable pub putWord : List ℕ → ℕ → ℕ → List ℕ
+-- bs with the number w in the k bytes from place a on
+unfoldable pub putWord : ℕ → List ℕ → ℕ → ℕ → List ℕ
 unfolding bytesOf
-putWord bs a w = sets bs a (bytesOf w)
+putWord k bs a w = sets bs a (bytesOf k w)
 
--- the first n elements as words, and as numbers of binary64
-unfoldable pub words : ℕ → List ℕ → List ℕ
+-- the first n numbers, of k bytes each
+unfoldable pub words : ℕ → ℕ → List ℕ → List ℕ
 unfolding word upTo
-words n bs = map (λ (k : ℕ). word bs (8 * k)) (upTo n)
+words k n bs = map (λ (i : ℕ). word k bs (k * i)) (upTo n)
 
+-- numbers one after the other, in k bytes each
+unfoldable pub ofWords : ℕ → List ℕ → List ℕ
+unfolding bytesOf
+ofWords k [] = []
+ofWords k (w ∷ ws) = bytesOf k w ++ ofWords k ws
+
+-- the first n numbers of binary64: every pattern of a NaN is the one NaN
 unfoldable pub floats : ℕ → List ℕ → List Float
 unfolding words
-floats n bs = map (ofBits binary64) (words n bs)
+floats n bs = map (ofBits binary64) (words 8 n bs)
 
--- words written one after the other, and numbers
-unfoldable pub ofWords : List ℕ → List ℕ
-unfolding bytesOf
-ofWords [] = []
-ofWords (w ∷ ws) = bytesOf w ++ ofWords ws
-
+-- numbers of binary64 one after the other: a NaN is 7ff8000000000000
 unfoldable pub ofFloats : List Float → List ℕ
 unfolding ofWords
-ofFloats xs = ofWords (map (toBits binary64) xs)
+ofFloats xs = ofWords 8 (map (toBits binary64) xs)

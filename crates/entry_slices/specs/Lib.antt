@@ -1,4 +1,2 @@
 pub mod Bytes
-pub mod Parts
-pub mod Rooms
-pub mod Slices
+pub mod RoundTrip

@@ -1,5 +1,2 @@
-// Numbers in byte slices, for the C-callable entries.
+// Words of 8 bytes and halves of 4 in byte slices.
 pub mod bytes;
-pub mod parts;
-pub mod rooms;
-pub mod slices;

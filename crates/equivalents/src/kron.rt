@@ -5,6 +5,7 @@ pub use kron_core::NewReducer;
 pub use kron_core::Removals;
 pub use kron_core::Taken;
 pub use kron_core::TakenAll;
+pub use kron_core::active_buses;
 pub use kron_core::number_of;
 pub use kron_core::reduced_matrix;
 pub use kron_core::thevenin_impedance;

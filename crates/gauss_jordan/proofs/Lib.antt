@@ -4,3 +4,4 @@ pub mod Passed
 pub mod Pivots
 pub mod RowParts
 pub mod Solutions
+pub mod TurnedRows

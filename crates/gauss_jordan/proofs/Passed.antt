@@ -68,15 +68,20 @@ put-more ys new old i v h e p =
 abbrev pub Mapped : (ℕ → Complex → Complex) → List Float → List Float → ℕ → Type 0
 Mapped f ys₀ ys i = Put ys (λ (k : ℕ). f k (entry ys₀ k)) (entry ys₀) i
 
+pub mapped-at : (f : ℕ → Complex → Complex) (ys₀ ys ys' : List Float) (i : ℕ) → 2 * i + 1 < length ys → Mapped f ys₀ ys i → ys' ≡ put ys i (f i (entry ys i))
+    → (length ys' ≡ length ys) × Mapped f ys₀ ys' (i + 1)
+mapped-at f ys₀ ys ys' i h p e =
+    let same : entry ys i ≡ entry ys₀ i = p .ahead i (omega arith) in (
+      ap length e ∙ length-put ys i (f i (entry ys i)),
+      subst (λ (zs : List Float). Mapped f ys₀ zs (i + 1)) (sym e)
+          (put-more ys (λ (k : ℕ). f k (entry ys₀ k)) (entry ys₀) i (f i (entry ys i)) h (ap (f i) same) p),
+    )
+
 pub mapped-more : (f : ℕ → Complex → Complex) (ys₀ ys ys' : List Float) (w i : ℕ) → i < w → length ys ≡ 2 * w → Mapped f ys₀ ys i → ys' ≡ put ys i (f i (entry ys i))
     → (i + 1 ≤ w) × (length ys' ≡ 2 * w) × Mapped f ys₀ ys' (i + 1)
 mapped-more f ys₀ ys ys' w i h l p e =
-    let same : entry ys i ≡ entry ys₀ i = p .ahead i (omega arith) in (
-      omega arith,
-      ap length e ∙ length-put ys i (f i (entry ys i)) ∙ l,
-      subst (λ (zs : List Float). Mapped f ys₀ zs (i + 1)) (sym e)
-          (put-more ys (λ (k : ℕ). f k (entry ys₀ k)) (entry ys₀) i (f i (entry ys i)) (omega arith) (ap (f i) same) p),
-    )
+    let more = mapped-at f ys₀ ys ys' i (omega arith) p e in
+    (omega arith, more .0 ∙ l, more .1)
 
 -- ---- rows of w entries
 

@@ -9,11 +9,13 @@ use native.Mathlib.Omega.{arith}
 use borrow.Author.Tests.{eqb-true, eq-eqb, ne-eqb}
 use lib.Dec.{eqb}
 use lib.ListN.{length, take, drop}
+use lib.Seq.{length-take-le}
 use lib.Ieee.{Float}
 use Rattle.complex.specs.declared.Complex.{Complex}
 use Rattle.complex.specs.Arithmetic.{cmul, csub, complexInv}
 use Rattle.complex.specs.Entries.{entry}
 use Rattle.complex.specs.Matrices.{Matrix, entryAt}
+use Rattle.complex.proofs.Entries.{entry-take}
 use Rattle.complex.proofs.Parts.{back}
 use Rattle.gauss_jordan.specs.GaussJordan.{swapped, scaled, reduced}
 use Rattle.gauss_jordan.specs.Solving.{operations, skipped}
@@ -33,6 +35,13 @@ module _ {n w r a e : ℕ} (lies : Lies n w 0 w r a e) (xs : List Float) where
   row-written vs full kept f same i j h =
       block-written lies xs vs full kept (λ (p : ℕ). f) same i j h
       ∙ ap (λ (x : Complex). cond (eqb i r) x (entryAt w xs i j)) (placed-in 0 w (λ (p : ℕ). f) (entryAt w xs) r j (omega arith) (omega arith) ∙ ap f (sub-zero j))
+
+-- a row at the front of a longer list
+pub front-read : (w : ℕ) (xs : List Float) (j : ℕ) → j < w → entry (take (2 * w - 0) (drop 0 xs)) j ≡ entry xs j
+front-read w xs j h = rw (sub-zero (2 * w)) (entry-take w xs j h)
+
+pub front-long : (w : ℕ) (xs : List Float) → length xs ≡ 4 * w → length (take (2 * w - 0) (drop 0 xs)) ≡ 2 * w
+front-long w xs l = rw (sub-zero (2 * w)) (length-take-le (2 * w) xs (omega arith))
 
 -- ---- row c copied, put in the place of row p, and what stood there put in the place of row c
 

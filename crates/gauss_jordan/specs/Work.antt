@@ -4,9 +4,11 @@ use mathlib.Core.Path.{_≡_}
 use mathlib.Core.Bool.{Bool, _&&_, cond}
 use mathlib.Core.List.{List}
 use lib.Dec.{eqb, leb, ltb}
-use lib.Ieee.{Float}
+use lib.ListN.{length}
+use lib.Ieee.{Float, neg}
 use Rattle.complex.specs.declared.Complex.{Complex}
 use Rattle.complex.specs.Arithmetic.{unit}
+use Rattle.complex.specs.Entries.{entry}
 use Rattle.complex.specs.Matrices.{Matrix, entryAt}
 use Rattle.gauss_jordan.specs.GaussJordan.{tooSmall, pivoted, cleared}
 use Rattle.gauss_jordan.specs.Solving.{operations}
@@ -25,6 +27,17 @@ withRow r f A i j = cond (eqb i r) (f j) (A i j)
 -- an entry x of a row with this factor, in the column of the pivot row's entry p
 unfoldable pub reducedEntry : Complex → Complex → Complex → Complex
 reducedEntry factor p x = cond (operations .skips factor) x (operations .minus x (operations .times factor p))
+
+-- p times the imaginary unit: its parts change places, and one its sign. Each part of f times p is then f's real part times that part of p plus
+-- f's imaginary part times that part of p turned, to the bit: in IEEE 754 a difference is the sum with the negated number, and a product's sign
+-- turns with its factor's, of zeros too.
+unfoldable pub turned : Complex → Complex
+turned p = record { re = neg (p .im); im = p .re }
+
+-- a row of w entries, and after it the same row turned
+pub record BesideTurned (w : ℕ) (row : List Float) : Type 0 where
+  pub long : length row ≡ 4 * w
+  pub halves : (q : ℕ) → q < w → entry row (w + q) ≡ turned (entry row q)
 
 -- every row but row c reduced by the pivot row
 unfoldable pub reducedRow : ℕ → (ℕ → Complex) → Matrix → Matrix

@@ -1,15 +1,15 @@
-// Row routines. A row is a part of a slice of f64: w complex entries in 2 w numbers.
+// Row routines. A row is a part of a slice of f64: w complex entries in 2 w numbers. A pivot row has 2 w numbers more behind it, the same row turned.
 use complex::Complex;
 use complex::constants::TINY;
 use complex::entry::get;
 use complex::entry::put;
 ghost use mathlib.Core.Path.{_≡_};
-ghost use Prim.Native.Nat.{ℕ, _*_, _<_};
+ghost use Prim.Native.Nat.{ℕ, _*_, _<_, _≤_};
 ghost use lib.ListN.{length};
 ghost use Rattle.complex.specs.Arithmetic as arithmetic;
 ghost use Rattle.complex.specs.Entries.{entry};
 ghost use Rattle.gauss_jordan.specs.Solving as spec;
-ghost use Rattle.gauss_jordan.specs.Work.{reducedEntry};
+ghost use Rattle.gauss_jordan.specs.Work.{BesideTurned, reducedEntry};
 
 pub fn copy(from: &[f64], to: &mut [f64])
     requires { ⌜ length (now from) ≡ length (now to) ⌝ }
@@ -35,8 +35,9 @@ pub fn exchange(a: &mut [f64], b: &mut [f64])
     }
 }
 
+// The first w entries.
 pub fn scale(row: &mut [f64], w: usize, by: Complex)
-    requires { ⌜ length (now row) ≡ 2 * w ⌝ }
+    requires { ⌜ 2 * w ≤ length (now row) ⌝ }
     ensures { λ _. ⌜ ((q : ℕ) → q < w → entry (now (row .exit)) q ≡ arithmetic.cmul (entry (now (row .entry)) q) by) ⌝ }
 {
     let mut j = 0;
@@ -54,22 +55,42 @@ pub fn skipped(f: Complex) -> bool
     complex::magnitude::abs(f.re) < TINY && complex::magnitude::abs(f.im) < TINY
 }
 
-pub fn subtract(row: &mut [f64], w: usize, factor: Complex, pivot: &[f64])
-    requires { ⌜ (length (now row) ≡ 2 * w) × (length (now pivot) ≡ 2 * w) ⌝ }
-    ensures { λ _. ⌜ ((q : ℕ) → q < w → entry (now (row .exit)) q ≡ arithmetic.csub (entry (now (row .entry)) q) (arithmetic.cmul factor (entry (now (pivot .entry)) q))) ⌝ }
+// The first w entries are stored once more behind themselves, turned.
+pub fn turn(row: &mut [f64], w: usize)
+    requires { ⌜ length (now row) ≡ 4 * w ⌝ }
+    ensures { λ _. ⌜ (BesideTurned w (now (row .exit))) × ((q : ℕ) → q < w → entry (now (row .exit)) q ≡ entry (now (row .entry)) q) ⌝ }
 {
     let mut j = 0;
     while j < w {
-        let y = get(row, j);
-        let p = get(pivot, j);
-        put(row, j, complex::csub(y, complex::cmul(factor, p)));
+        let p = get(row, j);
+        put(
+            row,
+            w + j,
+            Complex {
+                re: -p.im,
+                im: p.re,
+            },
+        );
+        j += 1;
+    }
+}
+
+// Number by number: with the turned row both parts are computed alike, so that the row is loaded and stored in vectors as it lies.
+pub fn subtract(row: &mut [f64], w: usize, factor: Complex, pivot: &[f64])
+    requires { ⌜ (length (now row) ≡ 2 * w) × (BesideTurned w (now pivot)) ⌝ }
+    ensures { λ _. ⌜ ((q : ℕ) → q < w → entry (now (row .exit)) q ≡ arithmetic.csub (entry (now (row .entry)) q) (arithmetic.cmul factor (entry (now (pivot .entry)) q))) ⌝ }
+{
+    let e = 2 * w;
+    let mut j = 0;
+    while j < e {
+        row[j] = row[j] - (factor.re * pivot[j] + factor.im * pivot[e + j]);
         j += 1;
     }
 }
 
 // The row loses its factor, its entry in column c, times the pivot row, unless the factor is skipped.
 pub fn reduce(row: &mut [f64], w: usize, c: usize, pivot: &[f64])
-    requires { ⌜ (c < w) × (length (now row) ≡ 2 * w) × (length (now pivot) ≡ 2 * w) ⌝ }
+    requires { ⌜ (c < w) × (length (now row) ≡ 2 * w) × (BesideTurned w (now pivot)) ⌝ }
     ensures { λ _. ⌜ ((q : ℕ) → q < w → entry (now (row .exit)) q ≡ reducedEntry (entry (now (row .entry)) c) (entry (now (pivot .entry)) q) (entry (now (row .entry)) q)) ⌝ }
 {
     let factor = get(row, c);

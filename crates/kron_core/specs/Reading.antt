@@ -1,22 +1,22 @@
--- What `reduced_matrix` and `thevenin_impedance` answer and leave, for every record and slice.
-use Prim.Native.Nat.{ℕ, zero, suc, _*_}
+-- What `reduced_matrix`, `active_buses` and `thevenin_impedance` answer and leave, for every record and slice.
+use Prim.Native.Nat.{ℕ, zero, suc, _*_, _-_}
 use mathlib.Core.Bool.{not, _||_, cond}
-use mathlib.Core.List.{List}
+use mathlib.Core.List.{List, _++_}
 use lib.Dec.{eqb, ltb}
-use lib.ListN.{length}
+use lib.ListN.{length, replicate}
 use lib.Ieee.{Float, binary64, ofBits}
 use Rattle.complex.specs.declared.Complex.{Complex}
 use Rattle.complex.specs.Constants.{plus0}
 use Rattle.complex.specs.Arithmetic.{cadd, csub, cmul}
 use Rattle.complex.specs.Matrices.{Matrix, entryAt, zeros}
 use Rattle.refusals.specs.declared.Outcome.{Outcome}
-use Rattle.refusals.specs.Refusals.{limit, tooMany, wrongLength, notActive, smallPivot, refuse, outcome}
+use Rattle.refusals.specs.Refusals.{limit, tooMany, wrongLength, badRecord, notActive, smallPivot, refuse, outcome}
 use Rattle.gauss_jordan.specs.Solving.{singular, inverse}
 use Rattle.kron_core.specs.declared.KronReducer.{KronReducer}
 use Rattle.kron_core.specs.declared.Impedance.{Impedance}
 use Rattle.kron_core.specs.declared.Impedance.the-variants.{Value, Refused}
 use Rattle.buses.specs.Buses.{mem, place}
-use Rattle.kron_core.specs.Reducer.{activeOf, inputRefusal, view, laidOut}
+use Rattle.kron_core.specs.Reducer.{activeOf, sound, inputRefusal, view, laidOut}
 
 -- 1, 2 (also of a second slice, of m numbers, that must have `per` for each entry at making), 9 or 0
 unfoldable pub readingRefusal : ℕ → KronReducer → List Float → ℕ → ℕ
@@ -36,6 +36,25 @@ unfoldable pub afterMatrix : KronReducer → List Float → List Float → After
 afterMatrix r ys os =
     let f = readingRefusal 2 r ys (length os) in
     record { answer = outcome f; out = cond (eqb f 0) (laidOut (2 * (r .made * r .made)) (activeOf r) (view r ys .entries)) os }
+
+-- ---- the active buses
+
+-- 1, 2 of an output of m numbers, which must have one for each row at making, 9 or 0
+unfoldable pub activeRefusal : KronReducer → ℕ → ℕ
+activeRefusal r m =
+    refuse (ltb limit (r .made)) tooMany
+    (refuse (not (eqb m (r .made))) wrongLength
+    (refuse (not (sound r)) badRecord 0))
+
+pub record AfterActive : Type 0 where
+  pub answer : Outcome
+  pub buses : List ℕ
+
+-- the bus of each present row, 0 behind; where refused the output as it was
+unfoldable pub afterActive : KronReducer → List ℕ → AfterActive
+afterActive r os =
+    let f = activeRefusal r (length os) in
+    record { answer = outcome f; buses = cond (eqb f 0) (activeOf r ++ replicate (r .made - r .«n_buses») 0) os }
 
 -- ---- Thevenin impedance
 

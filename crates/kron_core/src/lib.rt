@@ -20,7 +20,7 @@ ghost use Rattle.complex.specs.Entries.{entry};
 ghost use Rattle.complex.specs.Matrices.{upTo, zeros};
 ghost use Rattle.refusals.specs.Refusals.{limit, outcome};
 ghost use Rattle.kron_rows.specs.Removal.{padded};
-ghost use Rattle.kron_core.specs.Reading.{number, readingRefusal, afterMatrix, afterImpedance};
+ghost use Rattle.kron_core.specs.Reading.{number, readingRefusal, afterMatrix, activeRefusal, afterActive, afterImpedance};
 ghost use Rattle.kron_core.specs.Reducer.{makingOf, recordOf, afterNew, sound, inputRefusal, afterBus, afterBuses};
 
 mod thevenin;
@@ -179,8 +179,7 @@ fn take_accepted(r: KronReducer, y: &mut [f64], buses: &[usize]) -> TakenAll
     let n = r.n_buses;
     let mut active = r.active_buses;
     let mut row = [0.0; ROW];
-    let mut new = [0.0; ROW];
-    let ran = take_list(n, &mut active, y, &mut row, &mut new, buses);
+    let ran = take_list(n, &mut active, y, &mut row, buses);
     let done = ran.done;
     let removals = Removals {
         answer: answer_of(ran.stopped),
@@ -280,6 +279,45 @@ pub fn reduced_matrix(r: KronReducer, y: &[f64], out: &mut [f64]) -> Outcome
     }
     let n = r.n_buses;
     copy_rows(n, y, out);
+    Outcome::Done
+}
+
+// The input refusals of a call with an output of m bus numbers, one for each row at making: 1, 2 or 9, or 0.
+fn active_refusal(r: KronReducer, m: usize) -> u32
+    ensures { λ f. ⌜ f ≡ activeRefusal r m ⌝ }
+{
+    let made = r.made;
+    if made > LIMIT {
+        return 1;
+    }
+    if m != made {
+        return 2;
+    }
+    if is_sound(r) { 0 } else { 9 }
+}
+
+// The first places of a record, as many as `out` has.
+fn copy_places(places: &[usize], out: &mut [usize])
+    requires { ⌜ length (now out) ≤ length (now places) ⌝ }
+    ensures { λ _. ⌜ now (out .exit) ≡ take (length (now (out .entry))) (now (places .entry)) ⌝ }
+{
+    let mut i = 0;
+    while i < out.len() {
+        out[i] = places[i];
+        i += 1;
+    }
+}
+
+// The bus of each present row, in order, in `out`, 0 behind. Refusals: 1, 2, 9.
+pub fn active_buses(r: KronReducer, out: &mut [usize]) -> Outcome
+    ensures { λ o. ⌜ (o ≡ afterActive r (now (out .entry)) .answer) × (now (out .exit) ≡ afterActive r (now (out .entry)) .buses) ⌝ }
+{
+    let f = active_refusal(r, out.len());
+    if f != 0 {
+        return answer_of(f);
+    }
+    let places = r.active_buses;
+    copy_places(&places, out);
     Outcome::Done
 }
 

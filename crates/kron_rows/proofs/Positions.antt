@@ -6,12 +6,11 @@ use mathlib.Core.Logic.{_⊎_, inl, inr}
 use mathlib.Core.List.{List, [], _∷_}
 use Rattle.complex.specs.declared.Complex.{Complex}
 use Rattle.complex.specs.Entries.{entry, put}
-use Rattle.complex.specs.Matrices.{entryAt}
 use Rattle.complex.proofs.Parts.{back}
-use Rattle.complex.proofs.Entries.{entry-put-same, entry-put-other, entry-back-after, entry-take, entry-append-left}
+use Rattle.complex.proofs.Entries.{entry-put-same, entry-put-other, entry-take, entry-append-left}
 use lib.Ieee.{Float}
 use Prim.Native.Nat.{ℕ, zero, suc, _+_, _*_, _-_, _≤_, _<_}
-use native.Mathlib.Nat.{suc-mul, add-sub-cancel-left, le-of-eq, le-trans, mul-le-mul}
+use native.Mathlib.Nat.{add-sub-cancel-left, mul-le-mul}
 use Rattle.complex.proofs.Matrices.{row-within}
 use Rattle.refusals.specs.Refusals.{limit}
 use native.Mathlib.Numerals.{add-one}
@@ -137,20 +136,10 @@ row-room n i a b = (row-within n n i b, mul-le-mul a a)
 
 -- where row i of n and row p of n - 1 lie
 abbrev pub Room : ℕ → ℕ → ℕ → Type 0
-Room n i p = (i * n + n ≤ n * n) × (p * (n - 1) + (n - 1) ≤ i * n + n) × (n * n ≤ limit * limit)
+Room n i p = (i * n + n ≤ n * n) × (p * (n - 1) ≤ i * n) × (n * n ≤ limit * limit)
 
-pub room : (n i p : ℕ) → n ≤ limit → i < n → p ≤ i → p < n - 1 → Room n i p
-room n i p a b d e = (
-  row-within n n i b,
-  le-trans (le-of-eq (sym (suc-mul p (n - 1)))) (le-trans (mul-le-mul {n₁ = suc p} {m₁ = n - 1} {n₂ = suc i} {m₂ = n} (omega arith) (omega arith)) (le-of-eq (suc-mul i n))),
-  mul-le-mul a a,
-)
-
--- row p of rows of m came back: what lies behind it, by rows of n
-pub entry-behind : (n m p : ℕ) (xs ys : List Float) → 2 * (p * m + m) ≤ length xs → length ys ≡ 2 * m → (r q : ℕ) → p * m + m ≤ r * n + q
-    → entryAt n (back (2 * (p * m)) (2 * m) xs ys) r q ≡ entryAt n xs r q
-unfolding entryAt
-entry-behind n m p xs ys fits long r q h = entry-back-after (p * m) m xs ys fits long (r * n + q) h
+pub room : (n i p : ℕ) → n ≤ limit → i < n → p ≤ i → Room n i p
+room n i p a b d = (row-within n n i b, mul-le-mul d (omega arith), mul-le-mul a a)
 
 -- the front of a list, after its front came back
 pub entry-front : (n w : ℕ) (xs ys : List Float) → w ≡ 2 * n → 2 * n ≤ length xs → length ys ≡ 2 * n → (j : ℕ) → j < n

@@ -99,72 +99,85 @@ fn new_entry(ij: Complex, ik: Complex, kj: Complex, kk: Complex) -> Complex
     csub(ij, cdiv(cmul(ik, kj), kk))
 }
 
-// The columns first .. end of a row without column k, of the old columns d further on.
+// x itself. The remainder is for the compiler: it sees a distance that is small and not 0, so that a loop's writes stay behind its reads, and works out two columns at a time.
+fn near(x: usize) -> usize
+    requires { ⌜ (0 < x) × (x ≤ 65536) ⌝ }
+    ensures { λ r. ⌜ r ≡ x ⌝ }
+{
+    (x - 1) % 65536 + 1
+}
+
+// The columns first .. end of a row without column k, of the old columns d further on, in place: `s` begins with the new row, the old one `at` entries further on, and far is at + d.
+// Column q is written to place q, and the old columns still to be read stand behind q + far, so nothing unread is overwritten; column k's own entry is read before them all.
 fn reduce_columns(
     k: usize,
     d: usize,
     first: usize,
     end: usize,
-    old: &[f64],
+    at: usize,
+    far: usize,
+    s: &mut [f64],
     row: &[f64],
-    new: &mut [f64],
 )
-    requires { ⌜ ((q : ℕ) → first ≤ q → q < end → kept k q ≡ q + d) × (first ≤ end) × (2 * (end + d) ≤ length (now old)) × (2 * k + 1 < length (now old))
-        × (length (now row) ≡ length (now old)) × (2 * end ≤ length (now new)) ⌝ }
-    ensures { λ _. ⌜ ((q : ℕ) → first ≤ q → q < end → entry (now (new .exit)) q
-        ≡ newEntry (entry (now (old .entry)) (kept k q)) (entry (now (old .entry)) k) (entry (now (row .entry)) (kept k q)) (entry (now (row .entry)) k))
-        × ((q : ℕ) → q < first → entry (now (new .exit)) q ≡ entry (now (new .entry)) q) ⌝ }
+    requires { ⌜ ((q : ℕ) → first ≤ q → q < end → kept k q ≡ q + d) × (first ≤ end) × (far ≡ at + d) × (2 * (end + far) ≤ length (now s)) × (2 * (at + k) + 1 < length (now s))
+        × (2 * (end + d) ≤ length (now row)) × (2 * k + 1 < length (now row)) ⌝ }
+    ensures { λ _. ⌜ ((q : ℕ) → first ≤ q → q < end → entry (now (s .exit)) q
+        ≡ newEntry (entry (now (s .entry)) (at + kept k q)) (entry (now (s .entry)) (at + k)) (entry (now (row .entry)) (kept k q)) (entry (now (row .entry)) k))
+        × ((q : ℕ) → q < first → entry (now (s .exit)) q ≡ entry (now (s .entry)) q)
+        × ((q : ℕ) → end ≤ q → entry (now (s .exit)) q ≡ entry (now (s .entry)) q) ⌝ }
 {
-    let ik = get(old, k);
+    let ik = get(s, at + k);
     let kk = get(row, k);
     let mut q = first;
     while q < end {
-        put(new, q, new_entry(get(old, q + d), ik, get(row, q + d), kk));
+        put(s, q, new_entry(get(s, q + far), ik, get(row, q + d), kk));
         q += 1;
     }
 }
 
-// A row of n entries without column k, reduced by row k.
-fn reduce_row(n: usize, k: usize, old: &[f64], row: &[f64], new: &mut [f64])
-    requires { ⌜ (k < n) × (length (now old) ≡ 2 * n) × (length (now row) ≡ 2 * n) × (length (now new) ≡ 2 * (n - 1)) ⌝ }
-    ensures { λ _. ⌜ ((q : ℕ) → q < n - 1 → entry (now (new .exit)) q
-        ≡ newEntry (entry (now (old .entry)) (kept k q)) (entry (now (old .entry)) k) (entry (now (row .entry)) (kept k q)) (entry (now (row .entry)) k)) ⌝ }
+// The columns before k. Row 0's stay where they are; they have a call of their own, for `near` is never 0.
+fn left_columns(k: usize, at: usize, s: &mut [f64], row: &[f64])
+    requires { ⌜ (at ≤ limit * limit) × (2 * (at + k) + 1 < length (now s)) × (2 * k + 1 < length (now row)) ⌝ }
+    ensures { λ _. ⌜ ((q : ℕ) → q < k → entry (now (s .exit)) q
+        ≡ newEntry (entry (now (s .entry)) (at + kept k q)) (entry (now (s .entry)) (at + k)) (entry (now (row .entry)) (kept k q)) (entry (now (row .entry)) k))
+        × ((q : ℕ) → k ≤ q → entry (now (s .exit)) q ≡ entry (now (s .entry)) q) ⌝ }
 {
-    reduce_columns(k, 0, 0, k, old, row, new);
-    reduce_columns(k, 1, k, n - 1, old, row, new);
+    if at == 0 {
+        reduce_columns(k, 0, 0, k, 0, 0, s, row);
+        return;
+    }
+    reduce_columns(k, 0, 0, k, at, near(at), s, row);
 }
 
-// Row i of the n, reduced by row k, becomes row p of the n - 1.
-fn put_row(n: usize, k: usize, i: usize, p: usize, y: &mut [f64], row: &[f64], new: &mut [f64])
-    requires { ⌜ (n ≤ limit) × (k < n) × (i < n) × (p ≤ i) × (p < n - 1) × (2 * (n * n) ≤ length (now y))
-        × (length (now row) ≡ 2 * n) × (length (now new) ≡ 2 * (n - 1)) ⌝ }
+// A row of n entries that begins `at` entries into s, reduced by row k, stands without column k at the front of s.
+fn reduce_row(n: usize, k: usize, at: usize, s: &mut [f64], row: &[f64])
+    requires { ⌜ (k < n) × (at ≤ limit * limit) × (length (now s) ≡ 2 * (at + n)) × (length (now row) ≡ 2 * n) ⌝ }
+    ensures { λ _. ⌜ ((q : ℕ) → q < n - 1 → entry (now (s .exit)) q
+        ≡ newEntry (entry (now (s .entry)) (at + kept k q)) (entry (now (s .entry)) (at + k)) (entry (now (row .entry)) (kept k q)) (entry (now (row .entry)) k)) ⌝ }
+{
+    left_columns(k, at, s, row);
+    reduce_columns(k, 1, k, n - 1, at, near(at + 1), s, row);
+}
+
+// Row i of the n, reduced by row k, becomes row p of the n - 1. The part handed on is from where the new row begins to where the old one ends.
+fn put_row(n: usize, k: usize, i: usize, p: usize, y: &mut [f64], row: &[f64])
+    requires { ⌜ (n ≤ limit) × (k < n) × (i < n) × (p ≤ i) × (2 * (n * n) ≤ length (now y)) × (length (now row) ≡ 2 * n) ⌝ }
     ensures { λ _. ⌜ ((q : ℕ) → q < n - 1 → entryAt (n - 1) (now (y .exit)) p q
         ≡ newEntry (entryAt n (now (y .entry)) i (kept k q)) (entryAt n (now (y .entry)) i k) (entry (now (row .entry)) (kept k q)) (entry (now (row .entry)) k))
         × ((r q : ℕ) → r < p → q < n - 1 → entryAt (n - 1) (now (y .exit)) r q ≡ entryAt (n - 1) (now (y .entry)) r q)
         × ((r q : ℕ) → i < r → entryAt n (now (y .exit)) r q ≡ entryAt n (now (y .entry)) r q) ⌝ }
 {
-    let m = n - 1;
-    let a = 2 * (i * n);
-    let e = a + 2 * n;
-    let b = 2 * (p * m);
-    let f = b + 2 * m;
-    reduce_row(n, k, &y[a..e], row, new);
-    copy(new, &mut y[b..f]);
+    let b = p * (n - 1);
+    let at = i * n - b;
+    let f = 2 * b;
+    let e = f + 2 * (at + n);
+    reduce_row(n, k, at, &mut y[f..e], row);
 }
 
 // The rows first .. end of the n - 1, of the old rows d further down.
-fn put_rows(
-    n: usize,
-    k: usize,
-    d: usize,
-    first: usize,
-    end: usize,
-    y: &mut [f64],
-    row: &[f64],
-    new: &mut [f64],
-)
-    requires { ⌜ (n ≤ limit) × (k < n) × (first ≤ end) × (end ≤ n - 1) × (end + d ≤ n) × ((p : ℕ) → first ≤ p → p < end → kept k p ≡ p + d) × (2 * (n * n) ≤ length (now y))
-        × (length (now row) ≡ 2 * n) × (length (now new) ≡ 2 * (n - 1)) ⌝ }
+fn put_rows(n: usize, k: usize, d: usize, first: usize, end: usize, y: &mut [f64], row: &[f64])
+    requires { ⌜ (n ≤ limit) × (k < n) × (first ≤ end) × (end + d ≤ n) × ((p : ℕ) → first ≤ p → p < end → kept k p ≡ p + d) × (2 * (n * n) ≤ length (now y))
+        × (length (now row) ≡ 2 * n) ⌝ }
     ensures { λ _. ⌜ ((r q : ℕ) → first ≤ r → r < end → q < n - 1 → entryAt (n - 1) (now (y .exit)) r q
         ≡ newEntry (entryAt n (now (y .entry)) (kept k r) (kept k q)) (entryAt n (now (y .entry)) (kept k r) k) (entry (now (row .entry)) (kept k q)) (entry (now (row .entry)) k))
         × ((r q : ℕ) → r < first → q < n - 1 → entryAt (n - 1) (now (y .exit)) r q ≡ entryAt (n - 1) (now (y .entry)) r q)
@@ -172,32 +185,31 @@ fn put_rows(
 {
     let mut p = first;
     while p < end {
-        put_row(n, k, p + d, p, y, row, new);
+        put_row(n, k, p + d, p, y, row);
         p += 1;
     }
 }
 
 // Every row but k, reduced by row k.
-fn other_rows(n: usize, k: usize, y: &mut [f64], row: &[f64], new: &mut [f64])
-    requires { ⌜ (n ≤ limit) × (k < n) × (2 * (n * n) ≤ length (now y)) × (length (now row) ≡ 2 * n) × (length (now new) ≡ 2 * (n - 1)) ⌝ }
+fn other_rows(n: usize, k: usize, y: &mut [f64], row: &[f64])
+    requires { ⌜ (n ≤ limit) × (k < n) × (2 * (n * n) ≤ length (now y)) × (length (now row) ≡ 2 * n) ⌝ }
     ensures { λ _. ⌜ ((p q : ℕ) → p < n - 1 → q < n - 1 → entryAt (n - 1) (now (y .exit)) p q
         ≡ newEntry (entryAt n (now (y .entry)) (kept k p) (kept k q)) (entryAt n (now (y .entry)) (kept k p) k) (entry (now (row .entry)) (kept k q)) (entry (now (row .entry)) k)) ⌝ }
 {
-    put_rows(n, k, 0, 0, k, y, row, new);
-    put_rows(n, k, 1, k, n - 1, y, row, new);
+    put_rows(n, k, 0, 0, k, y, row);
+    put_rows(n, k, 1, k, n - 1, y, row);
 }
 
-// Row and column k drop out of the n rows at the slice's front. `row` and `new` are room for a row each.
-fn remove_row(n: usize, k: usize, y: &mut [f64], row: &mut [f64], new: &mut [f64])
-    requires { ⌜ (n ≤ limit) × (k < n) × (2 * (n * n) ≤ length (now y)) × (length (now row) ≡ 2 * limit) × (length (now new) ≡ 2 * limit) ⌝ }
+// Row and column k drop out of the n rows at the slice's front. `row` is room for a row.
+fn remove_row(n: usize, k: usize, y: &mut [f64], row: &mut [f64])
+    requires { ⌜ (n ≤ limit) × (k < n) × (2 * (n * n) ≤ length (now y)) × (length (now row) ≡ 2 * limit) ⌝ }
     ensures { λ _. ⌜ ((p q : ℕ) → p < n - 1 → q < n - 1 → entryAt (n - 1) (now (y .exit)) p q ≡ kron k (entryAt n (now (y .entry))) (kept k p) (kept k q)) ⌝ }
 {
     let w = 2 * n;
-    let v = w - 2;
     let a = 2 * (k * n);
     let e = a + w;
     copy(&y[a..e], &mut row[0..w]);
-    other_rows(n, k, y, &row[0..w], &mut new[0..v]);
+    other_rows(n, k, y, &row[0..w]);
 }
 
 // Whether row k's own entry is too small to divide by.
@@ -209,15 +221,8 @@ fn too_small(n: usize, k: usize, y: &[f64]) -> bool
 }
 
 // One bus is removed from the n that `active` and the slice's front hold: 0, or 11 or 12 with both as they were.
-fn take_one(
-    n: usize,
-    active: &mut [usize],
-    y: &mut [f64],
-    row: &mut [f64],
-    new: &mut [f64],
-    bus: usize,
-) -> u32
-    requires { ⌜ Holds n (now active) (now y) × (length (now row) ≡ 2 * limit) × (length (now new) ≡ 2 * limit) ⌝ }
+fn take_one(n: usize, active: &mut [usize], y: &mut [f64], row: &mut [f64], bus: usize) -> u32
+    requires { ⌜ Holds n (now active) (now y) × (length (now row) ≡ 2 * limit) ⌝ }
     ensures { λ f. ⌜ TookOne n (now (active .entry)) (now (y .entry)) bus f (now (active .exit)) (now (y .exit)) ⌝ }
 {
     let Found::At(k) = find_bus(&active[0..n], bus) else {
@@ -226,7 +231,7 @@ fn take_one(
     if too_small(n, k, y) {
         return 12;
     }
-    remove_row(n, k, y, row, new);
+    remove_row(n, k, y, row);
     close_places(active, n, k);
     0
 }
@@ -237,15 +242,14 @@ pub fn take_list(
     active: &mut [usize],
     y: &mut [f64],
     row: &mut [f64],
-    new: &mut [f64],
     buses: &[usize],
 ) -> Ran
-    requires { ⌜ Holds n (now active) (now y) × (length (now row) ≡ 2 * limit) × (length (now new) ≡ 2 * limit) ⌝ }
+    requires { ⌜ Holds n (now active) (now y) × (length (now row) ≡ 2 * limit) ⌝ }
     ensures { λ r. ⌜ TookAll n (now (active .entry)) (now (y .entry)) (now (buses .entry)) r (now (active .exit)) (now (y .exit)) ⌝ }
 {
     let mut done = 0;
     while done < buses.len() {
-        let f = take_one(n - done, active, y, row, new, buses[done]);
+        let f = take_one(n - done, active, y, row, buses[done]);
         if f != 0 {
             return Ran {
                 stopped: f,

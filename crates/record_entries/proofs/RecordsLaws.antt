@@ -16,54 +16,54 @@ use Rattle.record_entries.specs.Records.{recordBytes, activeIn, recordIn
 -- ---- reading
 
 -- the places stand behind the two sizes
-behind : (bs : List ℕ) → length bs ≡ recordBytes → length (drop 16 bs) ≡ 8 * limit
+pub behind : (bs : List ℕ) → length bs ≡ recordBytes → length (drop 16 bs) ≡ 8 * limit
 behind bs l = let d = length-drop 16 bs in omega (arith, d, l)
 
-pub active-read : (bs xs : List ℕ) → length bs ≡ recordBytes → length xs ≡ limit → take limit xs ≡ words limit (take (8 * limit) (drop 16 bs)) → xs ≡ activeIn bs
+pub active-read : (bs xs : List ℕ) (m : ℕ) → length bs ≡ recordBytes → m ≡ limit → xs ≡ words 8 m (take (8 * limit) (drop 16 bs)) → xs ≡ activeIn bs
 unfolding activeIn
-active-read bs xs l m e =
+active-read bs xs m l e g =
     let d = behind bs l in
-    sym (take-all limit xs (omega (arith, m))) ∙ e ∙ ap (words limit) (take-all (8 * limit) (drop 16 bs) (omega (arith, d)))
+    g ∙ ap (λ (k : ℕ). words 8 k (take (8 * limit) (drop 16 bs))) e ∙ ap (words 8 limit) (take-all (8 * limit) (drop 16 bs) (omega (arith, d)))
 
 pub no-record : (bs : List ℕ) → (length bs ≡ recordBytes → ⊥) → record { made = 0; «n_buses» = 0; «active_buses» = replicate limit 0 } ≡ recordIn bs
 unfolding recordIn
 no-record bs n = sym (rw (ne-eqb (length bs) recordBytes n) refl)
 
-pub record-read : (bs : List ℕ) (m n : ℕ) (xs : List ℕ) → length bs ≡ recordBytes → m ≡ word bs 0 → n ≡ word bs 8 → xs ≡ activeIn bs → record { made = m; «n_buses» = n; «active_buses» = xs } ≡ recordIn bs
+pub record-read : (bs : List ℕ) (m n : ℕ) (xs : List ℕ) → length bs ≡ recordBytes → m ≡ word 8 bs 0 → n ≡ word 8 bs 8 → xs ≡ activeIn bs → record { made = m; «n_buses» = n; «active_buses» = xs } ≡ recordIn bs
 unfolding recordIn
 record-read bs m n xs l p q e = rw (eq-eqb (length bs) recordBytes l) cc
 
 -- ---- writing
 
-sizes : (bs : List ℕ) (m n : ℕ) → length bs ≡ recordBytes → take 16 (putWord (putWord bs 0 m) 8 n) ≡ ofWords (m ∷ n ∷ [])
+sizes : (bs : List ℕ) (m n : ℕ) → length bs ≡ recordBytes → take 16 (putWord 8 (putWord 8 bs 0 m) 8 n) ≡ ofWords 8 (m ∷ n ∷ [])
 unfolding ofWords
 sizes bs m n l =
-    let long = length-putWord bs 0 m in
-    written-more (putWord bs 0 m) (m ∷ n ∷ []) 1 (omega (arith, long, l)) (omega arith)
-    (written-more bs (m ∷ n ∷ []) 0 (omega (arith, l)) (omega arith) refl)
+    let long = length-putWord 8 bs 0 m in
+    written-more 8 (putWord 8 bs 0 m) (m ∷ n ∷ []) 1 (omega (arith, long, l)) (omega arith)
+    (written-more 8 bs (m ∷ n ∷ []) 0 (omega (arith, l)) (omega arith) refl)
 
-together : (m n : ℕ) (xs : List ℕ) → ofWords (m ∷ n ∷ []) ++ ofWords xs ≡ ofWords (m ∷ n ∷ xs)
+together : (m n : ℕ) (xs : List ℕ) → ofWords 8 (m ∷ n ∷ []) ++ ofWords 8 xs ≡ ofWords 8 (m ∷ n ∷ xs)
 unfolding ofWords bytesOf
 together m n xs = refl
 
 -- the room that the sizes leave is as long as the places
-pub length-left : (bs cs ds xs : List ℕ) (m n : ℕ) → length bs ≡ recordBytes → cs ≡ putWord bs 0 m → ds ≡ putWord cs 8 n → length xs ≡ limit
+pub length-left : (bs cs ds xs : List ℕ) (m n : ℕ) → length bs ≡ recordBytes → cs ≡ putWord 8 bs 0 m → ds ≡ putWord 8 cs 8 n → length xs ≡ limit
     → length (take (8 * limit) (drop 16 ds)) ≡ 8 * length xs
 length-left bs cs ds xs m n l p q full =
-    let long : length ds ≡ recordBytes = ap length q ∙ length-putWord cs 8 n ∙ ap length p ∙ length-putWord bs 0 m ∙ l in
+    let long : length ds ≡ recordBytes = ap length q ∙ length-putWord 8 cs 8 n ∙ ap length p ∙ length-putWord 8 bs 0 m ∙ l in
     let d = behind ds long in
     length-take-le (8 * limit) (drop 16 ds) (omega (arith, d)) ∙ sym (ap (λ (k : ℕ). 8 * k) full)
 
 -- the two sizes put in place, and the places written behind them
-pub record-written : (bs cs ds part : List ℕ) (r : KronReducer) → length bs ≡ recordBytes → cs ≡ putWord bs 0 (r .made) → ds ≡ putWord cs 8 (r .«n_buses») → part ≡ ofWords (r .«active_buses»)
-    → take 16 ds ++ (part ++ drop (8 * limit) (drop 16 ds)) ≡ ofWords (wordsOf r)
+pub record-written : (bs cs ds part : List ℕ) (r : KronReducer) → length bs ≡ recordBytes → cs ≡ putWord 8 bs 0 (r .made) → ds ≡ putWord 8 cs 8 (r .«n_buses») → part ≡ ofWords 8 (r .«active_buses»)
+    → take 16 ds ++ (part ++ drop (8 * limit) (drop 16 ds)) ≡ ofWords 8 (wordsOf r)
 record-written bs cs ds part r l p q e =
-    let two : ds ≡ putWord (putWord bs 0 (r .made)) 8 (r .«n_buses») = cc in
-    let front : take 16 ds ≡ ofWords (r .made ∷ r .«n_buses» ∷ []) = ap (take 16) two ∙ sizes bs (r .made) (r .«n_buses») l in
-    let long : length ds ≡ recordBytes = ap length q ∙ length-putWord cs 8 (r .«n_buses») ∙ ap length p ∙ length-putWord bs 0 (r .made) ∙ l in
+    let two : ds ≡ putWord 8 (putWord 8 bs 0 (r .made)) 8 (r .«n_buses») = cc in
+    let front : take 16 ds ≡ ofWords 8 (r .made ∷ r .«n_buses» ∷ []) = ap (take 16) two ∙ sizes bs (r .made) (r .«n_buses») l in
+    let long : length ds ≡ recordBytes = ap length q ∙ length-putWord 8 cs 8 (r .«n_buses») ∙ ap length p ∙ length-putWord 8 bs 0 (r .made) ∙ l in
     let d = behind ds long in
     let rest : drop (8 * limit) (drop 16 ds) ≡ [] = drop-of-length-le (drop 16 ds) {i = 8 * limit} (omega (arith, d)) in
     ap (λ (t : List ℕ). t ++ (part ++ drop (8 * limit) (drop 16 ds))) front
-    ∙ ap (λ (t : List ℕ). ofWords (r .made ∷ r .«n_buses» ∷ []) ++ (part ++ t)) rest
-    ∙ ap (λ (t : List ℕ). ofWords (r .made ∷ r .«n_buses» ∷ []) ++ t) (append-nil part ∙ e)
+    ∙ ap (λ (t : List ℕ). ofWords 8 (r .made ∷ r .«n_buses» ∷ []) ++ (part ++ t)) rest
+    ∙ ap (λ (t : List ℕ). ofWords 8 (r .made ∷ r .«n_buses» ∷ []) ++ t) (append-nil part ∙ e)
     ∙ together (r .made) (r .«n_buses») (r .«active_buses»)

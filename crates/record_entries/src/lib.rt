@@ -1,16 +1,10 @@
-// A reducer's record in a byte slice, and the entry that makes one: the matrix read into a room for the library, the call, and the
-// record written.
+// A reducer's record in a byte slice: read, and written where a call is not refused.
 use entry_slices::bytes::put_word;
 use entry_slices::bytes::read_words;
 use entry_slices::bytes::word_at;
 use entry_slices::bytes::write_words;
-use entry_slices::rooms::MATRIX;
-use entry_slices::slices::load_floats;
-use entry_slices::slices::misfit;
-use entry_slices::slices::told;
-use equivalents::kron::KronReducer;
+use kron_core::KronReducer;
 use refusals::LIMIT;
-use refusals::number;
 ghost use mathlib.Core.Path.{_≡_};
 ghost use lib.ListN.{length};
 ghost use Rattle.entry_slices.specs.Bytes.{ofWords};
@@ -24,7 +18,7 @@ fn active_in(s: &[u8]) -> [usize; LIMIT]
     ensures { λ r. ⌜ r ≡ spec.activeIn (now (s .entry)) ⌝ }
 {
     let mut active = [0; LIMIT];
-    read_words(&s[16..RECORD], &mut active, LIMIT);
+    read_words(&s[16..RECORD], &mut active);
     active
 }
 
@@ -48,7 +42,7 @@ pub fn record_in(s: &[u8]) -> KronReducer
 
 fn write_record(s: &mut [u8], r: KronReducer)
     requires { ⌜ length (now s) ≡ spec.recordBytes ⌝ }
-    ensures { λ _. ⌜ now (s .exit) ≡ ofWords (spec.wordsOf r) ⌝ }
+    ensures { λ _. ⌜ now (s .exit) ≡ ofWords 8 (spec.wordsOf r) ⌝ }
 {
     let active = r.active_buses;
     put_word(s, 0, r.made as u64);
@@ -65,24 +59,4 @@ pub fn store_record(s: &mut [u8], r: KronReducer, refusal: u32)
             write_record(s, r);
         }
     }
-}
-
-fn make(n: usize, ys: &[f64], spare: usize, rec: &mut [u8]) -> u32
-    ensures { λ r. ⌜ spec.MadeBy n (now (ys .entry)) spare (now (rec .entry)) r (now (rec .exit)) ⌝ }
-{
-    let made = KronReducer::new(n, ys);
-    let answer = made.answer;
-    let record = made.rec;
-    let refusal = told(spare, number(answer));
-    store_record(rec, record, refusal);
-    refusal
-}
-
-pub fn make_in(n: usize, y: &[u8], rec: &mut [u8]) -> u32
-    ensures { λ r. ⌜ spec.Made n (now (y .entry)) (now (rec .entry)) r (now (rec .exit)) ⌝ }
-{
-    let mut matrix = [0.0; MATRIX];
-    let k = load_floats(y, &mut matrix);
-    let spare = y.len() % 8 + misfit(rec.len(), RECORD);
-    make(n, &matrix[0..k], spare, rec)
 }

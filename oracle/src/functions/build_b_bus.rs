@@ -35,7 +35,7 @@ pub fn expected(call: &Call) -> Expected {
     let outside = |bus: &usize| *bus >= n;
     let refusals = faults(&[
         (1, n > LIMIT || long),
-        (2, !call.holds(B, n as u128 * n as u128) || call.cut()),
+        (2, !call.holds(B, n as u128 * n as u128)),
         (3, unequal),
         (6, from.iter().any(outside) || to.iter().any(outside)),
     ]);

@@ -18,7 +18,9 @@ pub fn of(rec: Vec<u8>, y: Vec<u8>, bus: usize) -> Call {
 }
 
 pub fn expected(call: &Call) -> Expected {
-    let refusals = faults(&reducer::refusals(call, false, |_| true));
+    let refusals = faults(&reducer::refusals(call, false, |made| {
+        call.holds(Y, reducer::square(made))
+    }));
     let asked = match reducer::reducer(call) {
         None => Asked::NotAsked,
         Some(mut r) => ask(|| r.eliminate_bus(call.wholes[0] as usize).map(|_| r)),

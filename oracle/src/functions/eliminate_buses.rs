@@ -2,7 +2,7 @@
 use super::{reducer, LIMIT};
 use crate::ask::{ask, Asked, Kind};
 use crate::call::{dirty, Call, Function};
-use crate::expected::{self, faults, After, Expected};
+use crate::expected::{self, faults, Expected};
 use crate::source::Source;
 use crate::words::{bytes_of, wholes_of, words_of_wholes};
 use reference::reduction::{reach, KronReducer};
@@ -34,7 +34,9 @@ fn removed(mut r: KronReducer, buses: &[usize]) -> (u32, KronReducer) {
 
 pub fn expected(call: &Call) -> Expected {
     let long = call.count(BUSES) > LIMIT;
-    let refusals = faults(&reducer::refusals(call, long, |_| call.holds(REMOVED, 1)));
+    let refusals = faults(&reducer::refusals(call, long, |made| {
+        call.holds(Y, reducer::square(made))
+    }));
     let buses = wholes_of(&call.slices[BUSES]);
     let asked = match reducer::reducer(call) {
         None => Asked::NotAsked,
@@ -52,8 +54,6 @@ pub fn expected(call: &Call) -> Expected {
         } else if count > 0 {
             let (rec, y) = reducer::left(before.made, call.count(Y), &r);
             e.words(REC, rec).words(Y, y)
-        } else if number == 0 {
-            e.with(Y, After::Alike)
         } else {
             e
         }

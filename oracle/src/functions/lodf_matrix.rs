@@ -33,10 +33,7 @@ pub fn expected(call: &Call) -> Expected {
     let missing = from.iter().any(outside) || to.iter().any(outside);
     let refusals = faults(&[
         (1, n > LIMIT || m > LIMIT || call.count(TO) > LIMIT),
-        (
-            2,
-            !call.holds(PTDF, wide * n as u128) || !call.holds(LODF, wide * wide) || call.cut(),
-        ),
+        (2, !call.holds(PTDF, wide * n as u128) || !call.holds(LODF, wide * wide)),
         (3, call.count(TO) != m),
         (6, missing),
     ]);

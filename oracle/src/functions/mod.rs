@@ -3,8 +3,10 @@ use crate::call::{Call, Function};
 use crate::expected::Expected;
 use crate::source::Source;
 
+pub mod active_buses;
 pub mod build_b_bus;
 pub mod complex_matrix_inverse;
+pub mod conversions;
 pub mod eliminate_bus;
 pub mod eliminate_buses;
 pub mod kron_new;
@@ -27,34 +29,6 @@ pub const LIMIT: usize = 64;
 // Beyond this size the Rust, which has no limit, is not asked.
 pub const ASKED: usize = 130;
 
-pub const SCALARS: [Function; 9] = [
-    Function::Cadd,
-    Function::Csub,
-    Function::Cneg,
-    Function::Cmul,
-    Function::Cdiv,
-    Function::ComplexInv,
-    Function::Abs,
-    Function::Sqrt,
-    Function::Magnitude,
-];
-
-pub const STUDIES: [Function; 13] = [
-    Function::SolveLinear,
-    Function::ComplexMatrixInverse,
-    Function::KronNew,
-    Function::EliminateBus,
-    Function::EliminateBuses,
-    Function::ReducedMatrix,
-    Function::TheveninImpedance,
-    Function::WardCompute,
-    Function::WardComputeExtended,
-    Function::ReiCompute,
-    Function::RetainedBuses,
-    Function::BuildBBus,
-    Function::LodfMatrix,
-];
-
 pub fn expected(call: &Call) -> Expected {
     match call.function {
         Function::SolveLinear => solve_linear::expected(call),
@@ -62,6 +36,7 @@ pub fn expected(call: &Call) -> Expected {
         Function::KronNew => kron_new::expected(call),
         Function::EliminateBus => eliminate_bus::expected(call),
         Function::EliminateBuses => eliminate_buses::expected(call),
+        Function::ActiveBuses => active_buses::expected(call),
         Function::ReducedMatrix => reduced_matrix::expected(call),
         Function::TheveninImpedance => thevenin_impedance::expected(call),
         Function::WardCompute => ward_compute::expected(call),
@@ -70,7 +45,8 @@ pub fn expected(call: &Call) -> Expected {
         Function::RetainedBuses => retained_buses::expected(call),
         Function::BuildBBus => build_b_bus::expected(call),
         Function::LodfMatrix => lodf_matrix::expected(call),
-        _ => scalars::expected(call),
+        scalar if scalar.is_scalar() => scalars::expected(call),
+        _ => conversions::expected(call),
     }
 }
 
@@ -82,6 +58,7 @@ pub fn sound(function: Function, s: &mut Source, n: usize) -> Call {
         Function::KronNew => kron_new::random(s, n),
         Function::EliminateBus => eliminate_bus::random(s, n),
         Function::EliminateBuses => eliminate_buses::random(s, n),
+        Function::ActiveBuses => active_buses::random(s, n),
         Function::ReducedMatrix => reduced_matrix::random(s, n),
         Function::TheveninImpedance => thevenin_impedance::random(s, n),
         Function::WardCompute => ward_compute::random(s, n),
@@ -90,6 +67,7 @@ pub fn sound(function: Function, s: &mut Source, n: usize) -> Call {
         Function::RetainedBuses => retained_buses::random(s, n),
         Function::BuildBBus => build_b_bus::random(s, n),
         Function::LodfMatrix => lodf_matrix::random(s, n),
-        _ => scalars::random(function, s),
+        scalar if scalar.is_scalar() => scalars::random(scalar, s),
+        conversion => conversions::random(conversion, s, n),
     }
 }

@@ -6,6 +6,7 @@ use crate::expected::{self, faults, Expected};
 use crate::source::Source;
 use crate::words::{padded, words_of_rows};
 
+const Y: usize = 1;
 const OUT: usize = 2;
 
 pub fn of(rec: Vec<u8>, y: Vec<u8>) -> Call {
@@ -19,7 +20,9 @@ pub fn of(rec: Vec<u8>, y: Vec<u8>) -> Call {
 }
 
 pub fn expected(call: &Call) -> Expected {
-    let refusals = faults(&reducer::refusals(call, false, |square| call.holds(OUT, square)));
+    let refusals = faults(&reducer::refusals(call, false, |made| {
+        call.holds(Y, reducer::square(made)) && call.holds(OUT, reducer::square(made))
+    }));
     let asked = match reducer::reducer(call) {
         None => Asked::NotAsked,
         Some(r) => ask(|| Ok(r.reduced_matrix())),

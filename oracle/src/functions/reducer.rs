@@ -20,6 +20,10 @@ pub fn record_words(made: usize, active: &[usize]) -> Vec<u64> {
     padded(words, RECORD)
 }
 
+pub fn bytes(made: usize, active: &[usize]) -> Vec<u8> {
+    bytes_of(&record_words(made, active))
+}
+
 // slice i as a record, where it has a record's length
 pub fn record(call: &Call, i: usize) -> Option<Record> {
     let words = wholes_of(&call.slices[i]);
@@ -50,19 +54,24 @@ impl Record {
     }
 }
 
-// 1, 2 and 9 of a call on a record at slice 0 and its matrix at slice 1
-pub fn refusals(call: &Call, long_list: bool, lengths: impl Fn(u128) -> bool) -> Vec<(u32, bool)> {
+// numbers of a matrix of so many buses
+pub fn square(made: u128) -> u128 {
+    2 * made * made
+}
+
+// 1, 2 and 9 of a call on a record at slice 0; of a record of another length nothing is read
+pub fn refusals(call: &Call, long_list: bool, fits: impl Fn(u128) -> bool) -> Vec<(u32, bool)> {
     match record(call, 0) {
         None => vec![(1, long_list), (2, true)],
-        Some(r) => {
-            let square = 2 * r.made as u128 * r.made as u128;
-            let fits = call.holds(1, square) && lengths(square) && !call.cut();
-            vec![(1, long_list || r.made > LIMIT), (2, !fits), (9, !r.sound())]
-        }
+        Some(r) => vec![
+            (1, long_list || r.made > LIMIT),
+            (2, !fits(r.made as u128)),
+            (9, !r.sound()),
+        ],
     }
 }
 
-// The Rust's reducer with these buses and rows; none where the record has no counterpart there.
+// The Rust's reducer with the record's buses and the rows of slice 1; none where the record has no counterpart there.
 pub fn reducer(call: &Call) -> Option<KronReducer> {
     let r = record(call, 0)?;
     if !r.sound() {
@@ -80,16 +89,21 @@ pub fn left(made: usize, length: usize, r: &KronReducer) -> (Vec<u64>, Vec<u64>)
     )
 }
 
-// A record and matrix of `made` buses of which some may be gone, with anything behind the present rows.
-pub fn random(s: &mut Source, made: usize) -> (Vec<u8>, Vec<u8>, Vec<usize>) {
+// all of so many buses, or some
+pub fn some(s: &mut Source, made: usize) -> Vec<usize> {
     let gone = if s.one_in(2) { 0 } else { s.below(made + 1) };
     let mut active: Vec<usize> = s.shuffled(made).into_iter().skip(gone).collect();
     active.sort();
-    let k = active.len();
-    let mut y = matrix(s, k);
+    active
+}
+
+// A record and matrix of `made` buses of which some may be gone, with anything behind the present rows.
+pub fn random(s: &mut Source, made: usize) -> (Vec<u8>, Vec<u8>, Vec<usize>) {
+    let active = some(s, made);
+    let mut y = matrix(s, active.len());
     let behind = if s.one_in(2) { 0.0 } else { s.unit() };
     y.resize(2 * made * made, behind);
-    (bytes_of(&record_words(made, &active)), bytes_of_reals(&y), active)
+    (bytes(made, &active), bytes_of_reals(&y), active)
 }
 
 // mostly an active bus, now and then any number

@@ -1,5 +1,5 @@
 // rei_compute(generator_buses, load_buses, y_sub, p_inj, q_inj, next_bus_id,
-//     spoke_buses, spokes, tie_buses, ties, summary)
+//     spoke_buses, spokes, tie_buses, ties, rei_bus_id, rei_voltage_pu, rei_p_mw, rei_q_mvar, n_ties)
 use super::{ASKED, LIMIT};
 use crate::ask::{ask, Asked, Kind, Manner};
 use crate::call::{dirty, Call, Function};
@@ -20,6 +20,7 @@ const SPOKE_BUSES: usize = 5;
 const SPOKES: usize = 6;
 const TIE_BUSES: usize = 7;
 const TIES: usize = 8;
+// the five single answers
 const SUMMARY: usize = 9;
 
 pub fn of(generators: &[usize], loads: &[usize], y: &[f64], p: &[f64], q: &[f64], id: u64) -> Call {
@@ -33,7 +34,7 @@ pub fn of(generators: &[usize], loads: &[usize], y: &[f64], p: &[f64], q: &[f64]
         bytes_of_reals(p),
         bytes_of_reals(q),
     ];
-    slices.extend([n, 2 * n, pairs, pairs, 5].map(dirty));
+    slices.extend([n, 2 * n, pairs, pairs, 1, 1, 1, 1, 1].map(dirty));
     Call {
         function: Function::ReiCompute,
         wholes: vec![id],
@@ -49,13 +50,12 @@ fn refusals(call: &Call) -> Vec<u32> {
         && call.holds(SPOKE_BUSES, n)
         && call.holds(SPOKES, 2 * n)
         && call.holds(TIE_BUSES, pairs)
-        && call.holds(TIES, pairs)
-        && call.holds(SUMMARY, 5);
+        && call.holds(TIES, pairs);
     let long = [GENERATORS, LOADS, P, Q].iter().any(|&i| call.count(i) > LIMIT);
     let unmatched = call.count(P) as u128 != n || call.count(Q) as u128 != n;
     faults(&[
         (1, n > LIMIT as u128 || long),
-        (2, !lengths || call.cut()),
+        (2, !lengths),
         (3, unmatched),
         (4, n == 0),
     ])
@@ -105,22 +105,23 @@ fn written(call: &Call, e: Expected, rei: ReiResult) -> Expected {
         .words(SPOKES, spokes)
         .words(TIE_BUSES, padded(tie_buses, call.count(TIE_BUSES)))
         .words(TIES, padded(ties, call.count(TIES)))
-        .words(
+        .singles(
             SUMMARY,
-            vec![rei.rei_bus_id as u64, word(rei.rei_voltage_pu), word(p), word(q), count],
+            &[rei.rei_bus_id as u64, word(rei.rei_voltage_pu), word(p), word(q), count],
         );
     if word(p) == word(rei.rei_p_mw) && word(q) == word(rei.rei_q_mvar) {
-        return e;
-    }
-    // only a sum of a list of -0 may differ, and only in its sign
-    let negative = |list: usize, got: f64, ours: f64| {
-        word(got) == word(ours) || (got == 0.0 && reals_of(&call.slices[list]).iter().all(|x| word(*x) == word(-0.0)))
-    };
-    if negative(P, rei.rei_p_mw, p) && negative(Q, rei.rei_q_mvar, q) {
+        e
+    } else if agrees(call, P, rei.rei_p_mw, p) && agrees(call, Q, rei.rei_q_mvar, q) {
         e.noting(Difference::ReiSum)
     } else {
         e.failing("an REI sum differs, and not for a list of -0")
     }
+}
+
+// only a sum of a list of -0 may differ, and only in its sign
+fn agrees(call: &Call, list: usize, got: f64, ours: f64) -> bool {
+    let negative = |x: &f64| word(*x) == word(-0.0);
+    word(got) == word(ours) || (got == 0.0 && reals_of(&call.slices[list]).iter().all(negative))
 }
 
 pub fn expected(call: &Call) -> Expected {

@@ -22,8 +22,8 @@ pub fn of(n: usize, interior: &[usize]) -> Call {
 
 pub fn expected(call: &Call) -> Expected {
     let n = call.size();
-    let lengths = call.holds(RETAINED, n as u128) && call.holds(COUNT, 1) && !call.cut();
-    let refusals = faults(&[(1, n > LIMIT || call.count(INTERIOR) > LIMIT), (2, !lengths)]);
+    let long = call.count(INTERIOR) > LIMIT;
+    let refusals = faults(&[(1, n > LIMIT || long), (2, !call.holds(RETAINED, n as u128))]);
     let interior = wholes_of(&call.slices[INTERIOR]);
     let asked = if n > ASKED {
         Asked::NotAsked

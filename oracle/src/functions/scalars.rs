@@ -1,7 +1,7 @@
-// cadd csub cneg cmul cdiv complex_inv abs sqrt magnitude: numbers in, a slice of one or two numbers out.
+// cadd csub cmul cdiv cneg complex_inv abs sqrt magnitude: numbers in, one or two out.
 use crate::ask::ask;
 use crate::call::{dirty, Call, Function};
-use crate::expected::{self, faults, Expected};
+use crate::expected::{self, Expected};
 use crate::numbers::{kind, reals};
 use crate::source::Source;
 use crate::words::word;
@@ -12,17 +12,7 @@ pub fn of(function: Function, reals: Vec<f64>) -> Call {
         function,
         wholes: Vec::new(),
         reals,
-        slices: vec![dirty(shape(function).1)],
-    }
-}
-
-// how many numbers go in and come out
-fn shape(function: Function) -> (usize, usize) {
-    match function {
-        Function::Cadd | Function::Csub | Function::Cmul | Function::Cdiv => (4, 2),
-        Function::Cneg | Function::ComplexInv => (2, 2),
-        Function::Magnitude => (2, 1),
-        _ => (1, 1),
+        slices: vec![dirty(1); function.slices().len()],
     }
 }
 
@@ -44,15 +34,13 @@ fn answer(function: Function, x: &[f64]) -> Vec<f64> {
 }
 
 pub fn expected(call: &Call) -> Expected {
-    let out = shape(call.function).1;
-    let refusals = faults(&[(2, !call.holds(0, out as u128))]);
     let asked = ask(|| Ok(answer(call.function, &call.reals)));
-    expected::expected(call, &refusals, asked, None, |e, xs| {
-        e.words(0, xs.into_iter().map(word).collect())
+    expected::expected(call, &[], asked, None, |e, xs| {
+        e.singles(0, &xs.into_iter().map(word).collect::<Vec<_>>())
     })
 }
 
 pub fn random(function: Function, s: &mut Source) -> Call {
     let kind = kind(s);
-    of(function, reals(s, kind, shape(function).0))
+    of(function, reals(s, kind, function.shape().reals))
 }

@@ -35,7 +35,7 @@ pub fn expected(call: &Call) -> Expected {
     let lengths = call.holds(A, 2 * wide * wide) && call.holds(X, 2 * wide) && call.holds(WORK, 2 * wide * (wide + 1));
     let refusals = faults(&[
         (1, n > LIMIT),
-        (2, !lengths || call.cut()),
+        (2, !lengths),
         (5, n == 0 || call.count(B) as u128 != 2 * wide),
     ]);
     let asked = if n > ASKED {

@@ -1,4 +1,4 @@
-// thevenin_impedance(rec, y, bus_i, bus_j, work, z)
+// thevenin_impedance(rec, y, bus_i, bus_j, work, z_re, z_im)
 use super::reducer;
 use crate::ask::{ask, Asked};
 use crate::call::{dirty, Call, Function};
@@ -9,7 +9,9 @@ use crate::source::Source;
 use crate::words::{words_of_pairs, Pair, Rows};
 use reference::reduction::reach::{self, cadd, cmul, csub};
 
+const Y: usize = 1;
 const WORK: usize = 2;
+// real, then imaginary
 const Z: usize = 3;
 
 pub fn of(rec: Vec<u8>, y: Vec<u8>, bus_i: usize, bus_j: usize) -> Call {
@@ -18,13 +20,13 @@ pub fn of(rec: Vec<u8>, y: Vec<u8>, bus_i: usize, bus_j: usize) -> Call {
         function: Function::TheveninImpedance,
         wholes: vec![bus_i as u64, bus_j as u64],
         reals: Vec::new(),
-        slices: vec![rec, y, work, dirty(2)],
+        slices: vec![rec, y, work, dirty(1), dirty(1)],
     }
 }
 
 pub fn expected(call: &Call) -> Expected {
-    let refusals = faults(&reducer::refusals(call, false, |square| {
-        call.holds(WORK, 2 * square) && call.holds(Z, 2)
+    let refusals = faults(&reducer::refusals(call, false, |made| {
+        call.holds(Y, reducer::square(made)) && call.holds(WORK, 2 * reducer::square(made))
     }));
     let asked = match reducer::reducer(call) {
         None => Asked::NotAsked,
@@ -36,7 +38,7 @@ pub fn expected(call: &Call) -> Expected {
         asked,
         || model(call),
         WORK,
-        |e, z| e.words(Z, words_of_pairs(&[z])),
+        |e, z| e.singles(Z, &words_of_pairs(&[z])),
     )
 }
 

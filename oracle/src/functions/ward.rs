@@ -56,6 +56,7 @@ pub struct Places {
     pub p_ward: usize,
     pub q_ward: usize,
     pub work: usize,
+    // n_buses_reduced, n_buses_equivalent, reduction_ratio
     pub summary: usize,
 }
 
@@ -68,8 +69,7 @@ pub fn refusals(call: &Call, at: &Places) -> Vec<(u32, bool)> {
         && call.holds(at.y_ward, 2 * r * r)
         && call.holds(at.p_ward, b)
         && call.holds(at.q_ward, b)
-        && call.holds(at.work, 2 * e * (e + r + 1))
-        && call.holds(at.summary, 3);
+        && call.holds(at.work, 2 * e * (e + r + 1));
     let mut buses: Vec<usize> = (INTERNAL..=BOUNDARY).flat_map(|i| wholes_of(&call.slices[i])).collect();
     let missing = buses.iter().any(|&bus| bus >= n);
     buses.sort();
@@ -78,7 +78,7 @@ pub fn refusals(call: &Call, at: &Places) -> Vec<(u32, bool)> {
     let long = (INTERNAL..=Q_EXT).any(|i| call.count(i) > LIMIT);
     vec![
         (1, n > LIMIT || long),
-        (2, !lengths || call.cut()),
+        (2, !lengths),
         (3, unmatched),
         (7, missing),
         (8, twice),
@@ -129,8 +129,8 @@ pub fn turned_back(call: &Call, w: WardEquivalentResult) -> WardEquivalentResult
 }
 
 // original size, equivalent size, ratio
-pub fn summary(w: &WardEquivalentResult) -> Vec<u64> {
-    vec![
+pub fn summary(w: &WardEquivalentResult) -> [u64; 3] {
+    [
         w.n_buses_reduced as u64,
         w.n_buses_equivalent as u64,
         word(w.reduction_ratio),

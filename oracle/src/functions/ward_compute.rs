@@ -1,4 +1,5 @@
-// ward_compute(n, y, internal, external, boundary, base_mva, p_ext, q_ext, y_ward, p_ward, q_ward, work, summary)
+// ward_compute(n, y, internal, external, boundary, base_mva, p_ext, q_ext, y_ward, p_ward, q_ward, work,
+//     n_buses_reduced, n_buses_equivalent, reduction_ratio)
 use super::ward::{self, Places, Study};
 use super::ward_model;
 use crate::ask::{ask, Asked};
@@ -21,7 +22,7 @@ pub const AT: Places = Places {
 pub fn of(s: &Study) -> Call {
     let (r, b) = (s.retained(), s.boundary.len());
     let mut slices = s.given();
-    slices.extend([2 * r * r, b, b, s.work(), 3].map(dirty));
+    slices.extend([2 * r * r, b, b, s.work(), 1, 1, 1].map(dirty));
     Call {
         function: Function::WardCompute,
         wholes: vec![s.n as u64],
@@ -41,7 +42,7 @@ fn written(e: Expected, w: &WardEquivalentResult) -> Expected {
     e.words(AT.y_ward, words_of_rows(&w.y_ward))
         .words(AT.p_ward, words_of_reals(&w.p_ward_injections))
         .words(AT.q_ward, words_of_reals(&w.q_ward_injections))
-        .words(AT.summary, ward::summary(w))
+        .singles(AT.summary, &ward::summary(w))
 }
 
 pub fn expected(call: &Call) -> Expected {
@@ -70,11 +71,16 @@ pub fn expected(call: &Call) -> Expected {
     if !again.same(&e) {
         return e.failing("include_load_transfer changes the Rust's answer");
     }
-    if matches!(e.judge, Some(Judge::Model { .. })) {
-        return e;
+    match e.judge {
+        Some(Judge::Model { .. }) => e,
+        _ => beside_own_q(call, &refusals, e),
     }
+}
+
+// notes where the Rust, asked with Q as given, answers otherwise
+fn beside_own_q(call: &Call, refusals: &[u32], e: Expected) -> Expected {
     let own = asked(call, true, &ward::own_q(call));
-    let own = expected::expected(call, &refusals, own, Some(AT.work), |e, w| written(e, &w));
+    let own = expected::expected(call, refusals, own, Some(AT.work), |e, w| written(e, &w));
     if own.is_wrong() {
         return own;
     }

@@ -1,5 +1,6 @@
 // ward_compute_extended(n, y, internal, external, boundary, base_mva, p_ext, q_ext, v_ext,
-//     y_ward, p_ward, q_ward, voltage_correction, q_compensation, work, summary)
+//     y_ward, p_ward, q_ward, voltage_correction, q_compensation, work,
+//     n_buses_reduced, n_buses_equivalent, reduction_ratio)
 use super::ward::{self, Places, Study};
 use super::{ward_model, LIMIT};
 use crate::ask::{ask, Asked};
@@ -24,7 +25,7 @@ pub fn of(s: &Study) -> Call {
     let (r, b) = (s.retained(), s.boundary.len());
     let mut slices = s.given();
     slices.push(bytes_of_reals(&s.v));
-    slices.extend([2 * r * r, b, b, b, b, s.work(), 3].map(dirty));
+    slices.extend([2 * r * r, b, b, b, b, s.work(), 1, 1, 1].map(dirty));
     Call {
         function: Function::WardComputeExtended,
         wholes: vec![s.n as u64],
@@ -54,7 +55,7 @@ pub fn expected(call: &Call) -> Expected {
         e.words(AT.y_ward, words_of_rows(&x.ward_result.y_ward))
             .words(AT.p_ward, words_of_reals(&x.ward_result.p_ward_injections))
             .words(AT.q_ward, words_of_reals(&x.ward_result.q_ward_injections))
-            .words(AT.summary, ward::summary(&x.ward_result))
+            .singles(AT.summary, &ward::summary(&x.ward_result))
             .words(CORRECTION, words_of_reals(&x.voltage_correction))
             .words(COMPENSATION, words_of_reals(&x.q_compensation_mvar))
     })

@@ -11,7 +11,7 @@ use Rattle.complex.specs.Matrices.{entryAt}
 use Rattle.gauss_jordan.specs.GaussJordan.{scaled, cleared}
 use Rattle.gauss_jordan.specs.Solving.{operations}
 use Rattle.gauss_jordan.proofs.GaussJordan.{reduced-same}
-use Rattle.gauss_jordan.proofs.RowParts.{row-written, scaled-is, row-put}
+use Rattle.gauss_jordan.proofs.RowParts.{row-written, front-read, scaled-is, row-put}
 use Rattle.elimination.proofs.clear_column.Statement.{statement}
 use Rattle.elimination.proofs.clear_column.Tie as tie
 
@@ -27,8 +27,8 @@ scale-requires c κs = search needs
 span-of-requires : tie.Need-span-of-requires
 span-of-requires c κs = search needs
 
-mul-copy : tie.Need-mul-copy
-mul-copy c = search needs
+mul-e : tie.Need-mul-e
+mul-e c = search needs
 
 sub-copy : tie.Need-sub-copy
 sub-copy c = search needs
@@ -39,17 +39,34 @@ part-copy-start c = search needs
 part-copy-end : tie.Need-part-copy-end
 part-copy-end c = search needs
 
+mul-copy : tie.Need-mul-copy
+mul-copy c = search needs
+
+sub-copy-2 : tie.Need-sub-copy-2
+sub-copy-2 c = search needs
+
+part-copy-start-2 : tie.Need-part-copy-start-2
+part-copy-start-2 c = search needs
+
+part-copy-end-2 : tie.Need-part-copy-end-2
+part-copy-end-2 c = search needs
+
 copy-requires : tie.Need-copy-requires
 copy-requires c κs = search needs
 
+turn-requires : tie.Need-turn-requires
+turn-requires c κs = search needs
+
 reduce-others-requires : tie.Need-reduce-others-requires
 reduce-others-requires c κs =
-    let p = c .before .before .before .before .copy in
-    let x = c .before .before .before .before .before .before .before .before .before .before .scale in
-    let s = c .before .before .before .before .before .before .before .before .before .before .before .before .before .before .before .before .before in
+    let t = c .before .before .before .before .turn in
+    let p = c .before .before .before .before .before .before .before .before .copy in
+    let x = c .before .before .before .before .before .before .before .before .before .before .before .before .before .before .before .scale in
+    let s = c .before .before .before .before .before .before .before .before .before .before .before .before .before .before .before .before .before .before .before .before .before .before in
     let a = s .args in
-    let put = row-written (c .before .before .before .before .before .before .before .span-of .ensures) (a .work .now) (p .last .1 .0) (s .pre .0 .full) (p .kept .1 .0) (entry (x .last .0)) (λ (j : ℕ) (h : j < a .w). ap (λ (l : List Float). entry l j) (p .ensures)) in
-    (record { wide = s .pre .0 .wide; full = search needs }, s .pre .1, x .kept .0 ∙ s .pre .2, row-put (a .w) (a .c) (entry (x .last .0)) (entryAt (a .w) (a .work .now)) _ put)
+    let put = row-written (c .before .before .before .before .before .before .before .before .before .before .before .before .span-of .ensures) (a .work .now) (p .last .1 .0) (s .pre .0 .full) (p .kept .1 .0) (entry (x .last .0)) (λ (j : ℕ) (h : j < a .w). ap (λ (l : List Float). entry l j) (p .ensures) ∙ front-read (a .w) (x .last .0) j h) in
+    let held = row-put (a .w) (a .c) (entry (x .last .0)) (entryAt (a .w) (a .work .now)) _ put in
+    (record { wide = s .pre .0 .wide; full = search needs }, s .pre .1, t .ensures .0, λ (j : ℕ) (h : j < a .w). t .ensures .1 j h ∙ held j h)
 
 same-length : tie.Need-same-length
 same-length c = search needs
@@ -61,16 +78,16 @@ returns : tie.Need-returns
 unfolding cleared
 returns c =
     let o = c .before .before .reduce-others in
-    let p = c .before .before .before .before .before .before .before .copy in
-    let x = c .before .before .before .before .before .before .before .before .before .before .before .before .before .scale in
-    let v = c .before .before .before .before .before .before .before .before .before .before .before .before .before .before .complex-inv in
-    let g = c .before .before .before .before .before .before .before .before .before .before .before .before .before .before .before .get in
-    let s = c .before .before .before .before .before .before .before .before .before .before .before .before .before .before .before .before .before .before .before .before in
+    let p = c .before .before .before .before .before .before .before .before .before .before .before .copy in
+    let x = c .before .before .before .before .before .before .before .before .before .before .before .before .before .before .before .before .before .before .scale in
+    let v = c .before .before .before .before .before .before .before .before .before .before .before .before .before .before .before .before .before .before .before .complex-inv in
+    let g = c .before .before .before .before .before .before .before .before .before .before .before .before .before .before .before .before .before .before .before .before .get in
+    let s = c .before .before .before .before .before .before .before .before .before .before .before .before .before .before .before .before .before .before .before .before .before .before .before .before .before in
     let a = s .args in
     let A = entryAt (a .w) (a .work .now) in
     let wide : a .n ≤ a .w = s .pre .0 .wide in
     let here : a .c < a .n = s .pre .1 in
-    let put = row-written (c .before .before .before .before .before .before .before .before .before .before .span-of .ensures) (a .work .now) (p .last .1 .0) (s .pre .0 .full) (p .kept .1 .0) (entry (x .last .0)) (λ (j : ℕ) (h : j < a .w). ap (λ (l : List Float). entry l j) (p .ensures)) in
+    let put = row-written (c .before .before .before .before .before .before .before .before .before .before .before .before .before .before .before .span-of .ensures) (a .work .now) (p .last .1 .0) (s .pre .0 .full) (p .kept .1 .0) (entry (x .last .0)) (λ (j : ℕ) (h : j < a .w). ap (λ (l : List Float). entry l j) (p .ensures) ∙ front-read (a .w) (x .last .0) j h) in
     λ (i j : ℕ) (h : i < a .n) (k : j < a .w).
     o .ensures i j h k
     ∙ reduced-same operations (a .n) (a .w) wide _ (scaled operations (a .c) A)
@@ -86,11 +103,16 @@ clear-column-spec =
     complex-inv-requires
     scale-requires
     span-of-requires
-    mul-copy
+    mul-e
     sub-copy
     part-copy-start
     part-copy-end
+    mul-copy
+    sub-copy-2
+    part-copy-start-2
+    part-copy-end-2
     copy-requires
+    turn-requires
     reduce-others-requires
     same-length
     same-length-2

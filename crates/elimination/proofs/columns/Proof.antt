@@ -16,7 +16,7 @@ use Rattle.elimination.proofs.columns.Tie as tie
 
 abbrev Inv-loop : tie.InvT-loop
 Inv-loop work₀ n w row₀ c₀ work row c =
-    (c ≤ n) × (length work ≡ 2 * (n * w)) × (length row ≡ 2 * w)
+    (c ≤ n) × (length work ≡ 2 * (n * w)) × (length row ≡ 4 * w)
     × Same operations n w (runFrom operations n (n - c) c (entryAt w work)) (run operations n (entryAt w work₀))
 
 abbrev μ-loop : tie.MeasureT-loop

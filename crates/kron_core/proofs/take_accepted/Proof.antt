@@ -23,16 +23,13 @@ slice-aggregate-take-list c = search needs
 slice-aggregate-take-list-2 : tie.Need-slice-aggregate-take-list-2
 slice-aggregate-take-list-2 c = search needs
 
-slice-aggregate-take-list-3 : tie.Need-slice-aggregate-take-list-3
-slice-aggregate-take-list-3 c = search needs
-
 full : (c : tie.Start) → length (c .args .r .«active_buses») ≡ limit
 full c = search needs
 
 take-list-requires : tie.Need-take-list-requires
 take-list-requires c κs =
-    let s = c .before .before .before .before .before .before .before in
-    (accepted-holds (s .args .r) (s .args .y .now) (length (s .args .buses .now)) (full s) (s .pre), refl, refl)
+    let s = c .before .before .before .before .before .before in
+    (accepted-holds (s .args .r) (s .args .y .now) (length (s .args .buses .now)) (full s) (s .pre), refl)
 
 answer-of-requires : tie.Need-answer-of-requires
 answer-of-requires c κs = search needs
@@ -43,7 +40,7 @@ same-length c = search needs
 -- after the list: what the call began with, and what is left
 module _ (t : tie.After-take-list) where
   abbrev start : tie.Start
-  start = t .before .before .before .before .before .before .before .before
+  start = t .before .before .before .before .before .before .before
 
   abbrev r : KronReducer
   r = start .args .r
@@ -72,7 +69,7 @@ module _ (t : tie.After-take-list) where
 
 returns : tie.Need-returns
 returns c =
-    let t = c .before .before .before .before .before .before .before in
+    let t = c .before .before .before .before .before .before in
     let s = start t in
     buses-none (r t) (ys t) (s .args .buses .now) (s .pre) (full s) (t .take-list .result) (c .before .answer-of .result) (t .take-list .last .1 .0) (zs t) (c .before .answer-of .ensures) (t .take-list .ensures) (c .if1 .taken)
 
@@ -80,19 +77,19 @@ sub-m : tie.Need-sub-m
 sub-m c = search needs
 
 mul-a : tie.Need-mul-a
-mul-a c = let t = c .before .before .before .before .before .before .before in omega (arith, small t)
+mul-a c = let t = c .before .before .before .before .before .before in omega (arith, small t)
 
 mul-a-2 : tie.Need-mul-a-2
-mul-a-2 c = let t = c .before .before .before .before .before .before .before in omega (arith, small t)
+mul-a-2 c = let t = c .before .before .before .before .before .before in omega (arith, small t)
 
 mul-clear : tie.Need-mul-clear
-mul-clear c = let t = c .before .before .before .before .before .before .before in omega (arith, small t)
+mul-clear c = let t = c .before .before .before .before .before .before in omega (arith, small t)
 
 sub-clear : tie.Need-sub-clear
-sub-clear c = within (c .before .before .before .before .before .before .before)
+sub-clear c = within (c .before .before .before .before .before .before)
 
 part-clear-start : tie.Need-part-clear-start
-part-clear-start c = within (c .before .before .before .before .before .before .before)
+part-clear-start c = within (c .before .before .before .before .before .before)
 
 part-clear-end : tie.Need-part-clear-end
 part-clear-end c = search needs
@@ -106,7 +103,7 @@ same-length-2 c = search needs
 returns-2 : tie.Need-returns-2
 returns-2 c =
     let test = c .before .before .before .before in
-    let t = test .before .before .before .before .before .before .before in
+    let t = test .before .before .before .before .before .before in
     let s = start t in
     let a = 2 * (left t * left t) in
     let cs = c .before .before .clear .last .0 in
@@ -124,7 +121,6 @@ take-accepted-spec =
     (tie.spec
     slice-aggregate-take-list
     slice-aggregate-take-list-2
-    slice-aggregate-take-list-3
     take-list-requires
     answer-of-requires
     same-length

@@ -18,40 +18,35 @@ use Rattle.kron_rows.proofs.other_rows.Tie as tie
 
 put-rows-requires : tie.Need-put-rows-requires
 put-rows-requires c κs =
-    let s = c .before .before .before .before .before in
+    let s = c .before .before .before in
     let k = s .args .k in
-    (s .pre .0, s .pre .1, omega arith, omega (arith, s .pre .1), omega (arith, s .pre .1), λ (p : ℕ) (l : 0 ≤ p) (u : p < k). kept-before k p u ∙ sym (add-zero p), s .pre .2, s .pre .3, s .pre .4)
+    (s .pre .0, s .pre .1, omega arith, omega (arith, s .pre .1), λ (p : ℕ) (l : 0 ≤ p) (u : p < k). kept-before k p u ∙ sym (add-zero p), s .pre .2, s .pre .3)
 
 sub-put-rows : tie.Need-sub-put-rows
 sub-put-rows c = search needs
 
 put-rows-requires-2 : tie.Need-put-rows-requires-2
 put-rows-requires-2 c κs =
-    let ran = c .before .before .before .before .before .before in
-    let s = ran .before .before .before .before .before .before in
+    let ran = c .before .before .before in
+    let s = ran .before .before .before .before in
     let k = s .args .k in (
       s .pre .0,
       s .pre .1,
       omega (arith, s .pre .1),
-      omega arith,
       omega (arith, s .pre .1),
       λ (p : ℕ) (l : k ≤ p) (u : p < s .args .n - 1). kept-after k p l ∙ sym (add-one p),
       omega (arith, s .pre .2, ran .put-rows .kept .1 .1 .1 .1 .1 .0),
       s .pre .3,
-      ran .put-rows .kept .1 .1 .1 .1 .1 .1 .1 .0 ∙ s .pre .4,
     )
 
 same-length : tie.Need-same-length
 same-length c = search needs
 
-same-length-2 : tie.Need-same-length-2
-same-length-2 c = search needs
-
 returns : tie.Need-returns
 returns c =
-    let second = c .before .before .before .before in
-    let first = second .before .before .before .before .before .before .before in
-    let s = first .before .before .before .before .before .before in
+    let second = c .before .before in
+    let first = second .before .before .before .before in
+    let s = first .before .before .before .before in
     let n = s .args .n in
     let k = s .args .k in
     let y = s .args .y .now in
@@ -71,4 +66,4 @@ returns c =
 pub other-rows-spec : {M : Type 1} → statement M
 other-rows-spec =
     tie.close
-    (tie.spec put-rows-requires sub-put-rows put-rows-requires-2 same-length same-length-2 returns)
+    (tie.spec put-rows-requires sub-put-rows put-rows-requires-2 same-length returns)

@@ -1,6 +1,6 @@
--- `kron_rows::reduce_columns` meets its contract. The loop's invariant: the entries passed are Kron's, those before `first` are as they were.
+-- `kron_rows::reduce_columns` meets its contract. The loop's invariant: the entries passed are Kron's; those before `first`, and those not yet passed, are as they were.
 -- Assumes nothing.
-use mathlib.Core.Path.{_≡_, refl, sym, ap, _∙_}
+use mathlib.Core.Path.{_≡_, refl, ap, _∙_}
 use mathlib.Core.List.{List}
 use Prim.Native.Nat.{ℕ, _+_, _*_, _-_, _≤_, _<_}
 use native.Mathlib.Omega.{arith}
@@ -17,13 +17,17 @@ use Rattle.kron_rows.proofs.reduce_columns.Statement.{statement}
 use Rattle.kron_rows.proofs.reduce_columns.Tie as tie
 
 abbrev Inv-loop : tie.InvT-loop
-Inv-loop k d first end old row new₀ ik kk q₀ new q =
-    (first ≤ q) × (q ≤ end) × (length new ≡ length new₀)
-    × ((i : ℕ) → first ≤ i → i < q → entry new i ≡ newEntry (entry old (kept k i)) ik (entry row (kept k i)) kk)
-    × ((i : ℕ) → i < first → entry new i ≡ entry new₀ i)
+Inv-loop k d first end at far s₀ row ik kk q₀ s q =
+    (first ≤ q) × (q ≤ end) × (length s ≡ length s₀)
+    × ((i : ℕ) → first ≤ i → i < q → entry s i ≡ newEntry (entry s₀ (at + kept k i)) ik (entry row (kept k i)) kk)
+    × ((i : ℕ) → i < first → entry s i ≡ entry s₀ i)
+    × ((i : ℕ) → q ≤ i → entry s i ≡ entry s₀ i)
 
 abbrev μ-loop : tie.MeasureT-loop
-μ-loop k d first end old row new₀ ik kk q₀ new q = end - q
+μ-loop k d first end at far s₀ row ik kk q₀ s q = end - q
+
+add-get : tie.Need-add-get Inv-loop μ-loop
+add-get c = search needs
 
 get-requires : tie.Need-get-requires Inv-loop μ-loop
 get-requires c κs = search needs
@@ -32,16 +36,23 @@ get-requires-2 : tie.Need-get-requires-2 Inv-loop μ-loop
 get-requires-2 c κs = search needs
 
 loop-holds : tie.Need-loop-holds Inv-loop μ-loop
-loop-holds c = (omega arith, omega arith, refl, λ (i : ℕ) (l : _ ≤ i) (u : i < _). absurd (omega arith), λ (i : ℕ) (l : i < _). refl)
+loop-holds c = (
+  omega arith,
+  omega arith,
+  refl,
+  λ (i : ℕ) (l : _ ≤ i) (u : i < _). absurd (omega arith),
+  λ (i : ℕ) (l : i < _). refl,
+  λ (i : ℕ) (l : _ ≤ i). refl,
+)
 
-add-get : tie.Need-add-get Inv-loop μ-loop
-add-get c = search needs
+add-get-2 : tie.Need-add-get-2 Inv-loop μ-loop
+add-get-2 c = search needs
 
 get-requires-3 : tie.Need-get-requires-3 Inv-loop μ-loop
 get-requires-3 c κs = search needs
 
-add-get-2 : tie.Need-add-get-2 Inv-loop μ-loop
-add-get-2 c = search needs
+add-get-3 : tie.Need-add-get-3 Inv-loop μ-loop
+add-get-3 c = search needs
 
 get-requires-4 : tie.Need-get-requires-4 Inv-loop μ-loop
 get-requires-4 c κs = search needs
@@ -60,8 +71,10 @@ loop-less c = search needs
 
 loop-again : tie.Need-loop-again Inv-loop μ-loop
 loop-again c =
-    let g = c .before .before .before .before .before .before .before .before in
-    let a = g .before .before .before .before .before .before .args in
+    let g = c .before .before .before .before .before .before .before .before .before in
+    let start = g .before .before .before .before .before .before in
+    let a = start .args in
+    let s0 = a .s .now in
     let q = g .loop .q in
     let ik = g .before .before .get .result in
     let kk = g .before .get2 .result in
@@ -69,21 +82,24 @@ loop-again c =
     let get3 = c .before .before .before .before .before .get3 in
     let get4 = c .before .before .before .before .get4 in
     let e = c .before .before .put .ensures in
-    let pre = g .before .before .before .before .before .before .pre in
-    let test = c .before .before .before .before .before .before .before .loop-test .taken in
-    let at : q + a .d ≡ kept (a .k) q = sym (pre .0 q (g .loop .inv .0) test) in
-    let here : made .result ≡ newEntry (entry (a .old .now) (kept (a .k) q)) ik (entry (a .row .now) (kept (a .k) q)) kk =
-    made .ensures
-    ∙ ap (λ (x : Complex). newEntry x ik (get4 .result) kk) (get3 .ensures ∙ ap (entry (a .old .now)) at)
-    ∙ ap (λ (x : Complex). newEntry (entry (a .old .now) (kept (a .k) q)) ik x kk) (get4 .ensures ∙ ap (entry (a .row .now)) at) in
+    let test = c .before .before .before .before .before .before .before .before .loop-test .taken in
     let from : a .first ≤ q = g .loop .inv .0 in
-    let fits : 2 * q + 1 < length (g .loop .new) = omega (arith, pre .5, g .loop .inv .2, test) in
-    let f : ℕ → Complex = λ (i : ℕ). newEntry (entry (a .old .now) (kept (a .k) i)) ik (entry (a .row .now) (kept (a .k) i)) kk in (
+    let column : kept (a .k) q ≡ q + a .d = start .pre .0 q from test in
+    let place : q + a .far ≡ a .at + kept (a .k) q = omega (arith, column, start .pre .2) in
+    let f : ℕ → Complex = λ (i : ℕ). newEntry (entry s0 (a .at + kept (a .k) i)) ik (entry (a .row .now) (kept (a .k) i)) kk in
+    let here : made .result ≡ f q =
+    made .ensures
+    ∙ ap (λ (x : Complex). newEntry x ik (get4 .result) kk) (get3 .ensures ∙ g .loop .inv .5 (q + a .far) (omega arith) ∙ ap (entry s0) place)
+    ∙ ap (λ (x : Complex). newEntry (entry s0 (a .at + kept (a .k) q)) ik x kk) (get4 .ensures ∙ ap (λ (j : ℕ). entry (a .row .now) j) (omega (arith, column))) in
+    let fits : 2 * q + 1 < length (g .loop .s) = omega (arith, start .pre .3, g .loop .inv .2, test) in
+    let other : (i : ℕ) → (i ≡ q → ⊥) → entry (c .before .before .put .last .0) i ≡ entry (g .loop .s) i =
+    λ (i : ℕ) (n : i ≡ q → ⊥). ap (λ (ys : List Float). entry ys i) e ∙ entry-put-other (g .loop .s) q (made .result) i n in (
       omega arith,
       omega arith,
-      ap length e ∙ length-put (g .loop .new) q (made .result) ∙ g .loop .inv .2,
-      λ (i : ℕ) (l : a .first ≤ i) (u : i < q + 1). ap (λ (ys : List Float). entry ys i) e ∙ put-more f (g .loop .new) (a .first) q (made .result) fits (g .loop .inv .3) here i l u,
-      λ (i : ℕ) (l : i < a .first). ap (λ (ys : List Float). entry ys i) e ∙ entry-put-other (g .loop .new) q (made .result) i (λ (e : i ≡ q). omega arith) ∙ g .loop .inv .4 i l,
+      ap length e ∙ length-put (g .loop .s) q (made .result) ∙ g .loop .inv .2,
+      λ (i : ℕ) (l : a .first ≤ i) (u : i < q + 1). ap (λ (ys : List Float). entry ys i) e ∙ put-more f (g .loop .s) (a .first) q (made .result) fits (g .loop .inv .3) here i l u,
+      λ (i : ℕ) (l : i < a .first). other i (λ (e : i ≡ q). omega arith) ∙ g .loop .inv .4 i l,
+      λ (i : ℕ) (l : q + 1 ≤ i). other i (λ (e : i ≡ q). omega arith) ∙ g .loop .inv .5 i (omega arith),
     )
 
 same-length : tie.Need-same-length Inv-loop μ-loop
@@ -93,13 +109,17 @@ returns : tie.Need-returns Inv-loop μ-loop
 returns c =
     let b = c .before .before in
     let a = b .before .before .before .before .before .args in
-    let ik : b .before .get .result ≡ entry (a .old .now) (a .k) = b .before .get .ensures in
+    let s0 = a .s .now in
+    let done : a .end ≤ c .before .loop .q = c .loop-test .left in
+    let within : c .before .loop .q ≤ a .end = c .before .loop .inv .1 in
+    let ik : b .before .get .result ≡ entry s0 (a .at + a .k) = b .before .get .ensures in
     let kk : b .get2 .result ≡ entry (a .row .now) (a .k) = b .get2 .ensures in (
       λ (q : ℕ) (l : a .first ≤ q) (u : q < a .end).
           c .before .loop .inv .3 q l (omega arith)
-          ∙ ap (λ (x : Complex). newEntry (entry (a .old .now) (kept (a .k) q)) x (entry (a .row .now) (kept (a .k) q)) (b .get2 .result)) ik
-          ∙ ap (λ (x : Complex). newEntry (entry (a .old .now) (kept (a .k) q)) (entry (a .old .now) (a .k)) (entry (a .row .now) (kept (a .k) q)) x) kk,
+          ∙ ap (λ (x : Complex). newEntry (entry s0 (a .at + kept (a .k) q)) x (entry (a .row .now) (kept (a .k) q)) (b .get2 .result)) ik
+          ∙ ap (λ (x : Complex). newEntry (entry s0 (a .at + kept (a .k) q)) (entry s0 (a .at + a .k)) (entry (a .row .now) (kept (a .k) q)) x) kk,
       c .before .loop .inv .4,
+      λ (q : ℕ) (l : a .end ≤ q). c .before .loop .inv .5 q (omega arith),
     )
 
 pub reduce-columns-spec : {M : Type 1} → statement M
@@ -108,12 +128,13 @@ reduce-columns-spec =
     (tie.spec
     Inv-loop
     μ-loop
+    add-get
     get-requires
     get-requires-2
     loop-holds
-    add-get
-    get-requires-3
     add-get-2
+    get-requires-3
+    add-get-3
     get-requires-4
     new-entry-requires
     put-requires

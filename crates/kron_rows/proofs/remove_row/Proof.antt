@@ -22,11 +22,8 @@ use Rattle.kron_rows.proofs.remove_row.Tie as tie
 mul-w : tie.Need-mul-w
 mul-w c = search needs
 
-sub-v : tie.Need-sub-v
-sub-v c = search needs
-
-lies : (c : tie.After-slice-known3) → RowRoom (c .before .before .before .args .n) (c .before .before .before .args .k)
-lies c = let s = c .before .before .before in row-room (s .args .n) (s .args .k) (s .pre .0) (s .pre .1)
+lies : (c : tie.After-slice-known2) → RowRoom (c .before .before .args .n) (c .before .before .args .k)
+lies c = let s = c .before .before in row-room (s .args .n) (s .args .k) (s .pre .0) (s .pre .1)
 
 mul-a : tie.Need-mul-a
 mul-a c = let h = lies c in omega (arith, h .0, h .1)
@@ -47,7 +44,7 @@ part-copy-start : tie.Need-part-copy-start
 part-copy-start c = search needs
 
 part-copy-end : tie.Need-part-copy-end
-part-copy-end c = let h = lies (c .before) in omega (arith, h .0, c .before .before .before .before .pre .2)
+part-copy-end c = let h = lies (c .before) in omega (arith, h .0, c .before .before .before .pre .2)
 
 sub-copy-2 : tie.Need-sub-copy-2
 sub-copy-2 c = search needs
@@ -70,15 +67,6 @@ part-other-rows-start c = search needs
 part-other-rows-end : tie.Need-part-other-rows-end
 part-other-rows-end c = search needs
 
-sub-other-rows-2 : tie.Need-sub-other-rows-2
-sub-other-rows-2 c = search needs
-
-part-other-rows-start-2 : tie.Need-part-other-rows-start-2
-part-other-rows-start-2 c = search needs
-
-part-other-rows-end-2 : tie.Need-part-other-rows-end-2
-part-other-rows-end-2 c = search needs
-
 other-rows-requires : tie.Need-other-rows-requires
 other-rows-requires c κs = search needs
 
@@ -88,15 +76,12 @@ same-length c = search needs
 same-length-2 : tie.Need-same-length-2
 same-length-2 c = search needs
 
-same-length-3 : tie.Need-same-length-3
-same-length-3 c = search needs
-
 returns : tie.Need-returns
 unfolding kron
 returns c =
-    let done = c .before .before .before .before in
-    let copied = done .before .before .before .before .before .before .before in
-    let s = copied .before .before .before .before .before .before .before in
+    let done = c .before .before in
+    let copied = done .before .before .before .before .before .before in
+    let s = copied .before .before .before .before .before .before in
     let n = s .args .n in
     let k = s .args .k in
     let y = s .args .y .now in
@@ -122,7 +107,6 @@ remove-row-spec =
     tie.close
     (tie.spec
     mul-w
-    sub-v
     mul-a
     mul-a-2
     add-e
@@ -137,11 +121,7 @@ remove-row-spec =
     sub-other-rows
     part-other-rows-start
     part-other-rows-end
-    sub-other-rows-2
-    part-other-rows-start-2
-    part-other-rows-end-2
     other-rows-requires
     same-length
     same-length-2
-    same-length-3
     returns)

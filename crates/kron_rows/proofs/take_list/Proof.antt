@@ -12,21 +12,21 @@ use Rattle.kron_rows.proofs.take_list.Statement.{statement}
 use Rattle.kron_rows.proofs.take_list.Tie as tie
 
 abbrev Inv-loop : tie.InvT-loop
-Inv-loop n active₀ y₀ row₀ new₀ buses done₀ active y row new done =
+Inv-loop n active₀ y₀ row₀ buses done₀ active y row done =
     Ongoing (shown n (take n active₀) y₀) buses done active y
-    × (length active ≡ length active₀) × (length y ≡ length y₀) × (length row ≡ length row₀) × (length new ≡ length new₀) × (done ≡ 0 → y ≡ y₀)
+    × (length active ≡ length active₀) × (length y ≡ length y₀) × (length row ≡ length row₀) × (done ≡ 0 → y ≡ y₀)
 
 abbrev μ-loop : tie.MeasureT-loop
-μ-loop n active₀ y₀ row₀ new₀ buses done₀ active y row new done = length buses - done
+μ-loop n active₀ y₀ row₀ buses done₀ active y row done = length buses - done
 
 loop-holds : tie.Need-loop-holds Inv-loop μ-loop
 loop-holds c =
-    let s = c .before .before .before .before .before in
-    (ongoing-start (s .args .n) (s .args .active .now) (s .args .y .now) (s .args .buses .now) (s .pre .0), refl, refl, refl, refl, λ _. refl)
+    let s = c .before .before .before .before in
+    (ongoing-start (s .args .n) (s .args .active .now) (s .args .y .now) (s .args .buses .now) (s .pre .0), refl, refl, refl, λ _. refl)
 
 sub-take-one : tie.Need-sub-take-one Inv-loop μ-loop
 sub-take-one c =
-    let s = c .before .before .before .before .before .before .before in
+    let s = c .before .before .before .before .before .before in
     omega (arith, c .before .loop .inv .0 .count, holds-long (s .args .n) (s .args .active .now) (s .args .y .now) (s .pre .0))
 
 mul-take-one : tie.Need-mul-take-one Inv-loop μ-loop
@@ -37,24 +37,23 @@ shared-slice-read-take-one c = search needs
 
 take-one-requires : tie.Need-take-one-requires Inv-loop μ-loop
 take-one-requires c κs =
-    let g = c .before .before .before .before .before .before in
-    let s = g .before .before .before .before .before .before in
+    let g = c .before .before .before .before .before in
+    let s = g .before .before .before .before .before in
     let n = s .args .n in
     let h = s .pre .0 in
     let inv = g .loop .inv in (
       ongoing-holds (shown n (take n (s .args .active .now)) (s .args .y .now)) (s .args .buses .now) (g .loop .done) (g .loop .active) (g .loop .y)
           (h .rises) n (holds-long n (s .args .active .now) (s .args .y .now) h) (inv .0) (length (s .args .y .now)) (h .room) (inv .2) (h .fits),
       inv .3 ∙ s .pre .1,
-      inv .4 ∙ s .pre .2,
     )
 
 -- after a step: how the loop stood before it
 module _ (t : tie.After-take-one Inv-loop μ-loop) where
   abbrev head : tie.At-loop Inv-loop μ-loop
-  head = t .before .before .before .before .before .before .before
+  head = t .before .before .before .before .before .before
 
   abbrev start : tie.Start Inv-loop μ-loop
-  start = head .before .before .before .before .before .before
+  start = head .before .before .before .before .before
 
   abbrev first : State
   first = shown (start .args .n) (take (start .args .n) (start .args .active .now)) (start .args .y .now)
@@ -66,13 +65,13 @@ module _ (t : tie.After-take-one Inv-loop μ-loop) where
   stops =
       ongoing-stopped first (start .args .buses .now) (head .loop .done) (head .loop .active) (head .loop .y) (start .pre .0 .rises) (start .args .n)
       (holds-long (start .args .n) (start .args .active .now) (start .args .y .now) (start .pre .0)) (head .loop .inv .0)
-      (t .take-one .last .1 .0) (t .take-one .last .1 .1 .0) (t .take-one .result) (t .before .before .before .before .before .before .loop-test .taken) (t .take-one .ensures)
+      (t .take-one .last .1 .0) (t .take-one .last .1 .1 .0) (t .take-one .result) (t .before .before .before .before .before .loop-test .taken) (t .take-one .ensures)
 
   goes-on : t .take-one .result ≡ 0 → Ongoing first (start .args .buses .now) (head .loop .done + 1) (t .take-one .last .1 .0) (t .take-one .last .1 .1 .0)
   goes-on =
       ongoing-next first (start .args .buses .now) (head .loop .done) (head .loop .active) (head .loop .y) (start .pre .0 .rises) (start .args .n)
       (holds-long (start .args .n) (start .args .active .now) (start .args .y .now) (start .pre .0)) (head .loop .inv .0)
-      (t .take-one .last .1 .0) (t .take-one .last .1 .1 .0) (t .take-one .result) (t .before .before .before .before .before .before .loop-test .taken) (t .take-one .ensures)
+      (t .take-one .last .1 .0) (t .take-one .last .1 .1 .0) (t .take-one .result) (t .before .before .before .before .before .loop-test .taken) (t .take-one .ensures)
 
 same-length : tie.Need-same-length Inv-loop μ-loop
 same-length c = search needs
@@ -83,12 +82,9 @@ same-length-2 c = search needs
 same-length-3 : tie.Need-same-length-3 Inv-loop μ-loop
 same-length-3 c = search needs
 
-same-length-4 : tie.Need-same-length-4 Inv-loop μ-loop
-same-length-4 c = search needs
-
 returns : tie.Need-returns Inv-loop μ-loop
 returns c =
-    let t = c .before .before .before .before .before .before .before .before .before in
+    let t = c .before .before .before .before .before .before .before in
     let s = start t in
     let n = s .args .n in
     let bs = s .args .active .now in
@@ -97,7 +93,7 @@ returns c =
     let ends = stops t (c .if1 .taken) in
     let held : Ongoing (first t) (s .args .buses .now) (head t .loop .done) (t .take-one .last .1 .0) (t .take-one .last .1 .1 .0) = ongoing-same (head t .loop .inv .0) (same .0) (same .1) in
     took-so-far n bs ys (s .pre .0) (s .args .buses .now) (head t .loop .done) (t .take-one .result) (t .take-one .last .1 .0) (t .take-one .last .1 .1 .0) held (ends .0) (ends .1)
-    (λ z. same .1 ∙ head t .loop .inv .5 z)
+    (λ z. same .1 ∙ head t .loop .inv .4 z)
 
 add-done : tie.Need-add-done Inv-loop μ-loop
 add-done c = search needs
@@ -107,15 +103,17 @@ loop-less c = search needs
 
 loop-again : tie.Need-loop-again Inv-loop μ-loop
 loop-again c =
-    let t = c .before .before .before .before .before .before .before .before .before in
+    let t = c .before .before .before .before .before .before .before in
     let inv = head t .loop .inv in (
       goes-on t (c .if1 .left),
       t .take-one .kept .1 .0 ∙ inv .1,
       t .take-one .kept .1 .1 .0 ∙ inv .2,
       t .take-one .kept .1 .1 .1 .0 ∙ inv .3,
-      t .take-one .kept .1 .1 .1 .1 .0 ∙ inv .4,
       λ z. absurd (omega arith),
     )
+
+same-length-4 : tie.Need-same-length-4 Inv-loop μ-loop
+same-length-4 c = search needs
 
 same-length-5 : tie.Need-same-length-5 Inv-loop μ-loop
 same-length-5 c = search needs
@@ -123,17 +121,11 @@ same-length-5 c = search needs
 same-length-6 : tie.Need-same-length-6 Inv-loop μ-loop
 same-length-6 c = search needs
 
-same-length-7 : tie.Need-same-length-7 Inv-loop μ-loop
-same-length-7 c = search needs
-
-same-length-8 : tie.Need-same-length-8 Inv-loop μ-loop
-same-length-8 c = search needs
-
 returns-2 : tie.Need-returns-2 Inv-loop μ-loop
 returns-2 c =
-    let s = c .before .before .before .before .before .before .before in
+    let s = c .before .before .before .before .before .before in
     took-all (s .args .n) (s .args .active .now) (s .args .y .now) (s .pre .0) (s .args .buses .now) (c .before .loop .done) (c .before .loop .active) (c .before .loop .y)
-    (c .before .loop .inv .0) (c .loop-test .left) (c .before .loop .inv .5)
+    (c .before .loop .inv .0) (c .loop-test .left) (c .before .loop .inv .4)
 
 pub take-list-spec : {M : Type 1} → statement M
 take-list-spec =
@@ -149,13 +141,11 @@ take-list-spec =
     same-length
     same-length-2
     same-length-3
-    same-length-4
     returns
     add-done
     loop-less
     loop-again
+    same-length-4
     same-length-5
     same-length-6
-    same-length-7
-    same-length-8
     returns-2)

@@ -19,7 +19,7 @@ part-find-bus-start : tie.Need-part-find-bus-start
 part-find-bus-start c = search needs
 
 part-find-bus-end : tie.Need-part-find-bus-end
-part-find-bus-end c = let s = c .before .before .before .before .before in let e = holds-room (s .args .n) (s .args .active .now) (s .args .y .now) (s .pre .0) in omega (arith, e, s .pre .0 .room)
+part-find-bus-end c = let s = c .before .before .before .before in let e = holds-room (s .args .n) (s .args .active .now) (s .args .y .now) (s .pre .0) in omega (arith, e, s .pre .0 .room)
 
 find-bus-requires : tie.Need-find-bus-requires
 find-bus-requires c κs = search needs
@@ -36,7 +36,7 @@ same-length c = search needs
 -- where the bus is found
 module _ (c : tie.After-known-told) where
   abbrev start : tie.Start
-  start = c .before .before .before .before .before .before .before .before .before .before
+  start = c .before .before .before .before .before .before .before .before .before
 
   abbrev at : ℕ
   at = c .before .k .given .0 .0
@@ -52,7 +52,7 @@ module _ (c : tie.After-known-told) where
 
 returns : tie.Need-returns
 returns c =
-    let s = c .before .before .before .before .before .before .before .before .before in
+    let s = c .before .before .before .before .before .before .before .before in
     took-absent (s .args .n) (s .args .active .now) (s .args .y .now) (s .pre .0) (s .args .bus)
     (ap (λ (w : ℕ). foundIn (s .args .bus) (take w (s .args .active .now))) (sym (sub-zero (s .args .n))) ∙ sym (c .before .before .find-bus .ensures) ∙ c .enum-told .given .1)
 
@@ -73,12 +73,12 @@ returns-2 c =
 
 remove-row-requires : tie.Need-remove-row-requires
 remove-row-requires c κs =
-    let k = c .before .before .before .before .before .before in
-    (start k .pre .0 .room, at-lt k, start k .pre .0 .fits, start k .pre .1, start k .pre .2)
+    let k = c .before .before .before .before .before in
+    (start k .pre .0 .room, at-lt k, start k .pre .0 .fits, start k .pre .1)
 
 close-places-requires : tie.Need-close-places-requires
 close-places-requires c κs =
-    let k = c .before .before .before .before .before .before .before .before .before .before .before .before .before .before in
+    let k = c .before .before .before .before .before .before .before .before .before .before .before in
     let s = start k in
     let e = holds-room (s .args .n) (s .args .active .now) (s .args .y .now) (s .pre .0) in
     (at-lt k, omega (arith, e, s .pre .0 .room))
@@ -92,14 +92,11 @@ same-length-5 c = search needs
 same-length-6 : tie.Need-same-length-6
 same-length-6 c = search needs
 
-same-length-7 : tie.Need-same-length-7
-same-length-7 c = search needs
-
 returns-3 : tie.Need-returns-3
 returns-3 c =
     let closed = c .before .before in
-    let removed = closed .before .before .before .before .before .before .before .before in
-    let test = removed .before .before .before .before in
+    let removed = closed .before .before .before .before .before .before in
+    let test = removed .before .before .before in
     let k = test .before .before .before in
     let s = start k in
     took (s .args .n) (s .args .active .now) (s .args .y .now) (s .pre .0) (s .args .bus) (at k) (found k) (sym (test .before .too-small .ensures) ∙ test .if1 .left)
@@ -126,5 +123,4 @@ take-one-spec =
     same-length-4
     same-length-5
     same-length-6
-    same-length-7
     returns-3)

@@ -1,5 +1,6 @@
 -- `record_entries::active_in` meets its contract.
 -- Assumes nothing.
+use mathlib.Core.Path.{refl}
 use denote.Ref.{now}
 use Rattle.record_entries.proofs.RecordsLaws.{active-read}
 use borrow.Author.Needs.{needs}
@@ -24,7 +25,7 @@ read-words-requires c κs = search needs
 returns : tie.Need-returns
 returns c =
     let start = c .before .before .before .before .before in
-    active-read (now (start .args .s)) _ (start .pre) (search needs) (c .before .read-words .ensures)
+    active-read (now (start .args .s)) _ _ (start .pre) refl (c .before .read-words .ensures)
 
 pub active-in-spec : {M : Type 1} → statement M
 active-in-spec =

@@ -20,7 +20,7 @@ getD-map-lt zero (x ∷ xs) h = refl
 getD-map-lt (suc i) (x ∷ xs) h = getD-map-lt i xs (omega arith)
 
 abbrev Inv-loop : tie.InvT-loop
-Inv-loop s₀ xs i₀ s i = (length s ≡ length s₀) × (i ≤ length xs) × (take (8 * i) s ≡ ofWords (take i (map (toBits binary64) xs)))
+Inv-loop s₀ xs i₀ s i = (length s ≡ length s₀) × (i ≤ length xs) × (take (8 * i) s ≡ ofWords 8 (take i (map (toBits binary64) xs)))
 
 abbrev μ-loop : tie.MeasureT-loop
 μ-loop s₀ xs i₀ s i = length xs - i
@@ -56,8 +56,8 @@ loop-again c =
     let s = c .before .before .before .before .before .before .before .loop .s in
     let xs = now (c .before .before .before .before .before .before .before .before .before .before .args .xs) in
     let l : i < length xs = omega arith in
-    let e : c .before .before .put-word .last .0 ≡ putWord s (8 * i) (getD (map (toBits binary64) xs) i 0) = c .before .before .put-word .ensures ∙ ap (putWord s (8 * i)) (c .before .before .before .to-word .ensures ∙ sym (getD-map-lt i xs l)) in
-    (c .before .before .put-word .kept .0 ∙ c .before .before .before .before .before .before .before .loop .inv .0, omega arith, rw e (written-more s (map (toBits binary64) xs) i (omega arith) (rw length-map (omega arith)) (c .before .before .before .before .before .before .before .loop .inv .2)))
+    let e : c .before .before .put-word .last .0 ≡ putWord 8 s (8 * i) (getD (map (toBits binary64) xs) i 0) = c .before .before .put-word .ensures ∙ ap (putWord 8 s (8 * i)) (c .before .before .before .to-word .ensures ∙ sym (getD-map-lt i xs l)) in
+    (c .before .before .put-word .kept .0 ∙ c .before .before .before .before .before .before .before .loop .inv .0, omega arith, rw e (written-more 8 s (map (toBits binary64) xs) i (omega arith) (rw length-map (omega arith)) (c .before .before .before .before .before .before .before .loop .inv .2)))
 
 same-length : tie.Need-same-length Inv-loop μ-loop
 same-length c = c .before .loop .inv .0
@@ -69,7 +69,7 @@ returns c =
     let s = c .before .loop .s in
     let xs = now (c .before .before .before .before .args .xs) in
     let ws = map (toBits binary64) xs in
-    sym (take-all (8 * i) s (omega arith)) ∙ c .before .loop .inv .2 ∙ ap ofWords (take-all i ws (rw length-map (omega arith)))
+    sym (take-all (8 * i) s (omega arith)) ∙ c .before .loop .inv .2 ∙ ap (ofWords 8) (take-all i ws (rw length-map (omega arith)))
 
 pub write-floats-spec : {M : Type 1} → statement M
 write-floats-spec =

@@ -12,7 +12,7 @@ use Rattle.entry_slices.proofs.bytes.write_words.Statement.{statement}
 use Rattle.entry_slices.proofs.bytes.write_words.Tie as tie
 
 abbrev Inv-loop : tie.InvT-loop
-Inv-loop s₀ xs i₀ s i = (length s ≡ length s₀) × (i ≤ length xs) × (take (8 * i) s ≡ ofWords (take i xs))
+Inv-loop s₀ xs i₀ s i = (length s ≡ length s₀) × (i ≤ length xs) × (take (8 * i) s ≡ ofWords 8 (take i xs))
 
 abbrev μ-loop : tie.MeasureT-loop
 μ-loop s₀ xs i₀ s i = length xs - i
@@ -45,8 +45,8 @@ loop-again c =
     let s = c .before .before .before .before .before .before .loop .s in
     let xs = now (c .before .before .before .before .before .before .before .before .before .args .xs) in
     let l : i < length xs = omega arith in
-    let e : c .before .before .put-word .last .0 ≡ putWord s (8 * i) (getD xs i 0) = c .before .before .put-word .ensures in
-    (c .before .before .put-word .kept .0 ∙ c .before .before .before .before .before .before .loop .inv .0, omega arith, rw e (written-more s xs i (omega arith) (omega arith) (c .before .before .before .before .before .before .loop .inv .2)))
+    let e : c .before .before .put-word .last .0 ≡ putWord 8 s (8 * i) (getD xs i 0) = c .before .before .put-word .ensures in
+    (c .before .before .put-word .kept .0 ∙ c .before .before .before .before .before .before .loop .inv .0, omega arith, rw e (written-more 8 s xs i (omega arith) (omega arith) (c .before .before .before .before .before .before .loop .inv .2)))
 
 same-length : tie.Need-same-length Inv-loop μ-loop
 same-length c = c .before .loop .inv .0
@@ -56,7 +56,7 @@ returns c =
     let i = c .before .loop .i in
     let s = c .before .loop .s in
     let xs = now (c .before .before .before .before .args .xs) in
-    sym (take-all (8 * i) s (omega arith)) ∙ c .before .loop .inv .2 ∙ ap ofWords (take-all i xs (omega arith))
+    sym (take-all (8 * i) s (omega arith)) ∙ c .before .loop .inv .2 ∙ ap (ofWords 8) (take-all i xs (omega arith))
 
 pub write-words-spec : {M : Type 1} → statement M
 write-words-spec =

@@ -1,25 +1,25 @@
 -- `gauss_jordan::rows::scale` meets its contract. The invariant: the entries below j are multiplied, the others as they were.
 -- Assumes nothing.
-use mathlib.Core.Path.{_≡_, ap, _∙_}
-use Prim.Native.Nat.{ℕ, _*_, _-_, _≤_, _<_}
+use mathlib.Core.Path.{_≡_, refl, ap, _∙_}
+use Prim.Native.Nat.{ℕ, _-_, _≤_, _<_}
 use native.Mathlib.Omega.{arith}
 use lib.ListN.{length}
 use borrow.Author.Needs.{needs}
 use Rattle.complex.specs.declared.Complex.{Complex}
 use Rattle.complex.specs.Arithmetic.{cmul}
 use Rattle.complex.specs.Entries.{entry, put}
-use Rattle.gauss_jordan.proofs.Passed.{Mapped, put-none, mapped-more}
+use Rattle.gauss_jordan.proofs.Passed.{Mapped, put-none, mapped-at}
 use Rattle.gauss_jordan.proofs.rows.scale.Statement.{statement}
 use Rattle.gauss_jordan.proofs.rows.scale.Tie as tie
 
 abbrev Inv-loop : tie.InvT-loop
-Inv-loop row₀ w by j₀ row j = (j ≤ w) × (length row ≡ 2 * w) × Mapped (λ (k : ℕ) (x : Complex). cmul x by) row₀ row j
+Inv-loop row₀ w by j₀ row j = (j ≤ w) × (length row ≡ length row₀) × Mapped (λ (k : ℕ) (x : Complex). cmul x by) row₀ row j
 
 abbrev μ-loop : tie.MeasureT-loop
 μ-loop row₀ w by j₀ row j = w - j
 
 loop-holds : tie.Need-loop-holds Inv-loop μ-loop
-loop-holds c = (omega arith, c .before .pre, put-none (c .before .args .row .now) (λ (k : ℕ). cmul (entry (c .before .args .row .now) k) (c .before .args .by)))
+loop-holds c = (omega arith, refl, put-none (c .before .args .row .now) (λ (k : ℕ). cmul (entry (c .before .args .row .now) k) (c .before .args .by)))
 
 get-requires : tie.Need-get-requires Inv-loop μ-loop
 get-requires c κs = search needs
@@ -44,9 +44,9 @@ loop-again c =
     let t = c .before .before .before .before .before .before .before in
     let l = t .before .loop in
     let start = t .before .before .before in
-    mapped-more (λ (k : ℕ) (x : Complex). cmul x (start .args .by)) (start .args .row .now) (l .row) (p .last .0) (start .args .w) (l .j)
-    (t .loop-test .taken) (l .inv .1) (l .inv .2)
-    (p .ensures ∙ ap (put (l .row) (l .j)) (m .ensures ∙ ap (λ (x : Complex). cmul x (start .args .by)) (g .ensures)))
+    let more = mapped-at (λ (k : ℕ) (x : Complex). cmul x (start .args .by)) (start .args .row .now) (l .row) (p .last .0) (l .j) (omega arith) (l .inv .2)
+    (p .ensures ∙ ap (put (l .row) (l .j)) (m .ensures ∙ ap (λ (x : Complex). cmul x (start .args .by)) (g .ensures))) in
+    (omega arith, more .0 ∙ l .inv .1, more .1)
 
 same-length : tie.Need-same-length Inv-loop μ-loop
 same-length c = search needs

@@ -1,42 +1,57 @@
--- `gauss_jordan::rows::subtract` meets its contract. The invariant: the entries below j are reduced, the others as they were.
+-- `gauss_jordan::rows::subtract` meets its contract. The invariant: the numbers below j are reduced, the others as they were.
 -- Assumes nothing.
 use mathlib.Core.Path.{_≡_, ap, _∙_}
 use Prim.Native.Nat.{ℕ, _*_, _-_, _≤_, _<_}
 use native.Mathlib.Omega.{arith}
-use lib.ListN.{length}
+use lib.ListN.{length, getD, length-set}
+use lib.Ieee.{Float, nan}
 use borrow.Author.Needs.{needs}
-use Rattle.complex.specs.declared.Complex.{Complex}
-use Rattle.complex.specs.Arithmetic.{cmul, csub}
-use Rattle.complex.specs.Entries.{entry, put}
-use Rattle.gauss_jordan.proofs.Passed.{Mapped, put-none, mapped-more}
+use Rattle.complex.specs.Arithmetic.{_⊖_}
+use Rattle.gauss_jordan.proofs.Passed.{Stored, stored-none, stored-more}
+use Rattle.gauss_jordan.proofs.TurnedRows.{taken, number-by-number}
 use Rattle.gauss_jordan.proofs.rows.subtract.Statement.{statement}
 use Rattle.gauss_jordan.proofs.rows.subtract.Tie as tie
 
 abbrev Inv-loop : tie.InvT-loop
-Inv-loop row₀ w factor pivot j₀ row j = (j ≤ w) × (length row ≡ 2 * w) × Mapped (λ (k : ℕ) (x : Complex). csub x (cmul factor (entry pivot k))) row₀ row j
+Inv-loop row₀ w factor pivot e j₀ row j = (j ≤ 2 * w) × (length row ≡ 2 * w) × Stored row (λ (k : ℕ). getD row₀ k nan ⊖ taken w pivot factor k) (λ (k : ℕ). getD row₀ k nan) j
 
 abbrev μ-loop : tie.MeasureT-loop
-μ-loop row₀ w factor pivot j₀ row j = w - j
+μ-loop row₀ w factor pivot e j₀ row j = 2 * w - j
+
+mul-e : tie.Need-mul-e Inv-loop μ-loop
+mul-e c = search needs
 
 loop-holds : tie.Need-loop-holds Inv-loop μ-loop
 loop-holds c =
-    let start = c .before .before in
-    (omega arith, start .pre .0, put-none (start .args .row .now) (λ (k : ℕ). csub (entry (start .args .row .now) k) (cmul (start .args .factor) (entry (start .args .pivot .now) k))))
+    let a = c .args in
+    (omega arith, c .pre .0, stored-none (a .row .now) (λ (k : ℕ). getD (a .row .now) k nan ⊖ taken (a .w) (a .pivot .now) (a .factor) k))
 
-get-requires : tie.Need-get-requires Inv-loop μ-loop
-get-requires c κs = search needs
+mul-row : tie.Need-mul-row Inv-loop μ-loop
+mul-row c = search needs
 
-get-requires-2 : tie.Need-get-requires-2 Inv-loop μ-loop
-get-requires-2 c κs = search needs
+slice-read-row : tie.Need-slice-read-row Inv-loop μ-loop
+slice-read-row c = search needs
 
-cmul-requires : tie.Need-cmul-requires Inv-loop μ-loop
-cmul-requires c κs = search needs
+mul-row-2 : tie.Need-mul-row-2 Inv-loop μ-loop
+mul-row-2 c = search needs
 
-csub-requires : tie.Need-csub-requires Inv-loop μ-loop
-csub-requires c κs = search needs
+shared-slice-read-row : tie.Need-shared-slice-read-row Inv-loop μ-loop
+shared-slice-read-row c = search needs
 
-put-requires : tie.Need-put-requires Inv-loop μ-loop
-put-requires c κs = search needs
+add-row : tie.Need-add-row Inv-loop μ-loop
+add-row c = search needs
+
+mul-row-3 : tie.Need-mul-row-3 Inv-loop μ-loop
+mul-row-3 c = search needs
+
+shared-slice-read-row-2 : tie.Need-shared-slice-read-row-2 Inv-loop μ-loop
+shared-slice-read-row-2 c = search needs
+
+mul-row-4 : tie.Need-mul-row-4 Inv-loop μ-loop
+mul-row-4 c = search needs
+
+slice-write-row : tie.Need-slice-write-row Inv-loop μ-loop
+slice-write-row c = search needs
 
 add-j : tie.Need-add-j Inv-loop μ-loop
 add-j c = search needs
@@ -45,25 +60,28 @@ loop-less : tie.Need-loop-less Inv-loop μ-loop
 loop-less c = search needs
 
 loop-again : tie.Need-loop-again Inv-loop μ-loop
+unfolding taken
 loop-again c =
-    let p = c .before .before .put in
-    let s = c .before .before .before .csub in
-    let m = c .before .before .before .before .cmul in
-    let b = c .before .before .before .before .before .before in
-    let g = b .before .get in
-    let t = b .before .before .before in
-    let l = t .before .loop in
-    let start = t .before .before .before .before in
-    let f : ℕ → Complex → Complex = λ (k : ℕ) (x : Complex). csub x (cmul (start .args .factor) (entry (start .args .pivot .now) k)) in
-    let value : s .result ≡ f (l .j) (entry (l .row) (l .j)) = cc (s .ensures, m .ensures, b .get2 .ensures, g .ensures) in
-    mapped-more f (start .args .row .now) (l .row) (p .last .0) (start .args .w) (l .j)
-    (t .loop-test .taken) (l .inv .1) (l .inv .2) (p .ensures ∙ ap (put (l .row) (l .j)) value)
+    let at = c .before .before .before .before .before .before in
+    let l = at .loop in
+    let a = at .before .args in
+    let old : ℕ → Float = λ (k : ℕ). getD (a .row .now) k nan in
+    let less = taken (a .w) (a .pivot .now) (a .factor) in (
+      omega arith,
+      length-set (l .row) (l .j) _ ∙ l .inv .1,
+      stored-more (l .row) (λ (k : ℕ). old k ⊖ less k) old (l .j) _ (omega arith)
+          (ap (λ (x : Float). x ⊖ less (l .j)) (l .inv .2 .ahead (l .j) (omega arith))) (l .inv .2),
+    )
 
 same-length : tie.Need-same-length Inv-loop μ-loop
 same-length c = search needs
 
 returns : tie.Need-returns Inv-loop μ-loop
-returns c = λ (q : ℕ) (h : q < c .before .before .before .before .args .w). c .before .loop .inv .2 .behind q (omega arith)
+returns c =
+    let l = c .before .loop in
+    let s = c .before .before in
+    let a = s .args in
+    number-by-number (a .w) (a .pivot .now) (a .factor) (a .row .now) (l .row) (s .pre .1) (λ (k : ℕ) (h : k < 2 * a .w). l .inv .2 .behind k (omega arith))
 
 pub subtract-spec : {M : Type 1} → statement M
 subtract-spec =
@@ -71,12 +89,17 @@ subtract-spec =
     (tie.spec
     Inv-loop
     μ-loop
+    mul-e
     loop-holds
-    get-requires
-    get-requires-2
-    cmul-requires
-    csub-requires
-    put-requires
+    mul-row
+    slice-read-row
+    mul-row-2
+    shared-slice-read-row
+    add-row
+    mul-row-3
+    shared-slice-read-row-2
+    mul-row-4
+    slice-write-row
     add-j
     loop-less
     loop-again

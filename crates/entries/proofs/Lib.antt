@@ -1,0 +1,2 @@
+pub mod KronLaws
+pub mod NumbersLaws

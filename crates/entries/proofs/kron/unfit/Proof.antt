@@ -1,0 +1,14 @@
+-- `entries::kron::unfit` meets its contract.
+-- Assumes nothing.
+use borrow.Author.Tests.{lt-ltb, le-ltb}
+use Rattle.entries.proofs.kron.unfit.Statement.{statement}
+use Rattle.entries.proofs.kron.unfit.Tie as tie
+
+returns : tie.Need-returns
+returns c = simp (lt-ltb _ _ (c .if1 .taken))
+
+returns-2 : tie.Need-returns-2
+returns-2 c = simp (le-ltb _ _ (c .if1 .left))
+
+pub unfit-spec : {M : Type 1} → statement M
+unfit-spec = tie.close (tie.spec returns returns-2)

@@ -1,0 +1,50 @@
+-- What the pointers for single answers hold at the end: the answer where the call was carried out, else what was there.
+use Prim.Native.Nat.{ℕ}
+use mathlib.Core.Bool.{cond}
+use lib.Dec.{eqb}
+use lib.Ieee.{Float}
+use Rattle.complex.specs.declared.Complex.{Complex}
+use Rattle.kron_core.specs.declared.Impedance.{Impedance}
+use Rattle.kron_core.specs.declared.Impedance.the-variants as impedances
+use Rattle.dc_core.specs.declared.Retained.{Retained}
+use Rattle.dc_core.specs.declared.Retained.the-variants as counts
+use Rattle.ward_studies.specs.declared.WardSummary.{WardSummary}
+use Rattle.ward_studies.specs.declared.WardAnswer.{WardAnswer}
+use Rattle.ward_studies.specs.declared.WardAnswer.the-variants as wards
+use Rattle.rei_core.specs.declared.ReiEquivalent.{ReiEquivalent}
+use Rattle.rei_core.specs.declared.ReiAnswer.{ReiAnswer}
+use Rattle.rei_core.specs.declared.ReiAnswer.the-variants as reis
+
+-- ---- what several pointers hold together
+
+abbrev pub complexOf : Float → Float → Complex
+complexOf a b = record { re = a; im = b }
+
+abbrev pub summaryOf : ℕ → ℕ → Float → WardSummary
+summaryOf r e x = record { «n_buses_reduced» = r; «n_buses_equivalent» = e; «reduction_ratio» = x }
+
+abbrev pub reiOf : ℕ → Float → Float → Float → ℕ → ReiEquivalent
+reiOf b v p q n = record { «rei_bus_id» = b; «rei_voltage_pu» = v; «rei_p_mw» = p; «rei_q_mvar» = q; «n_ties» = n }
+
+-- ---- at the end
+
+-- by the refusal f
+unfoldable pub answerAfter : {A : Type 0} → ℕ → A → A → A
+answerAfter f new held = cond (eqb f 0) new held
+
+-- by the library's answer
+unfoldable pub valueAfter : Impedance → Complex → Complex
+valueAfter (impedances.Value z) held = z
+valueAfter (impedances.Refused k) held = held
+
+unfoldable pub countAfter : Retained → ℕ → ℕ
+countAfter (counts.Count n) held = n
+countAfter (counts.Refused k) held = held
+
+unfoldable pub summaryAfter : WardAnswer → WardSummary → WardSummary
+summaryAfter (wards.Done s) held = s
+summaryAfter (wards.Refused k) held = held
+
+unfoldable pub equivalentAfter : ReiAnswer → ReiEquivalent → ReiEquivalent
+equivalentAfter (reis.Done e) held = e
+equivalentAfter (reis.Refused k) held = held

@@ -1,0 +1,40 @@
+-- `entry_slices::bytes::put_half` meets its contract.
+-- Assumes nothing.
+use native.Mathlib.Numerals.{towards-suc}
+use native.Mathlib.Omega.{arith}
+use lib.ListN.{length-set}
+use Rattle.entry_slices.specs.Bytes.{bytesOf, putWord}
+use borrow.Author.Needs.{needs}
+use Rattle.entry_slices.proofs.bytes.put_half.Statement.{statement}
+use Rattle.entry_slices.proofs.bytes.put_half.Tie as tie
+
+slice-write-s-2 : tie.Need-slice-write-s-2
+slice-write-s-2 c = simp length-set (omega arith)
+
+slice-write-s-3 : tie.Need-slice-write-s-3
+slice-write-s-3 c = simp length-set (omega arith)
+
+slice-write-s-4 : tie.Need-slice-write-s-4
+slice-write-s-4 c = simp length-set (omega arith)
+
+returns : tie.Need-returns
+unfolding putWord bytesOf
+returns c = simp towards-suc
+
+pub put-half-spec : {M : Type 1} → statement M
+put-half-spec =
+    tie.close
+    (tie.spec
+    (λ c. search needs)
+    (λ c. search needs)
+    (λ c. search needs)
+    (λ c. search needs)
+    slice-write-s-2
+    (λ c. search needs)
+    (λ c. search needs)
+    slice-write-s-3
+    (λ c. search needs)
+    (λ c. search needs)
+    slice-write-s-4
+    (λ c. search needs)
+    returns)

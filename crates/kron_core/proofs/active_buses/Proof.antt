@@ -1,0 +1,42 @@
+-- `kron_core::active_buses` meets its contract.
+-- Assumes nothing.
+use mathlib.Core.Path.{_≡_, sym, _∙_}
+use native.Mathlib.Omega.{arith}
+use lib.ListN.{length}
+use Rattle.refusals.specs.Refusals.{limit}
+use Rattle.kron_core.specs.Reading.{activeRefusal}
+use borrow.Author.Needs.{needs}
+use Rattle.kron_core.proofs.Active.{active-refused, active-accepted, active-done}
+use Rattle.kron_core.proofs.active_buses.Statement.{statement}
+use Rattle.kron_core.proofs.active_buses.Tie as tie
+
+returns : tie.Need-returns
+returns c =
+    let run = c .before .before in
+    let s = run .before .before in
+    let both = active-refused (s .args .r) (s .args .out .now) (run .active-refusal .result) (c .before .if1 .taken) (run .active-refusal .ensures) in
+    (c .answer-of .ensures ∙ both .0, both .1)
+
+full : (c : tie.Start) → length (c .args .r .«active_buses») ≡ limit
+full c = search needs
+
+accepted : (c : tie.After-active-refusal) → c .active-refusal .result ≡ 0 → activeRefusal (c .before .before .args .r) (length (c .before .before .args .out .now)) ≡ 0
+accepted c e = sym (c .active-refusal .ensures) ∙ e
+
+copy-places-requires : tie.Need-copy-places-requires
+copy-places-requires c κs =
+    let test = c .before .before .before in
+    let run = test .before in
+    let s = run .before .before in
+    let h = active-accepted (s .args .r) (length (s .args .out .now)) (accepted run (test .if1 .left)) in
+    omega (arith, h .room, h .long, full s)
+
+returns-2 : tie.Need-returns-2
+returns-2 c =
+    let test = c .before .before .before .before .before .before in
+    let run = test .before in
+    let s = run .before .before in
+    active-done (s .args .r) (s .args .out .now) (accepted run (test .if1 .left)) (full s) _ (c .before .before .copy-places .ensures)
+
+pub active-buses-spec : {M : Type 1} → statement M
+active-buses-spec = tie.close (tie.spec (λ c. search needs) (λ c. search needs) returns (λ c. search needs) copy-places-requires (λ c. search needs) returns-2)

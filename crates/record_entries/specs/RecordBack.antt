@@ -1,0 +1,16 @@
+-- A record and its bytes undo each other: it may be kept as bytes.
+use Prim.Native.Nat.{ℕ, _^_}
+use mathlib.Core.Path.{_≡_}
+use mathlib.Core.List.{List}
+use lib.ListN.{length}
+use Rattle.refusals.specs.Refusals.{limit}
+use Rattle.kron_core.specs.declared.KronReducer.{KronReducer}
+use Rattle.entry_slices.specs.Bytes.{ofWords}
+use Rattle.entry_slices.specs.RoundTrip.{Below}
+use Rattle.record_entries.specs.Records.{recordBytes, recordIn, wordsOf}
+
+pub record RecordBack : Type 1 where
+  -- a record whose numbers fit 8 bytes, with as many places as the limit, comes back from its bytes
+  pub record-back : (r : KronReducer) → length (r .«active_buses») ≡ limit → Below (256 ^ 8) (wordsOf r) → recordIn (ofWords 8 (wordsOf r)) ≡ r
+  -- so do the bytes from the record in them
+  pub bytes-back : (bs : List ℕ) → Below 256 bs → length bs ≡ recordBytes → ofWords 8 (wordsOf (recordIn bs)) ≡ bs

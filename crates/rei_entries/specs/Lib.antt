@@ -1,2 +1,0 @@
-pub mod ReiCall
-pub mod ReiRooms

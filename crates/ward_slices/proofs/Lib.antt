@@ -1,2 +1,0 @@
-pub mod OutputsLaws
-pub mod ReadingLaws

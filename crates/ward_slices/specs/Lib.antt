@@ -1,2 +1,0 @@
-pub mod Outputs
-pub mod Reading
