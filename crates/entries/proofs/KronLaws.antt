@@ -20,7 +20,7 @@ use Rattle.kron_core.specs.Reducer.{AfterBus, AfterBuses, makingOf, afterNew, a
 use Rattle.kron_core.specs.Reading as reading
 use Rattle.record_entries.specs.Records.{recordBytes, recordIn, storedRecord}
 use Rattle.entries.specs.Answers.{answerAfter, valueAfter}
-use Rattle.entries.specs.Kron.{fitting, Fresh, RemovedBy, Removed, fromInput, noneRemoved, ListedBy, Listed, ShownBy, Shown, ActiveBy, Active, SeenBy, Seen}
+use Rattle.entries.specs.Kron.{fitting, Fresh, RemovedBy, Removed, fromInput, noneRemoved, ListedBy, Listed, Shown, Active, SeenBy, Seen}
 
 abbrev Fits : List ℕ → Type 0
 Fits rec = length rec ≡ recordBytes
@@ -32,14 +32,6 @@ fit rec l f h = rw (eq-eqb (length rec) recordBytes h) refl
 unfit : (rec : List ℕ) (l f : ℕ) → (Fits rec → ⊥) → fitting rec l f ≡ refuse (ltb limit l) tooMany wrongLength
 unfolding fitting
 unfit rec l f h = rw (ne-eqb (length rec) recordBytes h) refl
-
-unfit-few : (rec : List ℕ) (f : ℕ) → (Fits rec → ⊥) → 2 ≡ fitting rec 0 f
-unfolding fitting
-unfit-few rec f h = rw (ne-eqb (length rec) recordBytes h) refl
-
-unfit-one : (rec : List ℕ) (f : ℕ) → (Fits rec → ⊥) → 2 ≡ fitting rec 1 f
-unfolding fitting
-unfit-one rec f h = rw (ne-eqb (length rec) recordBytes h) refl
 
 left : {A : Type 0} (rec : List ℕ) (x y : A) → Fits rec → x ≡ cond (eqb (length rec) recordBytes) x y
 left rec x y h = rw (eq-eqb (length rec) recordBytes h) refl
@@ -76,7 +68,7 @@ fresh-fit n ys rec f o rec′ h e g k =
 pub removed-unfit : (rec : List ℕ) (ys : List Float) (bus : ℕ) → (Fits rec → ⊥) → Removed rec ys bus 2 rec ys
 removed-unfit rec ys bus h =
     let l = afterBus (recordIn rec) ys bus in
-    record { told = unfit-one rec (number (l .out .answer)) h; stored = unstored rec 2 (l .out .rec) h; matrix = as-it-was rec (l .slice) ys h }
+    record { told = sym (unfit rec 1 (number (l .out .answer)) h); stored = unstored rec 2 (l .out .rec) h; matrix = as-it-was rec (l .slice) ys h }
 
 removed-by : (l : AfterBus) (rec : List ℕ) (ys : List Float) (f : ℕ) (t : Taken) (rec′ : List ℕ) (ys′ : List Float)
     → Fits rec → t ≡ l .out → ys′ ≡ l .slice → f ≡ number (t .answer) → rec′ ≡ storedRecord f (t .rec) rec → RemovedBy l rec ys f rec′ ys′
@@ -132,7 +124,7 @@ listed-fit rec ys ks removed f p s r t rec′ ys′ removed′ h i e y =
 pub shown-unfit : (rec : List ℕ) (ys out : List Float) → (Fits rec → ⊥) → Shown rec ys out 2 out
 shown-unfit rec ys out h =
     let l = reading.afterMatrix (recordIn rec) ys out in
-    record { told = unfit-few rec (number (l .answer)) h; matrix = as-it-was rec (l .out) out h }
+    record { told = sym (unfit rec 0 (number (l .answer)) h); matrix = as-it-was rec (l .out) out h }
 
 pub shown-fit : (rec : List ℕ) (ys out : List Float) (f : ℕ) (r : KronReducer) (a : Outcome) (out′ : List Float)
     → Fits rec → r ≡ recordIn rec → a ≡ reading.afterMatrix r ys out .answer → out′ ≡ reading.afterMatrix r ys out .out → f ≡ number a → Shown rec ys out f out′
@@ -150,7 +142,7 @@ unfit-count x held = refl
 pub active-unfit : (rec buses : List ℕ) (count : ℕ) → (Fits rec → ⊥) → Active rec buses count 2 buses count
 active-unfit rec buses count h =
     let l = reading.afterActive (recordIn rec) buses in
-    record { told = unfit-few rec (number (l .answer)) h; rows = as-it-was rec (l .buses) buses h; counted = unfit-count (recordIn rec .«n_buses») count }
+    record { told = sym (unfit rec 0 (number (l .answer)) h); rows = as-it-was rec (l .buses) buses h; counted = unfit-count (recordIn rec .«n_buses») count }
 
 pub active-fit : (rec buses : List ℕ) (count f : ℕ) (r : KronReducer) (a : Outcome) (buses′ : List ℕ) (count′ : ℕ)
     → Fits rec → r ≡ recordIn rec → a ≡ reading.afterActive r buses .answer → buses′ ≡ reading.afterActive r buses .buses → f ≡ number a
@@ -167,7 +159,7 @@ pub seen-unfit : (rec : List ℕ) (ys : List Float) (i j : ℕ) (work : List Flo
 seen-unfit rec ys i j work z h =
     let l = reading.afterImpedance (recordIn rec) ys i j work in
     record {
-      told = unfit-few rec (reading.number (l .answer)) h;
+      told = sym (unfit rec 0 (reading.number (l .answer)) h);
       cleared = as-it-was rec (l .work) work h;
       value = as-it-was rec (valueAfter (l .answer) z) z h;
     }

@@ -1,8 +1,7 @@
 -- Numbers in bytes, computed; and what the premises of the round trips keep out.
 -- Assumes nothing.
 use mathlib.Core.Path.{_≡_, refl}
-use mathlib.Core.List.{List, [], _∷_, map}
-use Prim.Native.Nat.{ℕ}
+use mathlib.Core.List.{[], _∷_}
 use lib.Ieee.{Float, nan, binary64, ofBits, toBits}
 use Rattle.complex.specs.Matrices.{upTo}
 use Rattle.entry_slices.specs.Bytes.{word, bytesOf, words, ofWords, floats, ofFloats}

@@ -5,8 +5,8 @@ use mathlib.Core.List.{List, [], _∷_, _++_, map, append-assoc, append-nil}
 use Prim.Native.Nat.{ℕ, zero, suc, _+_, _*_, _/_, _%_, _≤_, _<_}
 use native.Mathlib.Numerals.{add-one, towards-suc, unary-clauses}
 use native.Mathlib.Omega.{arith}
-use lib.ListN.{length, take, drop, getD, length-append, length-map}
-use lib.Seq.{sets, sets-eq, length-sets, take-at, take-suc, length-take-le}
+use lib.ListN.{length, take, drop, getD, set, length-append, length-map}
+use lib.Seq.{sets, sets-eq, length-sets, take-all, take-at, take-suc, take-suc-set, length-take-le}
 use lib.Ieee.{binary64, ofBits}
 use Rattle.complex.specs.Matrices.{upTo}
 use Rattle.complex.proofs.Matrices.{length-upTo}
@@ -17,6 +17,13 @@ map-append f [] ys = refl
 map-append f (x ∷ xs) ys = ap (λ l. f x ∷ l) (map-append f xs ys)
 
 -- ---- reading
+
+-- A slice that is filled with the elements of a growing list: one more of them, and all.
+pub filled-more : {A : Type 0} (seq : ℕ → List A) (out : List A) (i : ℕ) (v : A) → i < length out → take i out ≡ seq i → seq (i + 1) ≡ seq i ++ (v ∷ []) → take (i + 1) (set out i v) ≡ seq (i + 1)
+filled-more seq out i v h e g = rw add-one (take-suc-set out i v h) ∙ ap (λ f. f ++ (v ∷ [])) e ∙ sym g
+
+pub filled : {A : Type 0} (seq : ℕ → List A) (out out₀ : List A) (i : ℕ) → length out ≡ length out₀ → i ≤ length out → length out ≤ i → take i out ≡ seq i → out ≡ seq (length out₀)
+filled seq out out₀ i l h all e = let at : i ≡ length out₀ = omega (arith, l, h, all) in sym (take-all i out all) ∙ e ∙ ap seq at
 
 pub words-suc : (k n : ℕ) (bs : List ℕ) → words k (n + 1) bs ≡ words k n bs ++ (word k bs (k * n) ∷ [])
 unfolding words upTo
@@ -29,10 +36,6 @@ floats-suc n bs = ap (map (ofBits binary64)) (words-suc 8 n bs) ∙ map-append (
 pub length-words : (k n : ℕ) (bs : List ℕ) → length (words k n bs) ≡ n
 unfolding words
 length-words k n bs = length-map (upTo n) (λ (i : ℕ). word k bs (k * i)) ∙ length-upTo n
-
-pub length-floats : (n : ℕ) (bs : List ℕ) → length (floats n bs) ≡ n
-unfolding floats
-length-floats n bs = length-map (words 8 n bs) (ofBits binary64) ∙ length-words 8 n bs
 
 pub half-bytes : (bs : List ℕ) (a : ℕ) → getD bs a 0 + 0x100 * getD bs (a + 1) 0 + 0x1_0000 * getD bs (a + 2) 0 + 0x100_0000 * getD bs (a + 3) 0 ≡ word 4 bs a
 unfolding word

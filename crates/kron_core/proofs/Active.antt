@@ -2,7 +2,7 @@
 -- Assumes nothing.
 use mathlib.Core.Path.{_≡_, refl, sym, ap, ap₂, subst, _∙_}
 use mathlib.Core.Bool.{Bool, true, false, not}
-use mathlib.Core.List.{List, [], _∷_, _++_}
+use mathlib.Core.List.{List, _∷_, _++_}
 use Prim.Native.Nat.{ℕ, zero, suc, _+_, _-_, _≤_, _<_}
 use native.Mathlib.Omega.{arith}
 use borrow.Author.Tests.{lt-ltb, le-ltb, eq-eqb, ne-eqb, ltb-false, eqb-true}
@@ -13,7 +13,7 @@ use Rattle.refusals.specs.declared.Outcome.the-variants.{Done}
 use Rattle.refusals.specs.Refusals.{limit, tooMany, wrongLength, badRecord, refuse, outcome}
 use Rattle.buses.proofs.Buses.{rising-length}
 use Rattle.kron_core.specs.declared.KronReducer.{KronReducer}
-use Rattle.kron_core.specs.Reducer.{activeOf, recordOf, sound}
+use Rattle.kron_core.specs.Reducer.{activeOf, sound}
 use Rattle.kron_core.specs.Reading.{activeRefusal, afterActive}
 use Rattle.kron_core.proofs.Reducer.{sound-has, sound-is}
 

@@ -1,12 +1,10 @@
 -- The active buses of small records, computed.
 -- Assumes nothing.
 use mathlib.Core.Path.{_≡_, refl}
-use mathlib.Core.List.{List, [], _∷_}
-use Prim.Native.Nat.{ℕ}
+use mathlib.Core.List.{[], _∷_}
 use Rattle.refusals.specs.declared.Outcome.the-variants.{Done, Refused}
-use Rattle.refusals.specs.Refusals.{outcome, refuse}
+use Rattle.refusals.specs.Refusals.{outcome}
 use Rattle.buses.specs.Buses.{rising, allBelow, allZero}
-use Rattle.kron_core.specs.declared.KronReducer.{KronReducer}
 use Rattle.kron_core.specs.Reducer.{recordOf, sound}
 use Rattle.kron_core.specs.Reading.{activeRefusal, afterActive}
 

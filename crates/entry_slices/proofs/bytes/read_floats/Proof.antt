@@ -2,16 +2,14 @@
 -- Assumes nothing.
 use mathlib.Core.Path.{_≡_, refl, sym, ap, _∙_}
 use mathlib.Core.List.{[], _∷_, _++_}
-use native.Mathlib.Numerals.{add-one}
 use denote.Ref.{now}
 use lib.Ieee.{binary64, ofBits}
-use Prim.Native.Nat.{ℕ, _-_, _≤_, _<_}
+use Prim.Native.Nat.{_-_, _≤_}
 use native.Mathlib.Omega.{arith}
 use lib.ListN.{length, take, length-set}
-use lib.Seq.{take-all, take-suc-set}
 use Rattle.complex.specs.Matrices.{upTo}
 use Rattle.entry_slices.specs.Bytes.{words, floats}
-use Rattle.entry_slices.proofs.BytesLaws.{floats-suc}
+use Rattle.entry_slices.proofs.BytesLaws.{floats-suc, filled-more, filled}
 use Rattle.entry_slices.proofs.bytes.read_floats.Statement.{statement}
 use Rattle.entry_slices.proofs.bytes.read_floats.Tie as tie
 
@@ -48,13 +46,12 @@ loop-less c = simp length-set (omega arith)
 
 loop-again : tie.Need-loop-again Inv-loop μ-loop
 loop-again c =
-    let i = c .before .before .before .loop .i in
-    let out = c .before .before .before .loop .out in
+    let l = c .before .before .before .loop in
     let s = now (c .before .before .before .before .before .before .args .s) in
-    let h : i < length out = omega arith in (
-      length-set out i (c .of-word .result) ∙ c .before .before .before .loop .inv .0,
+    let v = c .of-word .result in (
+      length-set (l .out) (l .i) v ∙ l .inv .0,
       simp length-set (omega arith),
-      rw add-one (take-suc-set out i (c .of-word .result) h) ∙ ap (λ f. f ++ (c .of-word .result ∷ [])) (c .before .before .before .loop .inv .2) ∙ ap (λ v. floats i s ++ (v ∷ [])) (c .of-word .ensures ∙ ap (ofBits binary64) (c .before .word-at .ensures)) ∙ sym (floats-suc i s),
+      filled-more (λ n. floats n s) (l .out) (l .i) v (omega arith) (l .inv .2) (floats-suc (l .i) s ∙ ap (λ x. floats (l .i) s ++ (x ∷ [])) (sym (c .of-word .ensures ∙ ap (ofBits binary64) (c .before .word-at .ensures)))),
     )
 
 same-length : tie.Need-same-length Inv-loop μ-loop
@@ -63,10 +60,8 @@ same-length c = c .before .loop .inv .0
 returns : tie.Need-returns Inv-loop μ-loop
 returns c =
     let l = c .before .loop in
-    let s = now (c .before .before .before .before .args .s) in
-    let all : length (l .out) ≤ l .i = omega arith in
-    let e : l .i ≡ length (now (c .before .before .before .before .args .out)) = omega (arith, l .inv .0, l .inv .1, all) in
-    sym (take-all (l .i) (l .out) all) ∙ l .inv .2 ∙ ap (λ (k : ℕ). floats k s) e
+    let s = c .before .before .before .before .args in
+    filled (λ n. floats n (now (s .s))) (l .out) (now (s .out)) (l .i) (l .inv .0) (l .inv .1) (omega arith) (l .inv .2)
 
 pub read-floats-spec : {M : Type 1} → statement M
 read-floats-spec =

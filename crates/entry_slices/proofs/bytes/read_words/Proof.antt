@@ -2,15 +2,13 @@
 -- Assumes nothing.
 use mathlib.Core.Path.{_≡_, refl, sym, ap, _∙_}
 use mathlib.Core.List.{[], _∷_, _++_}
-use native.Mathlib.Numerals.{add-one}
 use denote.Ref.{now}
-use Prim.Native.Nat.{ℕ, _-_, _≤_, _<_}
+use Prim.Native.Nat.{_-_, _≤_}
 use native.Mathlib.Omega.{arith}
 use lib.ListN.{length, take, length-set}
-use lib.Seq.{take-all, take-suc-set}
 use Rattle.complex.specs.Matrices.{upTo}
 use Rattle.entry_slices.specs.Bytes.{words}
-use Rattle.entry_slices.proofs.BytesLaws.{words-suc}
+use Rattle.entry_slices.proofs.BytesLaws.{words-suc, filled-more, filled}
 use Rattle.entry_slices.proofs.bytes.read_words.Statement.{statement}
 use Rattle.entry_slices.proofs.bytes.read_words.Tie as tie
 
@@ -44,13 +42,12 @@ loop-less c = simp length-set (omega arith)
 
 loop-again : tie.Need-loop-again Inv-loop μ-loop
 loop-again c =
-    let i = c .before .before .loop .i in
-    let out = c .before .before .loop .out in
+    let l = c .before .before .loop in
     let s = now (c .before .before .before .before .before .args .s) in
-    let h : i < length out = omega arith in (
-      length-set out i (c .word-at .result) ∙ c .before .before .loop .inv .0,
+    let v = c .word-at .result in (
+      length-set (l .out) (l .i) v ∙ l .inv .0,
       simp length-set (omega arith),
-      rw add-one (take-suc-set out i (c .word-at .result) h) ∙ ap (λ f. f ++ (c .word-at .result ∷ [])) (c .before .before .loop .inv .2) ∙ ap (λ v. words 8 i s ++ (v ∷ [])) (c .word-at .ensures) ∙ sym (words-suc 8 i s),
+      filled-more (λ n. words 8 n s) (l .out) (l .i) v (omega arith) (l .inv .2) (words-suc 8 (l .i) s ∙ ap (λ x. words 8 (l .i) s ++ (x ∷ [])) (sym (c .word-at .ensures))),
     )
 
 same-length : tie.Need-same-length Inv-loop μ-loop
@@ -59,10 +56,8 @@ same-length c = c .before .loop .inv .0
 returns : tie.Need-returns Inv-loop μ-loop
 returns c =
     let l = c .before .loop in
-    let s = now (c .before .before .before .before .args .s) in
-    let all : length (l .out) ≤ l .i = omega arith in
-    let e : l .i ≡ length (now (c .before .before .before .before .args .out)) = omega (arith, l .inv .0, l .inv .1, all) in
-    sym (take-all (l .i) (l .out) all) ∙ l .inv .2 ∙ ap (λ (k : ℕ). words 8 k s) e
+    let s = c .before .before .before .before .args in
+    filled (λ n. words 8 n (now (s .s))) (l .out) (now (s .out)) (l .i) (l .inv .0) (l .inv .1) (omega arith) (l .inv .2)
 
 pub read-words-spec : {M : Type 1} → statement M
 read-words-spec =
