@@ -1,105 +1,219 @@
-/* Two buses and a line: bus 1 is taken out by a Kron reducer and by a Ward study, and each refuses a wrong call.
+/* The two-bus book through the C entries: all twelve cases. Standard input says what should be seen, as tests/book-words prints it from the
+ * proved table: a line for each case, of hexadecimal words. What is seen is compared word by word and printed beside it.
  *
- *     cc -Iinclude tests/two_bus.c target/staticlib/libentries.a -o two_bus
+ *     tests/book-words | target/tests/two_bus
  */
 #include "jeturipe.h"
+#include "words_seen.h"
 
-#include <stdio.h>
-#include <stdlib.h>
-#include <string.h>
-
-/* An array as a slice: its pointer and the count of its elements. */
 #define SLICE(a) (a), sizeof(a) / sizeof((a)[0])
 
-/* Admittances in per unit, real then imaginary, row after row: 1, -1 / -1, 2. */
 static const double M[8] = {1, 0, -1, 0, -1, 0, 2, 0};
+static const double FLAT[8] = {1, 0, -1, 0, -1, 0, 0, 0};
+static const double DIAGONAL[8] = {2, 0, 0, 0, 0, 0, 4, 0};
+static const double LOSSY[8] = {3, -4, -3, 4, -3, 4, 6, -8};
+static const double SYSTEM[8] = {1, 0, 1, 0, -1, 0, 1, 0};
 
-static const char *meaning(uint32_t refusal) {
-    switch (refusal) {
-    case JETURIPE_TOO_MANY: return "more than 64 buses, branches or elements of a list";
-    case JETURIPE_WRONG_LENGTH: return "a slice is not of its exact length";
-    case JETURIPE_LISTS_DIFFER: return "lists that belong together differ in length";
-    case JETURIPE_NO_BUS: return "an REI equivalent of no bus";
-    case JETURIPE_EMPTY_SYSTEM: return "a system of size 0, or a right side of another length";
-    case JETURIPE_NO_SUCH_END: return "a branch ends at a bus that is not there (buses count from 0)";
-    case JETURIPE_NO_SUCH_BUS: return "a Ward list names a bus that the matrix lacks (buses count from 0)";
-    case JETURIPE_BUS_TWICE: return "a bus stands twice in the Ward lists";
-    case JETURIPE_BAD_RECORD: return "the record is none that a making or a removal leaves";
-    case JETURIPE_NOT_ACTIVE: return "the reducer has no such bus, or it was removed";
-    case JETURIPE_SMALL_ENTRY: return "the bus's own admittance is too small to divide by";
-    case JETURIPE_SINGULAR: return "the system is singular or nearly so";
-    default: return "not a refusal of this library";
-    }
+/* The size at making, the present size, and the 64 places of the active buses. */
+static void put_record(const uint8_t *rec) {
+    size_t words[2 + JETURIPE_LIMIT];
+    memset(words, 0x5c, sizeof words);
+    if (jeturipe_words_of_bytes(rec, JETURIPE_RECORD, SLICE(words)) == JETURIPE_DONE)
+        for (size_t i = 0; i < 2 + JETURIPE_LIMIT; i++)
+            put(words[i]);
 }
 
-static void print_refusal(uint32_t number) {
-    printf("  refused with %u: %s\n", (unsigned)number, meaning(number));
+/* ---- cases 1 to 4: complex numbers; these calls cannot be refused */
+
+static void product(void) {
+    double z[2];
+    set(SLICE(z));
+    jeturipe_cmul(1, 2, 3, 4, &z[0], &z[1]);
+    put(JETURIPE_DONE);
+    put_numbers(SLICE(z));
 }
 
-/* Ends the program where a call was refused. */
-static void carried_out(uint32_t answer) {
-    if (answer != JETURIPE_DONE) {
-        print_refusal(answer);
-        exit(EXIT_FAILURE);
-    }
+static void inverse(double re, double im) {
+    double z[2];
+    set(SLICE(z));
+    jeturipe_complex_inv(re, im, &z[0], &z[1]);
+    put(JETURIPE_DONE);
+    put_numbers(SLICE(z));
 }
 
-/* Ends the program where a call was not refused. */
-static void refused(uint32_t answer) {
-    if (answer == JETURIPE_DONE) {
-        fprintf(stderr, "a call was carried out that should be refused\n");
-        exit(EXIT_FAILURE);
-    }
-    print_refusal(answer);
-}
+static void inverse_of_2j(void) { inverse(0, 2); }
+static void inverse_of_small(void) { inverse(0x1p-498, 0); }
+static void inverse_of_too_small(void) { inverse(0x1p-499, 0); }
 
-static void remove_bus_1(void) {
-    double y[8];
-    uint8_t rec[JETURIPE_RECORD];
-    size_t buses[2], count;
-    memcpy(y, M, sizeof y);
-    carried_out(jeturipe_kron_new(2, SLICE(y), SLICE(rec)));
-    printf("Bus 1 is removed:\n");
-    carried_out(jeturipe_eliminate_bus(SLICE(rec), SLICE(y), 1));
-    carried_out(jeturipe_active_buses(SLICE(rec), SLICE(buses), &count));
-    for (size_t row = 0; row < count; row++) {
-        const double *own = &y[2 * (row * count + row)];
-        printf("  bus %zu is left, its admittance is %g + j%g per unit\n", buses[row], own[0], own[1]);
-    }
-    printf("Bus 1 is removed again:\n");
-    refused(jeturipe_eliminate_bus(SLICE(rec), SLICE(y), 1));
-}
+/* ---- cases 5 to 8: the reducer */
 
 typedef struct {
-    double y[2];                 /* per unit */
-    double p[1], q[1];           /* MW and MVAr fed in at the boundary bus */
-    size_t original, equivalent; /* buses */
-    double ratio;
-} Equivalent;
+    double y[8];
+    uint8_t rec[JETURIPE_RECORD];
+} Reducer;
 
-static uint32_t ward(size_t boundary, size_t external, Equivalent *e) {
-    const double p_ext[1] = {50}, q_ext[1] = {0}; /* MW, MVAr */
-    double work[6];                               /* 2 e (e + r + 1), with e = 1 external and r = 1 retained bus */
-    return jeturipe_ward_compute(
-        2, SLICE(M),
-        &boundary, 0, /* no internal bus; the pointer is not null all the same */
-        &external, 1,
-        &boundary, 1,
-        100, /* MVA */
-        SLICE(p_ext), SLICE(q_ext),
-        SLICE(e->y), SLICE(e->p), SLICE(e->q), SLICE(work),
-        &e->original, &e->equivalent, &e->ratio);
+/* Where a making is refused its record is none, and no call on it is carried out. */
+static Reducer made(const double y[8]) {
+    Reducer r;
+    memcpy(r.y, y, sizeof r.y);
+    memset(r.rec, 0x5c, sizeof r.rec);
+    jeturipe_kron_new(2, SLICE(r.y), SLICE(r.rec));
+    return r;
+}
+
+static void put_reducer(const Reducer *r) {
+    put_record(r->rec);
+    put_numbers(SLICE(r->y));
+}
+
+static void removal(const double y[8]) {
+    Reducer r = made(y);
+    put(jeturipe_eliminate_bus(SLICE(r.rec), SLICE(r.y), 1));
+    put_reducer(&r);
+}
+
+static void removal_from_m(void) { removal(M); }
+static void removal_from_flat(void) { removal(FLAT); }
+
+static void removals(void) {
+    static const size_t buses[2] = {1, 1};
+    Reducer r = made(M);
+    size_t removed = (size_t)before;
+    put(jeturipe_eliminate_buses(SLICE(r.rec), SLICE(r.y), SLICE(buses), &removed));
+    put(removed);
+    put_reducer(&r);
+}
+
+static void impedance(size_t i, size_t j) {
+    Reducer r = made(DIAGONAL);
+    double z[2], work[16];
+    set(SLICE(z));
+    set(SLICE(work));
+    put(jeturipe_thevenin_impedance(SLICE(r.rec), SLICE(r.y), i, j, SLICE(work), &z[0], &z[1]));
+    put_numbers(SLICE(z));
+    put_numbers(SLICE(work));
+}
+
+static void impedances(void) {
+    impedance(0, 1);
+    impedance(0, 0);
+}
+
+/* ---- cases 9 to 11: Ward's study with boundary bus 0 and base 100, bus 1 external or left out */
+
+typedef struct {
+    size_t original, equivalent;
+    double ratio, y[2], p[1], q[1], correction[1], compensation[1], work[6];
+} Study;
+
+static const size_t boundary[1] = {0}, external[1] = {1};
+
+static Study fresh(void) {
+    Study s;
+    s.original = s.equivalent = (size_t)before;
+    s.ratio = before;
+    set(SLICE(s.y));
+    set(SLICE(s.p));
+    set(SLICE(s.q));
+    set(SLICE(s.correction));
+    set(SLICE(s.compensation));
+    set(SLICE(s.work));
+    return s;
+}
+
+static void put_study(const Study *s) {
+    put(s->original);
+    put(s->equivalent);
+    put_numbers(&s->ratio, 1);
+    put_numbers(SLICE(s->y));
+    put_numbers(SLICE(s->p));
+    put_numbers(SLICE(s->q));
+}
+
+static void study(size_t e, size_t work_len) {
+    static const double p[1] = {50}, q[1] = {0};
+    Study s = fresh();
+    put(jeturipe_ward_compute(2, SLICE(M), external, 0, external, e, SLICE(boundary), 100, p, e, q, e, SLICE(s.y), SLICE(s.p), SLICE(s.q),
+                              s.work, work_len, &s.original, &s.equivalent, &s.ratio));
+    put_study(&s);
+    put_numbers(s.work, work_len);
+}
+
+static void study_of_bus_1(void) { study(1, 6); }
+static void study_of_no_bus(void) { study(0, 0); }
+
+static void extended(void) {
+    static const double none[1] = {0}, v[1] = {1.25};
+    Study s = fresh();
+    put(jeturipe_ward_compute_extended(2, SLICE(LOSSY), external, 0, SLICE(external), SLICE(boundary), 100, SLICE(none), SLICE(none), SLICE(v),
+                                       SLICE(s.y), SLICE(s.p), SLICE(s.q), SLICE(s.correction), SLICE(s.compensation), SLICE(s.work),
+                                       &s.original, &s.equivalent, &s.ratio));
+    put_study(&s);
+    put_numbers(SLICE(s.correction));
+    put_numbers(SLICE(s.compensation));
+    put_numbers(SLICE(s.work));
+}
+
+/* ---- case 12: a system solved */
+
+static void solution(void) {
+    static const double b[4] = {2, 0, 0, 0};
+    double x[4], work[12];
+    set(SLICE(x));
+    set(SLICE(work));
+    put(jeturipe_solve_linear(2, SLICE(SYSTEM), SLICE(b), SLICE(x), SLICE(work)));
+    put_numbers(SLICE(x));
+    put_numbers(SLICE(work));
+}
+
+/* ---- compared */
+
+static const struct {
+    const char *name;
+    void (*run)(void);
+} CASES[] = {
+    {"(1, 2) (3, 4)", product},
+    {"inverse of (0, 2)", inverse_of_2j},
+    {"inverse of 2^-498", inverse_of_small},
+    {"inverse of 2^-499", inverse_of_too_small},
+    {"M without bus 1", removal_from_m},
+    {"1, -1 / -1, 0 without bus 1", removal_from_flat},
+    {"M without buses 1, 1", removals},
+    {"2, 0 / 0, 4 between 0 and 1, 0 and 0", impedances},
+    {"M, boundary 0, external 1, P 50", study_of_bus_1},
+    {"M, boundary 0, no external bus", study_of_no_bus},
+    {"extended, boundary 0, external 1, voltage 1.25", extended},
+    {"1, 1 / -1, 1 with 2, 0", solution},
+};
+
+enum { COUNT = sizeof CASES / sizeof CASES[0] };
+
+static int agrees(size_t i, const Words *words, double held) {
+    before = held;
+    seen.count = 0;
+    CASES[i].run();
+    return same(&seen, words);
+}
+
+/* With ones before the call, as the table has it, and with sevens, which no case leaves. */
+static int agrees_and_says_so(size_t i, const Words *words) {
+    int ok = agrees(i, words, 1) && agrees(i, words, 7);
+    printf("%zu. %s:", i + 1, CASES[i].name);
+    print_words(&seen);
+    printf("; expected");
+    print_words(words);
+    printf("; %s\n", ok ? "ok" : "WRONG");
+    return ok;
 }
 
 int main(void) {
-    Equivalent e;
-    remove_bus_1();
-    printf("Ward study, boundary bus 0, external bus 1 with 50 MW and 0 MVAr, base 100 MVA:\n");
-    carried_out(ward(0, 1, &e));
-    printf("  admittance of bus 0: %g + j%g per unit\n", e.y[0], e.y[1]);
-    printf("  fed in at bus 0: %g MW and %g MVAr\n", e.p[0], e.q[0]);
-    printf("  %zu buses become %zu, reduction ratio %g\n", e.original, e.equivalent, e.ratio);
-    printf("The same study, its buses numbered from 1, boundary bus 1, external bus 2:\n");
-    refused(ward(1, 2, &e));
-    return EXIT_SUCCESS;
+    size_t agreeing = 0;
+    for (size_t i = 0; i < COUNT; i++) {
+        Words words = expected();
+        agreeing += (size_t)agrees_and_says_so(i, &words);
+    }
+    if (getchar() != EOF)
+        no_table("there are more lines than cases");
+    printf("%zu of %d cases agree\n", agreeing, COUNT);
+    return agreeing != COUNT;
 }

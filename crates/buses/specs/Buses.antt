@@ -8,9 +8,10 @@ abbrev pub mem : ℕ → List ℕ → Bool
 mem k [] = false
 mem k (x ∷ xs) = eqb k x || mem k xs
 
-infix 40 _∈_
-abbrev pub _∈_ : ℕ → List ℕ → Type 0
-k ∈ xs = T (mem k xs)
+-- bus k is one of xs
+infix 40 _isOneOf_
+abbrev pub _isOneOf_ : ℕ → List ℕ → Type 0
+k isOneOf xs = T (mem k xs)
 
 -- xs without those in ks, in the old order
 unfoldable pub others : List ℕ → List ℕ → List ℕ

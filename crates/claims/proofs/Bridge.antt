@@ -159,43 +159,43 @@ module _ (M : Making) (calls : List Call) (made : Made M) where
   abbrev slice : List Float
   slice = left M calls .slice
 
-  abbrev now : State
-  now = stateOf (account M calls)
+  abbrev present : State
+  present = stateOf (account M calls)
 
   -- what holds of the account's record and layout holds of what is left
-  by-layout : (P : Held → Type 0) → P (laid (M .size) now) → P (left M calls)
+  by-layout : (P : Held → Type 0) → P (laid (M .size) present) → P (left M calls)
   by-layout P = subst P (sym (left-is M calls made))
 
-  regular-now : Regular (M .size) now
-  regular-now = subst (λ (n : ℕ). Regular n now) (account-size (fresh M) calls ∙ unfold fresh in refl) (regular-state (account M calls))
+  regular-present : Regular (M .size) present
+  regular-present = subst (λ (n : ℕ). Regular n present) (account-size (fresh M) calls ∙ unfold fresh in refl) (regular-state (account M calls))
 
   -- the input refusals of record and slice, 1, 2 and 9, never come: a list within the limit is not refused from the input
   pub no-input-refusal : (l : ℕ) → l ≤ limit → inputRefusal rec slice l ≡ 0
-  no-input-refusal l h = by-layout (λ (g : Held). inputRefusal (g .rec) (g .slice) l ≡ 0) (input-laid (M .size) now (made-small M made) regular-now l h)
+  no-input-refusal l h = by-layout (λ (g : Held). inputRefusal (g .rec) (g .slice) l ≡ 0) (input-laid (M .size) present (made-small M made) regular-present l h)
 
   -- so a call answers what the account's state tells
-  pub refusal-is : (ks : List ℕ) → length ks ≤ limit → refusalOf rec slice ks ≡ stop now ks
-  refusal-is ks h = by-layout (λ (g : Held). refusalOf (g .rec) (g .slice) ks ≡ stop now ks) (refusal-laid (M .size) now (made-small M made) regular-now ks h)
+  pub refusal-is : (ks : List ℕ) → length ks ≤ limit → refusalOf rec slice ks ≡ stop present ks
+  refusal-is ks h = by-layout (λ (g : Held). refusalOf (g .rec) (g .slice) ks ≡ stop present ks) (refusal-laid (M .size) present (made-small M made) regular-present ks h)
 
   -- and it removes the buses that the account says
   pub removed-is : (ks : List ℕ) → removable rec slice ks ≡ removes (account M calls) (buses ks)
   unfolding removes
   removed-is ks = go (leb (length ks) limit) (leb→le (length ks) limit) (nleb→lt (length ks) limit)
     where
-      go : (b : Bool) → (T b → length ks ≤ limit) → (T (not b) → limit < length ks) → removable rec slice ks ≡ cond b (taken now ks) []
-      go true f g = by-layout (λ (g : Held). removable (g .rec) (g .slice) ks ≡ taken now ks) (removable-laid (M .size) now (made-small M made) regular-now ks (f tt))
+      go : (b : Bool) → (T b → length ks ≤ limit) → (T (not b) → limit < length ks) → removable rec slice ks ≡ cond b (taken present ks) []
+      go true f g = by-layout (λ (g : Held). removable (g .rec) (g .slice) ks ≡ taken present ks) (removable-laid (M .size) present (made-small M made) regular-present ks (f tt))
       go false f g = removable-long rec slice ks (g tt)
 
   -- the answers of the two calls, by the account
-  pub answer-bus : (k : ℕ) → afterBus rec slice k .out .answer ≡ outcome (refusal now k)
+  pub answer-bus : (k : ℕ) → afterBus rec slice k .out .answer ≡ outcome (refusal present k)
   unfolding afterBus
-  answer-bus k = ap outcome (refusal-is (k ∷ []) (lit≤ tt) ∙ stop-one now k)
+  answer-bus k = ap outcome (refusal-is (k ∷ []) (lit≤ tt) ∙ stop-one present k)
 
-  pub answer-buses : (ks : List ℕ) → afterBuses rec slice ks .out .removals .answer ≡ outcome (cond (leb (length ks) limit) (stop now ks) tooMany)
+  pub answer-buses : (ks : List ℕ) → afterBuses rec slice ks .out .removals .answer ≡ outcome (cond (leb (length ks) limit) (stop present ks) tooMany)
   unfolding afterBuses refusalOf
   answer-buses ks = ap outcome (go (leb (length ks) limit) (leb→le (length ks) limit) (nleb→lt (length ks) limit))
     where
-      go : (b : Bool) → (T b → length ks ≤ limit) → (T (not b) → limit < length ks) → refusalOf rec slice ks ≡ cond b (stop now ks) tooMany
+      go : (b : Bool) → (T b → length ks ≤ limit) → (T (not b) → limit < length ks) → refusalOf rec slice ks ≡ cond b (stop present ks) tooMany
       go true f g = refusal-is ks (f tt)
       go false f g = rw (input-long rec slice (length ks) (g tt))
 

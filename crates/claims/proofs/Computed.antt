@@ -17,7 +17,7 @@ use Rattle.complex.proofs.Finite.{all-left, all-right, all-at}
 use Rattle.complex.proofs.SameValue.{Finite}
 use Rattle.complex.proofs.Squares.{sqmag-below}
 use Rattle.refusals.specs.Refusals.{notActive, smallEntry}
-use Rattle.buses.specs.Buses.{mem, _∈_}
+use Rattle.buses.specs.Buses.{mem, _isOneOf_}
 use Rattle.kron_rows.specs.Kron.{kron, State, remove, tooSmall, refusal, ofEntry, ofRow, ofRows, ofRemovals}
 use Rattle.buses.proofs.Buses.{in-cases}
 
@@ -34,7 +34,7 @@ of-entry k Y i j h = record {
   entry = (all-at (ofEntry k Y i j) 17 (lit< tt) h, all-at (ofEntry k Y i j) 18 (lit< tt) h);
 }
 
-of-row : (k : ℕ) (Y : Matrix) (i : ℕ) (js : List ℕ) → T (allFinite (ofRow k Y i js)) → (j : ℕ) → j ∈ js → FiniteEntry k Y i j
+of-row : (k : ℕ) (Y : Matrix) (i : ℕ) (js : List ℕ) → T (allFinite (ofRow k Y i js)) → (j : ℕ) → j isOneOf js → FiniteEntry k Y i j
 unfolding ofRow
 of-row k Y i [] h j m = absurd m
 of-row k Y i (x ∷ js) h j m = elim (in-cases j x js m) [
@@ -42,7 +42,7 @@ of-row k Y i (x ∷ js) h j m = elim (in-cases j x js m) [
   | inr t ↦ of-row k Y i js (all-right (ofEntry k Y i x) (ofRow k Y i js) h) j t
 ]
 
-of-rows : (k : ℕ) (Y : Matrix) (is js : List ℕ) → T (allFinite (ofRows k Y is js)) → (i j : ℕ) → i ∈ is → j ∈ js → FiniteEntry k Y i j
+of-rows : (k : ℕ) (Y : Matrix) (is js : List ℕ) → T (allFinite (ofRows k Y is js)) → (i j : ℕ) → i isOneOf is → j isOneOf js → FiniteEntry k Y i j
 unfolding ofRows
 of-rows k Y [] js h i j m l = absurd m
 of-rows k Y (x ∷ is) js h i j m l = elim (in-cases i x is m) [
@@ -52,7 +52,7 @@ of-rows k Y (x ∷ is) js h i j m l = elim (in-cases i x is m) [
 
 pub record FiniteRemoval (s : State) (k : ℕ) : Type 0 where
   pub divisor : T (finite (sqmag (s .entries k k)))
-  pub pairs : (i j : ℕ) → i ∈ remove s k .active → j ∈ remove s k .active → FiniteEntry k (s .entries) i j
+  pub pairs : (i j : ℕ) → i isOneOf remove s k .active → j isOneOf remove s k .active → FiniteEntry k (s .entries) i j
 
 abbrev pub FiniteRemovals : State → List ℕ → Type 0
 FiniteRemovals s [] = Unit {0}

@@ -15,7 +15,7 @@ use Rattle.complex.specs.Values.{_≈_, allFinite, F64s}
 use Rattle.complex.proofs.Matrices.{entry-within}
 use Rattle.complex.proofs.Finite.{all-at}
 use Rattle.complex.proofs.SameValue.{Number}
-use Rattle.buses.specs.Buses.{_∈_, others}
+use Rattle.buses.specs.Buses.{_isOneOf_, others}
 use Rattle.kron_rows.specs.Kron.{start}
 use Rattle.kron_core.specs.Reducer.{Making, Made}
 use Rattle.buses.proofs.Buses.{getD-in}
@@ -47,7 +47,7 @@ given-finite M calls h = search h
 computed-finite : (M : Making) (calls : List Call) → Finite M calls → T (allFinite (ofAccount (account M calls)))
 computed-finite M calls h = search h
 
-group-removed : (a a' : Account) (G : List ℕ) → Alike a a' G → (k : ℕ) → k ∈ G → k ∈ a .removed
+group-removed : (a a' : Account) (G : List ℕ) → Alike a a' G → (k : ℕ) → k isOneOf G → k isOneOf a .removed
 group-removed a a' G h = search h
 
 same-outside : (a a' : Account) (G : List ℕ) → Alike a a' G → SameOutside (a .size) (a .old) (a' .old) G
@@ -63,8 +63,8 @@ carried M calls f h = record {
 }
 
 -- the kept bus of row p is active at the end
-active-at : (n : ℕ) (Y : Matrix) (R : List ℕ) (p : ℕ) → p < length (others R (upTo n)) → getD (others R (upTo n)) p 0 ∈ after-all n Y R .active
-active-at n Y R p x = subst (λ (l : List ℕ). getD (others R (upTo n)) p 0 ∈ l) (sym (eliminate-active (start n Y) R)) (getD-in (others R (upTo n)) p x)
+active-at : (n : ℕ) (Y : Matrix) (R : List ℕ) (p : ℕ) → p < length (others R (upTo n)) → getD (others R (upTo n)) p 0 isOneOf after-all n Y R .active
+active-at n Y R p x = subst (λ (l : List ℕ). getD (others R (upTo n)) p 0 isOneOf l) (sym (eliminate-active (start n Y) R)) (getD-in (others R (upTo n)) p x)
 
 -- ---- one list of calls
 

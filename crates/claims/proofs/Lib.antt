@@ -8,4 +8,5 @@ pub mod Bridge
 pub mod Demand3
 pub mod BitPatterns
 pub mod Witnesses
+mod ColumnWitness
 mod WardWitness

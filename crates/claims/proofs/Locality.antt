@@ -9,7 +9,7 @@ use Rattle.complex.specs.declared.Complex.{Complex}
 use Rattle.complex.specs.Matrices.{Matrix, upTo}
 use Rattle.complex.specs.Values.{_≈_, NonZero, allFinite}
 use Rattle.complex.proofs.SameValue.{Number, _≋_, ≋-refl, ≋-sym, ≋-trans, ≋→≈, ≈→≋, Null, nulls, decide, nonzero-of}
-use Rattle.buses.specs.Buses.{_∈_, others}
+use Rattle.buses.specs.Buses.{_isOneOf_, others}
 use Rattle.kron_rows.specs.Kron.{kron, State, start, remove, tooSmall, accepts, eliminate, ofRemovals}
 use Rattle.buses.proofs.Buses.{in-head, in-tail, in-cases, in-or-out, stays, below-upTo}
 use Rattle.kron_rows.proofs.States.{accepted-active, accepted-big, Accepted, eliminate-active}
@@ -21,14 +21,14 @@ use Rattle.claims.proofs.Computed.{FiniteRemoval, FiniteRemovals, of-re
 -- ---- the buses
 
 -- what is active at the end was active before, and was not removed
-survives : (s : State) (ks : List ℕ) (a : ℕ) → a ∈ eliminate s ks .active → (a ∈ s .active) × (a ∈ ks → ⊥)
-survives s ks a h = stays a ks (s .active) (subst (λ (l : List ℕ). a ∈ l) (eliminate-active s ks) h)
+survives : (s : State) (ks : List ℕ) (a : ℕ) → a isOneOf eliminate s ks .active → (a isOneOf s .active) × (a isOneOf ks → ⊥)
+survives s ks a h = stays a ks (s .active) (subst (λ (l : List ℕ). a isOneOf l) (eliminate-active s ks) h)
 
 -- what is removed was active
-was-active : (s : State) (ks : List ℕ) (a : ℕ) → Accepted s ks → a ∈ ks → a ∈ s .active
+was-active : (s : State) (ks : List ℕ) (a : ℕ) → Accepted s ks → a isOneOf ks → a isOneOf s .active
 was-active s [] a h t = absurd t
 was-active s (k ∷ ks) a h t = elim (in-cases a k ks t) [
-  | inl p ↦ subst (λ (z : ℕ). z ∈ s .active) (sym p) (accepted-active s k (h .0))
+  | inl p ↦ subst (λ (z : ℕ). z isOneOf s .active) (sym p) (accepted-active s k (h .0))
   | inr u ↦ stays a (k ∷ []) (s .active) (was-active (remove s k) ks a (h .1) u) .0
 ]
 
@@ -36,9 +36,9 @@ was-active s (k ∷ ks) a h t = elim (in-cases a k ks t) [
 
 -- every entry between active buses is a finite number of binary64
 abbrev Good : State → Type 0
-Good s = (i j : ℕ) → i ∈ s .active → j ∈ s .active → Number (s .entries i j)
+Good s = (i j : ℕ) → i isOneOf s .active → j isOneOf s .active → Number (s .entries i j)
 
-ready : (s : State) (k : ℕ) → Good s → T (accepts s k) → FiniteRemoval s k → (i j : ℕ) → i ∈ remove s k .active → j ∈ remove s k .active → Ready k (s .entries) i j
+ready : (s : State) (k : ℕ) → Good s → T (accepts s k) → FiniteRemoval s k → (i j : ℕ) → i isOneOf remove s k .active → j isOneOf remove s k .active → Ready k (s .entries) i j
 unfolding tooSmall
 ready s k good ok finite i j x y =
     let x' = stays i (k ∷ []) (s .active) x .0 in
@@ -68,10 +68,10 @@ factors a b = go (decide a) (decide b)
 
 module _ (Y : Matrix) (R : List ℕ) where
   abbrev Through : ℕ → ℕ → Type 0
-  Through i j = (k : ℕ) × Walk (Linked Y) R k i × (k ∈ R) × Walk (Linked Y) R j k
+  Through i j = (k : ℕ) × Walk (Linked Y) R k i × (k isOneOf R) × Walk (Linked Y) R j k
 
   abbrev Old : State → Type 0
-  Old s = (i j : ℕ) → i ∈ s .active → j ∈ s .active → (s .entries i j ≋ Y i j) ⊎ Through i j
+  Old s = (i j : ℕ) → i isOneOf s .active → j isOneOf s .active → (s .entries i j ≋ Y i j) ⊎ Through i j
 
   -- a state on the way, with the buses ks still to be removed
   record Run (s : State) (ks : List ℕ) : Type 0 where
@@ -79,13 +79,13 @@ module _ (Y : Matrix) (R : List ℕ) where
     old : Old s
     ok : Accepted s ks
     finite : FiniteRemovals s ks
-    listed : (k : ℕ) → k ∈ ks → k ∈ R
+    listed : (k : ℕ) → k isOneOf ks → k isOneOf R
 
   walk-of : {c : Complex} {i j : ℕ} → (c ≋ Y i j) ⊎ Through i j → NonZero c → Walk (Linked Y) R j i
   walk-of (inl p) n = last (nonzero-of (≋-sym p) n)
   walk-of (inr (k, v, m, w)) n = join v m w
 
-  first : {s : State} {k : ℕ} {ks : List ℕ} → Run s (k ∷ ks) → k ∈ R
+  first : {s : State} {k : ℕ} {ks : List ℕ} → Run s (k ∷ ks) → k isOneOf R
   first {k} {ks} run = run .listed k (in-head k ks)
 
   old-step : {s : State} {k : ℕ} {ks : List ℕ} → Run s (k ∷ ks) → Old (remove s k)
@@ -105,7 +105,7 @@ module _ (Y : Matrix) (R : List ℕ) where
     old = old-step run;
     ok = run .ok .1;
     finite = run .finite .1;
-    listed = λ (x : ℕ) (h : x ∈ ks). run .listed x (in-tail x k ks h);
+    listed = λ (x : ℕ) (h : x isOneOf ks). run .listed x (in-tail x k ks h);
   }
 
   end : (s : State) (ks : List ℕ) → Run s ks → Run (eliminate s ks) []
@@ -120,16 +120,16 @@ module _ (Y Y' : Matrix) (R G : List ℕ) where
   LinkedIn = Either (Linked Y) (Linked Y')
 
   abbrev Before : ℕ → Type 0
-  Before i = (i ∈ G) ⊎ IntoBy LinkedIn R G i
+  Before i = (i isOneOf G) ⊎ IntoBy LinkedIn R G i
 
   abbrev After : ℕ → Type 0
-  After j = (j ∈ G) ⊎ OutBy LinkedIn R G j
+  After j = (j isOneOf G) ⊎ OutBy LinkedIn R G j
 
-  before : {i k : ℕ} → Walk LinkedIn R k i → k ∈ R → Before k → Before i
+  before : {i k : ℕ} → Walk LinkedIn R k i → k isOneOf R → Before k → Before i
   before {k} w m (inl h) = inr (k, h, w)
   before w m (inr (g, h, v)) = inr (g, h, join w m v)
 
-  after : {k j : ℕ} → Walk LinkedIn R j k → k ∈ R → After k → After j
+  after : {k j : ℕ} → Walk LinkedIn R j k → k isOneOf R → After k → After j
   after {k} w m (inl h) = inr (k, h, w)
   after w m (inr (g, h, v)) = inr (g, h, join v m w)
 
@@ -137,7 +137,7 @@ module _ (Y Y' : Matrix) (R G : List ℕ) where
   Same M M' i j = (M i j ≋ M' i j) ⊎ (Before i × After j)
 
   -- where k has a walk from i and a walk to j
-  same-linked : (k : ℕ) (M M' : Matrix) (i j : ℕ) → k ∈ R → Ready k M i j → Ready k M' i j → Walk LinkedIn R k i → Walk LinkedIn R j k
+  same-linked : (k : ℕ) (M M' : Matrix) (i j : ℕ) → k isOneOf R → Ready k M i j → Ready k M' i j → Walk LinkedIn R k i → Walk LinkedIn R j k
       → M i j ≋ M' i j → Same M M' i k → Same M M' k j → Same M M' k k → Same (kron k M) (kron k M') i j
   same-linked k M M' i j m r r' v w p (inr (x, y)) b c = inr (x, after w m y)
   same-linked k M M' i j m r r' v w p (inl a) (inr (x, y)) c = inr (before v m x, y)
@@ -148,19 +148,19 @@ module _ (Y Y' : Matrix) (R G : List ℕ) where
   at act M = record { active = act; entries = M }
 
   abbrev AllSame : List ℕ → Matrix → Matrix → Type 0
-  AllSame act M M' = (i j : ℕ) → i ∈ act → j ∈ act → Same M M' i j
+  AllSame act M M' = (i j : ℕ) → i isOneOf act → j isOneOf act → Same M M' i j
 
   same-step : {act : List ℕ} {M M' : Matrix} {k : ℕ} {ks : List ℕ} → Run Y R (at act M) (k ∷ ks) → Run Y' R (at act M') (k ∷ ks) → AllSame act M M'
       → AllSame (others (k ∷ []) act) (kron k M) (kron k M')
   same-step {act} {M} {M'} {k} run run' same i j x y = go (factors (M i k) (M k j)) (factors (M' i k) (M' k j)) (same i j x' y')
     where
-      x' : i ∈ act
+      x' : i isOneOf act
       x' = stays i (k ∷ []) act x .0
 
-      y' : j ∈ act
+      y' : j isOneOf act
       y' = stays j (k ∷ []) act y .0
 
-      z : k ∈ act
+      z : k isOneOf act
       z = accepted-active (at act M) k (run .ok .0)
 
       r : Ready k M i j
@@ -202,11 +202,11 @@ begin n Y R h = record {
   old = λ (i j : ℕ). λ x y. inl ≋-refl;
   ok = h .accepted;
   finite = of-removals (start n Y) R (h .computed);
-  listed = λ (k : ℕ) (m : k ∈ R). m;
+  listed = λ (k : ℕ) (m : k isOneOf R). m;
 }
 
 -- (1) an entry between kept buses has its old value, or there is a chain
-pub old-or-chain : (n : ℕ) (Y : Matrix) (R : List ℕ) → Carried n Y R → (a b : ℕ) → a ∈ after-all n Y R .active → b ∈ after-all n Y R .active
+pub old-or-chain : (n : ℕ) (Y : Matrix) (R : List ℕ) → Carried n Y R → (a b : ℕ) → a isOneOf after-all n Y R .active → b isOneOf after-all n Y R .active
     → (after-all n Y R .entries a b ≈ Y a b) ⊎ Chain Y R a b
 old-or-chain n Y R h a b x y =
     let done = end Y R (start n Y) R (begin n Y R h) in
@@ -214,7 +214,7 @@ old-or-chain n Y R h a b x y =
 
 module _ (n : ℕ) (Y Y' : Matrix) (G : List ℕ)
     (number : (i j : ℕ) → i < n → j < n → Number (Y i j)) (number' : (i j : ℕ) → i < n → j < n → Number (Y' i j)) (outside : SameOutside n Y Y' G) where
-  same-outside : (i j : ℕ) → i < n → j < n → (i ∈ G → ⊥) → (j ∈ G → ⊥) → Y i j ≋ Y' i j
+  same-outside : (i j : ℕ) → i < n → j < n → (i isOneOf G → ⊥) → (j isOneOf G → ⊥) → Y i j ≋ Y' i j
   same-outside i j x y o o' = ≈→≋ (number i j x y) (number' i j x y) (outside i j x y (search o) (search o'))
 
   alike : SameLinks (λ (i : ℕ). i < n) G (Linked Y) (Linked Y')
@@ -229,26 +229,26 @@ module _ (n : ℕ) (Y Y' : Matrix) (G : List ℕ)
         | inl z ↦ elim (decide (Y' i j)) [ inr l ↦ inr (f' l) | inl z' ↦ inl (nulls z z') ]
       ]
 
-      go : (i ∈ G) ⊎ (i ∈ G → ⊥) → (j ∈ G) ⊎ (j ∈ G → ⊥) → Same Y Y' R G Y Y' i j
+      go : (i isOneOf G) ⊎ (i isOneOf G → ⊥) → (j isOneOf G) ⊎ (j isOneOf G → ⊥) → Same Y Y' R G Y Y' i j
       go (inl g) t = touch (λ (l : Linked Y i j). (inl g, inr (i, g, last (inl l)))) (λ (l : Linked Y' i j). (inl g, inr (i, g, last (inr l))))
       go (inr o) (inl g) = touch (λ (l : Linked Y i j). (inr (j, g, last (inl l)), inl g)) (λ (l : Linked Y' i j). (inr (j, g, last (inr l)), inl g))
       go (inr o) (inr o') = inl (same-outside i j (below-upTo n i x) (below-upTo n j y) o o')
 
 -- (2) in two matrices that differ only at a group of removed buses, an entry between kept buses has one value,
 -- or in one of them its row bus has a chain into the group, and in one of them its column bus has one out of it
-pub same-or-chains : (n : ℕ) (Y Y' : Matrix) (R G : List ℕ) → Carried n Y R → Carried n Y' R → ((k : ℕ) → k ∈ G → k ∈ R) → SameOutside n Y Y' G
-    → (a b : ℕ) → a ∈ after-all n Y R .active → b ∈ after-all n Y R .active
+pub same-or-chains : (n : ℕ) (Y Y' : Matrix) (R G : List ℕ) → Carried n Y R → Carried n Y' R → ((k : ℕ) → k isOneOf G → k isOneOf R) → SameOutside n Y Y' G
+    → (a b : ℕ) → a isOneOf after-all n Y R .active → b isOneOf after-all n Y R .active
     → (after-all n Y R .entries a b ≈ after-all n Y' R .entries a b) ⊎ ((Into Y R G a ⊎ Into Y' R G a) × (Out Y R G b ⊎ Out Y' R G b))
 same-or-chains n Y Y' R G h h' inside outside a b x y =
     finish (same-end Y Y' R G (upTo n) Y Y' R (begin n Y R h) (begin n Y' R h') (same-begin n Y Y' G (h .given) (h' .given) outside R) a b x y)
   where
-    here : (c : ℕ) → c ∈ after-all n Y R .active → c < n
+    here : (c : ℕ) → c isOneOf after-all n Y R .active → c < n
     here c z = below-upTo n c (survives (start n Y) R c z .0)
 
-    out : (c : ℕ) → c ∈ after-all n Y R .active → c ∈ G → ⊥
+    out : (c : ℕ) → c isOneOf after-all n Y R .active → c isOneOf G → ⊥
     out c z g = survives (start n Y) R c z .1 (inside c g)
 
-    removed-bus : (k : ℕ) → k ∈ R → k < n
+    removed-bus : (k : ℕ) → k isOneOf R → k < n
     removed-bus k m = below-upTo n k (was-active (start n Y) R k (h .accepted) m)
 
     links : SameLinks (λ (i : ℕ). i < n) G (Linked Y) (Linked Y')

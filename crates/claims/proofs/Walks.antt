@@ -4,7 +4,7 @@ use mathlib.Core.Logic.{_⊎_, inl, inr, ⊎-elim}
 use mathlib.Core.List.{List, [], _∷_}
 use Prim.Native.Nat.{ℕ}
 use Rattle.complex.specs.Matrices.{Matrix}
-use Rattle.buses.specs.Buses.{_∈_}
+use Rattle.buses.specs.Buses.{_isOneOf_}
 use Rattle.buses.proofs.Buses.{in-or-out}
 use Rattle.claims.specs.Chains.{Linked, Steps, Within, Chain, Into, Out}
 
@@ -14,9 +14,9 @@ Links = ℕ → ℕ → Type 0
 -- A walk to bus b by one or more links, each from a row bus to a column bus, whose buses on the way are in R. It may meet a bus twice.
 pub data Walk (L : Links) (R : List ℕ) (b : ℕ) : ℕ → Type 0 where
   last : {a : ℕ} → L a b → Walk L R b a
-  via : {a k : ℕ} → L a k → k ∈ R → Walk L R b k → Walk L R b a
+  via : {a k : ℕ} → L a k → k isOneOf R → Walk L R b k → Walk L R b a
 
-pub join : {L : Links} {R : List ℕ} {a k b : ℕ} → Walk L R k a → k ∈ R → Walk L R b k → Walk L R b a
+pub join : {L : Links} {R : List ℕ} {a k b : ℕ} → Walk L R k a → k isOneOf R → Walk L R b k → Walk L R b a
 join (last l) m w = via l m w
 join (via l m' v) m w = via l m' (join v m w)
 
@@ -43,21 +43,21 @@ steps Y {R} {a} {b} (via {k = x} l m w) = more (steps Y w)
     more : Listed Y R x b → Listed Y R a b
     more t = (x ∷ t .0, (m, t .1), (l, t .2))
 
-made : (Y : Matrix) (R : List ℕ) (a b x : ℕ) → Linked Y a x → x ∈ R → Listed Y R x b → Chain Y R a b
+made : (Y : Matrix) (R : List ℕ) (a b x : ℕ) → Linked Y a x → x isOneOf R → Listed Y R x b → Chain Y R a b
 made Y R a b x l m t = (x, t .0, (m, t .1), (l, t .2))
 
 -- through one bus at least
-pub chain : (Y : Matrix) {R : List ℕ} {a k b : ℕ} → Walk (Linked Y) R k a → k ∈ R → Walk (Linked Y) R b k → Chain Y R a b
+pub chain : (Y : Matrix) {R : List ℕ} {a k b : ℕ} → Walk (Linked Y) R k a → k isOneOf R → Walk (Linked Y) R b k → Chain Y R a b
 chain Y {R} {a} {k} {b} (last l) m w = made Y R a b k l m (steps Y w)
 chain Y {R} {a} {k} {b} (via {k = x} l m' v) m w = made Y R a b x l m' (steps Y (join v m w))
 
 -- ---- into a group, and out of it
 
 abbrev pub IntoBy : Links → List ℕ → List ℕ → ℕ → Type 0
-IntoBy L R G a = (g : ℕ) × (g ∈ G) × Walk L R g a
+IntoBy L R G a = (g : ℕ) × (g isOneOf G) × Walk L R g a
 
 abbrev pub OutBy : Links → List ℕ → List ℕ → ℕ → Type 0
-OutBy L R G b = (g : ℕ) × (g ∈ G) × Walk L R b g
+OutBy L R G b = (g : ℕ) × (g isOneOf G) × Walk L R b g
 
 pub into-steps : (Y : Matrix) (R G : List ℕ) (a : ℕ) → IntoBy (Linked Y) R G a → Into Y R G a
 into-steps Y R G a (g, m, w) = let t = steps Y w in (g, t .0, m, t .1, t .2)
@@ -70,11 +70,11 @@ Either L M i j = L i j ⊎ M i j
 
 -- L and M link the same buses outside of G
 abbrev pub SameLinks : (ℕ → Type 0) → List ℕ → Links → Links → Type 0
-SameLinks Bus G L M = (i j : ℕ) → Bus i → Bus j → (i ∈ G → ⊥) → (j ∈ G → ⊥) → (M i j → L i j) × (L i j → M i j)
+SameLinks Bus G L M = (i j : ℕ) → Bus i → Bus j → (i isOneOf G → ⊥) → (j isOneOf G → ⊥) → (M i j → L i j) × (L i j → M i j)
 
 -- a walk by links of either into G, cut at the first bus of G, is a walk by one of them
-module _ (Bus : ℕ → Type 0) (R G : List ℕ) (bus : (k : ℕ) → k ∈ R → Bus k) where
-  pub into-one : (L M : Links) → SameLinks Bus G L M → {a g : ℕ} → Bus a → (a ∈ G → ⊥) → g ∈ G → Walk (Either L M) R g a → IntoBy L R G a ⊎ IntoBy M R G a
+module _ (Bus : ℕ → Type 0) (R G : List ℕ) (bus : (k : ℕ) → k isOneOf R → Bus k) where
+  pub into-one : (L M : Links) → SameLinks Bus G L M → {a g : ℕ} → Bus a → (a isOneOf G → ⊥) → g isOneOf G → Walk (Either L M) R g a → IntoBy L R G a ⊎ IntoBy M R G a
   into-one L M alike {a} {g} here out h (last (inl l)) = inl (g, h, last l)
   into-one L M alike {a} {g} here out h (last (inr l)) = inr (g, h, last l)
   into-one L M alike {a} {g} here out h (via {k = x} l m w) = elim (in-or-out x G) [
@@ -86,7 +86,7 @@ module _ (Bus : ℕ → Type 0) (R G : List ℕ) (bus : (k : ℕ) → k ∈ R �
       more s (inl (g, y, v)) = inl (g, y, via (⊎-elim (λ (u : L a x). u) (s .0) l) m v)
       more s (inr (g, y, v)) = inr (g, y, via (⊎-elim (s .1) (λ (u : M a x). u) l) m v)
 
-  pub out-one : (L M : Links) → SameLinks Bus G L M → {b g : ℕ} → Bus b → (b ∈ G → ⊥) → g ∈ G → Walk (Either L M) R b g → OutBy L R G b ⊎ OutBy M R G b
+  pub out-one : (L M : Links) → SameLinks Bus G L M → {b g : ℕ} → Bus b → (b isOneOf G → ⊥) → g isOneOf G → Walk (Either L M) R b g → OutBy L R G b ⊎ OutBy M R G b
   out-one L M alike here out h w =
       elim (into-one (flip L) (flip M) (λ (i j : ℕ). λ x y u v. alike j i y x v u) here out h (turn w)) [
         | inl (g, h, v) ↦ inl (g, h, turn v)

@@ -23,7 +23,7 @@ use Rattle.binary64.proofs.Floats as F
 use Rattle.complex.proofs.Matrices.{entry-within, entry-rows}
 use Rattle.complex.proofs.Finite.{all-left, all-right, all-at, zero-times}
 use Rattle.complex.proofs.SameValue.{Finite, ≋-refl, ≋→≈}
-use Rattle.buses.specs.Buses.{_∈_}
+use Rattle.buses.specs.Buses.{_isOneOf_}
 use Rattle.ward_products.specs.WardArithmetic.{injectedP, injectedQ}
 use Rattle.ward_studies.specs.Ward.{Study, Room, Accepted, retained, listed, externals, externalAt, admittance, response, rowTimes, equivalent, driven, transferred, injectionP, injectionQ, filled, afterWard}
 use Rattle.ward_studies.specs.WardComputed.{ofEach, ofRowTimes, ofResponse, ofEntry, ofCurrents, ofDriven, ofInjection, ofReduction, ofEquivalent, ofInjections, ofStudy}
@@ -52,7 +52,7 @@ entry-finite S s h i j x y =
     (all-at (S .given) (2 * (i * S .size + j)) (omega arith) h, all-at (S .given) (2 * (i * S .size + j) + 1) (omega arith) h)
 
 -- the row's entries towards external buses
-pub row-null : (S : Study) (i : ℕ) → ((e : ℕ) → e ∈ S .external → Zero (admittance S i e)) → (k : ℕ) → k < externals S → Null (admittance S i (externalAt S k))
+pub row-null : (S : Study) (i : ℕ) → ((e : ℕ) → e isOneOf S .external → Zero (admittance S i e)) → (k : ℕ) → k < externals S → Null (admittance S i (externalAt S k))
 row-null S i z k h =
     let c = admittance S i (externalAt S k) in
     let t = z (externalAt S k) (getD-in (S .external) k h) in
@@ -81,7 +81,7 @@ entry-computed S p q x y h =
     (all-right (ofEach (ofResponse S) (retained S)) (ofEach (λ (i : ℕ). ofEach (ofEntry S i) (retained S)) (retained S)) h))
 
 module _ (S : Study) (s : Sound S) (f64s : F64s (S .given)) (given : T (allFinite (S .given))) (computed : T (allFinite (ofStudy S)))
-    (p : ℕ) (at : p < length (retained S)) (none : (e : ℕ) → e ∈ S .external → Zero (admittance S (getD (retained S) p 0) e)) where
+    (p : ℕ) (at : p < length (retained S)) (none : (e : ℕ) → e isOneOf S .external → Zero (admittance S (getD (retained S) p 0) e)) where
   -- the row times any vector, where that is finite
   row-times : (x : ℕ → Complex) → T (allFinite (ofRowTimes S (getD (retained S) p 0) x)) → Null (rowTimes S (getD (retained S) p 0) x)
   unfolding ofRowTimes rowTimes

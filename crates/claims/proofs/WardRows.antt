@@ -17,7 +17,7 @@ use Rattle.complex.specs.Matrices.{zeros}
 use Rattle.complex.specs.Values.{Zero, allFinite, F64s}
 use Rattle.binary64.proofs.Floats as F
 use Rattle.complex.proofs.Finite.{all-left, all-right, all-at, zero-times}
-use Rattle.buses.specs.Buses.{_∈_}
+use Rattle.buses.specs.Buses.{_isOneOf_}
 use Rattle.ward_studies.specs.Ward.{Room, retained, externals, admittance}
 use Rattle.ward_studies.specs.WardExtended.{Extended, ExtendedRoom, AcceptedX, deviation, tie, weight, weightSum, voltageCorrection, reactive, qCompensation, afterExtended}
 use Rattle.ward_studies.specs.WardComputed.{ofEach, ofStudy, ofTies, ofSums, ofCorrection, ofExtended}
@@ -59,7 +59,7 @@ tie-at S i (suc n) k h t = pick (tie-at S i n k) (last-or k n h)
 
 -- ---- a boundary bus with zeros towards all external buses
 
-module _ (S : Extended) (i : ℕ) (none : (e : ℕ) → e ∈ S .study .external → Zero (admittance (S .study) i e)) (computed : T (allFinite (ofTies S i (externals (S .study))))) where
+module _ (S : Extended) (i : ℕ) (none : (e : ℕ) → e isOneOf S .study .external → Zero (admittance (S .study) i e)) (computed : T (allFinite (ofTies S i (externals (S .study))))) where
   tie-null : (k : ℕ) → k < externals (S .study) → Null (tie S i k)
   tie-null k h = row-null (S .study) i none k h
 
@@ -94,7 +94,7 @@ ties-computed S t l h =
     all-left ties deviations (all-left (ties ++ deviations) powers (all-left (ties ++ deviations ++ powers) weights (all-left (ties ++ deviations ++ powers ++ weights) (voltageCorrection S i ∷ []) own)))
 
 module _ (S : Extended) (computed : T (allFinite (ofExtended S))) (p : ℕ) (none : ZeroRow (S .study) p) where
-  none-at : (t : ℕ) → p ≡ length (S .study .internal) + t → (e : ℕ) → e ∈ S .study .external → Zero (admittance (S .study) (getD (S .study .boundary) t 0) e)
+  none-at : (t : ℕ) → p ≡ length (S .study .internal) + t → (e : ℕ) → e isOneOf S .study .external → Zero (admittance (S .study) (getD (S .study .boundary) t 0) e)
   unfolding ZeroRow old busOfRow rowBuses admittance retained
   none-at t q e m = rw (bus-at (S .study) p t q) at (none e m)
 

@@ -1,6 +1,6 @@
--- The premises of demand 3 can be met, with calls that are refused, and its conclusions say something: entries that stay and entries that do not.
+-- The premises of demand 3 can be met, with calls that are refused, several buses removed and large numbers, and its conclusions say something: entries that stay and entries that do not.
 -- Assumes nothing.
-use mathlib.Core.Path.{_≡_, refl, subst}
+use mathlib.Core.Path.{_≡_, refl, sym, ap, _∙_}
 use mathlib.Core.Logic.{inl, inr}
 use mathlib.Core.List.{List, [], _∷_}
 use Prim.Native.Nat.{ℕ, zero, suc, _+_, _<_}
@@ -13,11 +13,11 @@ use Rattle.complex.specs.Entries.{entry as entryOf}
 use Rattle.complex.specs.Matrices.{Matrix, upTo, entryAt}
 use Rattle.complex.specs.Values.{_≈_, allFinite}
 use Rattle.refusals.specs.Refusals.{limit}
-use Rattle.buses.specs.Buses.{_∈_, others, place, rising, allBelow, allZero}
+use Rattle.buses.specs.Buses.{_isOneOf_, others, place, rising, allBelow, allZero}
 use Rattle.buses.proofs.Buses.{in-cases}
 use Rattle.kron_rows.specs.Kron.{kron, tooSmall, refusal, eliminate, taken, ofRow, ofRows, ofRemovals}
 use Rattle.kron_core.specs.Reducer.{Making, makingOf, makingRefusal, afterNew, sound, inputRefusal, view, laid, leaves, removable, afterBus, afterBuses}
-use Rattle.claims.specs.Accounts.{Call, bus, buses, stepHeld, leftFrom, left, entry, fresh, stateOf, removes, step, accountFrom, account}
+use Rattle.claims.specs.Accounts.{Call, bus, buses, stepHeld, leftFrom, left, entry, fresh, stateOf, removes, step, accountFrom, Account, account, kept}
 use Rattle.claims.specs.Chains.{Linked, Steps, Within, Chain, Into, Out, SameOutside}
 use Rattle.claims.specs.Finite.{ofAccount, Finite, words}
 use Rattle.claims.specs.Removals.{Alike, NoInto}
@@ -43,60 +43,126 @@ book-finite : Finite book book-calls
 unfolding book-words book-calls words csub cmul cdiv upTo others entryOf entryAt kron tooSmall refusal eliminate taken makingRefusal fresh stateOf removes step accountFrom allFinite ofAccount ofRemovals ofRow ofRows sub mul div lt ofBits
 book-finite = record { made = search tt; given = search tt; computed = tt }
 
--- ---- claim 1: bus 0 stands apart, buses 1 and 2 are joined, and bus 2 is removed
+-- ---- claim 1: buses 0 - 1 - 2 - 3 - 4 in a row, with no entry from bus 1 to bus 2, and one from bus 0 to bus 4; the three in the middle are removed
+
+-- the bit patterns of 2^340, -2^340 and 2^341: a removal multiplies three entries, and with much larger ones the product is not finite
+abbrev pub L : ℕ
+L = 0x5530000000000000
+
+abbrev pub -L : ℕ
+-L = 0xd530000000000000
+
+abbrev pub LL : ℕ
+LL = 0x5540000000000000
+
+-- and of the largest finite number
+abbrev largest : ℕ
+largest = 0x7fefffffffffffff
 
 first-words : List ℕ
-first-words = 0x3ff0000000000000 ∷ 0 ∷ 0 ∷ 0 ∷ 0 ∷ 0
-    ∷ 0 ∷ 0 ∷ 0x4000000000000000 ∷ 0 ∷ 0xbff0000000000000 ∷ 0
-    ∷ 0 ∷ 0 ∷ 0xbff0000000000000 ∷ 0 ∷ 0x4000000000000000 ∷ 0 ∷ []
+first-words =
+    LL ∷ 0 ∷ -L ∷ 0 ∷ 0 ∷ 0 ∷ 0 ∷ 0 ∷ largest ∷ 0
+    ∷ -L ∷ 0 ∷ LL ∷ 0 ∷ 0 ∷ 0 ∷ 0 ∷ 0 ∷ 0 ∷ 0
+    ∷ 0 ∷ 0 ∷ -L ∷ 0 ∷ LL ∷ 0 ∷ -L ∷ 0 ∷ 0 ∷ 0
+    ∷ 0 ∷ 0 ∷ 0 ∷ 0 ∷ -L ∷ 0 ∷ LL ∷ 0 ∷ -L ∷ 0
+    ∷ 0 ∷ 0 ∷ 0 ∷ 0 ∷ 0 ∷ 0 ∷ -L ∷ 0 ∷ LL ∷ 0 ∷ []
 
 abbrev first : Making
-first = makingOf 3 (words first-words)
+first = makingOf 5 (words first-words)
 
+-- between removals a bus that is not there, and after them one that is gone, so that bus 4 stays
 first-calls : List Call
-first-calls = buses (2 ∷ 2 ∷ 1 ∷ []) ∷ []
+first-calls = bus 2 ∷ bus 7 ∷ buses (1 ∷ 3 ∷ 2 ∷ 4 ∷ []) ∷ []
+
+abbrev a : Account
+a = account first first-calls
 
 first-finite : Finite first first-calls
 unfolding first-words first-calls words csub cmul cdiv upTo others entryOf entryAt kron tooSmall refusal eliminate taken fresh stateOf removes step accountFrom sub mul div lt ofBits makingRefusal allFinite ofAccount ofRemovals ofRow ofRows
 first-finite = record { made = search tt; given = search tt; computed = tt }
 
-first-removed : account first first-calls .removed ≡ 2 ∷ []
-unfolding first-words first-calls words sqmag upTo others entryOf entryAt tooSmall refusal eliminate taken fresh stateOf removes step accountFrom sub mul lt ofBits
+-- the removed buses, in the order of the calls
+abbrev gone : List ℕ
+gone = 2 ∷ 1 ∷ 3 ∷ []
+
+first-removed : a .removed ≡ gone
+unfolding first-words first-calls words csub cmul cdiv upTo others entryOf entryAt kron tooSmall refusal eliminate taken fresh stateOf removes step accountFrom sub mul div lt ofBits
 first-removed = refl
 
-only-two : (k : ℕ) → k ∈ 2 ∷ [] → k ≡ 2
-only-two k m = elim (in-cases k 2 [] m) [ inl p ↦ p | inr t ↦ absurd t ]
+first-kept : kept a ≡ 0 ∷ 4 ∷ []
+unfolding first-calls upTo others fresh step accountFrom
+first-kept = ap (λ (ks : List ℕ). others ks (upTo 5)) first-removed
 
--- no chain joins bus 0 to bus 0, since its entry to bus 2 is zero
-no-chain : Chain (account first first-calls .old) (account first first-calls .removed) 0 0 → ⊥
-unfolding first-words first-calls words sqmag upTo others entryOf entryAt tooSmall refusal eliminate taken fresh stateOf removes step accountFrom sub mul lt ofBits eq
-no-chain (k, ks, within, steps) = subst (λ (z : ℕ). Linked (account first first-calls .old) 0 z) (only-two k (within .0)) (steps .0)
+-- P holds of each in a list
+abbrev pub Each : (ℕ → Type 0) → List ℕ → Type 0
+Each P [] = Unit {0}
+Each P (k ∷ ks) = P k × Each P ks
 
-stays-apart : entry (left first first-calls) 0 0 ≈ account first first-calls .old 0 0
-unfolding first-words first-calls words sqmag upTo others entryOf entryAt tooSmall refusal eliminate taken fresh stateOf removes step accountFrom sub mul lt ofBits
-stays-apart = demand3 .removals .unchanged first first-calls (words-f64s first-words) first-finite 0 0 (lit< tt) (lit< tt) no-chain
+pub of-each : (P : ℕ → Type 0) (ks : List ℕ) → Each P ks → (k : ℕ) → k isOneOf ks → P k
+of-each P [] h k m = absurd m
+of-each P (x ∷ xs) h k m = elim (in-cases k x xs m) [ inl p ↦ rw p (h .0) | inr t ↦ of-each P xs (h .1) k t ]
 
--- a chain leads from bus 1 to bus 1 through bus 2, and the entry there goes from 2 to 1.5
-a-chain : Chain (account first first-calls .old) (account first first-calls .removed) 1 1
-unfolding first-words first-calls words sqmag upTo entryOf entryAt tooSmall refusal eliminate taken fresh stateOf removes step accountFrom sub mul lt ofBits eq
-a-chain = (2, [], (tt, tt), (tt, tt))
+-- bus 1 is the only one of R that bus i has an entry to
+abbrev OnlyTo1 : Matrix → List ℕ → ℕ → Type 0
+OnlyTo1 Y R i = (k : ℕ) → k isOneOf R → Linked Y i k → k ≡ 1
 
-changes : entry (left first first-calls) 1 1 ≈ account first first-calls .old 1 1 → ⊥
-unfolding first-words first-calls words csub cmul cdiv upTo others place entryOf entryAt kron tooSmall refusal eliminate taken fresh step accountFrom sub mul div lt ofBits laid makingRefusal afterNew rising allBelow allZero sound inputRefusal view leaves removable afterBuses stepHeld leftFrom left eq
-changes e = e .0
+only-to-1 : (Y : Matrix) (i : ℕ) → (Linked Y i 2 → ⊥) → (Linked Y i 3 → ⊥) → OnlyTo1 Y gone i
+only-to-1 Y i x y = of-each (λ (k : ℕ). Linked Y i k → k ≡ 1) gone (λ l. absurd (x l), (λ l. refl, (λ l. absurd (y l), tt)))
 
--- ---- claim 2: another matrix, with other entries at bus 2, and other calls that remove the same bus
+-- where that holds of buses 0 and 1, chains from bus 0 come no further
+module _ (Y : Matrix) (R : List ℕ) (rows : OnlyTo1 Y R 0 × OnlyTo1 Y R 1) where
+  no-further : (j : ℕ) → (Linked Y 1 j → ⊥) → (ks : List ℕ) → Within ks R → Steps Y 1 ks j → ⊥
+  no-further j none [] within steps = none steps
+  no-further j none (k ∷ ks) within steps = no-further j none ks (within .1) (rw (rows .1 k (within .0) (steps .0)) at (steps .1))
+
+  no-chain : (j : ℕ) → (Linked Y 1 j → ⊥) → Chain Y R 0 j → ⊥
+  no-chain j none (k, ks, within, steps) = no-further j none ks (within .1) (rw (rows .0 k (within .0) (steps .0)) at (steps .1))
+
+  no-into : (G : List ℕ) → ((k : ℕ) → k isOneOf G → k isOneOf R) → (1 isOneOf G → ⊥) → Into Y R G 0 → ⊥
+  no-into G among away (g, [], m, within, steps) = away (rw (rows .0 g (among g m) steps) at m)
+  no-into G among away (g, k ∷ ks, m, within, steps) =
+      no-further g (λ l. away (rw (rows .1 g (among g m) l) at m)) ks (within .1) (rw (rows .0 k (within .0) (steps .0)) at (steps .1))
+
+first-rows : OnlyTo1 (a .old) gone 0 × OnlyTo1 (a .old) gone 1
+unfolding first-words first-calls words entryOf entryAt fresh step accountFrom ofBits eq
+first-rows = (only-to-1 (a .old) 0 (λ n. n) (λ n. n), only-to-1 (a .old) 1 (λ n. n) (λ n. n))
+
+none-to-4 : Linked (a .old) 1 4 → ⊥
+unfolding first-words first-calls words entryOf entryAt fresh step accountFrom ofBits eq
+none-to-4 n = n
+
+-- so the entry from bus 0 to bus 4 stays, though bus 0 has an entry to a removed bus, and another removed bus has one to bus 4
+stays : entry (left first first-calls) 0 1 ≈ a .old 0 4
+stays = (rw first-kept at (demand3 .removals .unchanged first first-calls (words-f64s first-words) first-finite 0 1))
+    (lit< tt) (lit< tt) (no-chain (a .old) (a .removed) (rw first-removed first-rows) 4 none-to-4)
+
+-- the chain from bus 4 to bus 0 meets all removed buses, and the entry there, which was 0, is not
+long-chain : Chain (a .old) (a .removed) 4 0
+unfolding first-words first-calls words csub cmul cdiv upTo others entryOf entryAt kron tooSmall refusal eliminate taken fresh stateOf removes step accountFrom sub mul div lt ofBits eq
+long-chain = (3, 2 ∷ 1 ∷ [], (tt, (tt, (tt, tt))), (tt, (tt, (tt, tt))))
+
+fills-in : entry (left first first-calls) 1 0 ≈ a .old 4 0 → ⊥
+unfolding first-words first-calls words csub cmul cdiv upTo others place entryOf entryAt kron tooSmall refusal eliminate taken fresh step accountFrom sub mul div lt ofBits laid makingRefusal afterNew rising allBelow allZero sound inputRefusal view leaves removable afterBus afterBuses stepHeld leftFrom left eq
+fills-in e = e .0
+
+-- ---- claim 2: another matrix, with other entries at buses 2 and 3, and other calls that remove the same three
 
 second-words : List ℕ
-second-words = 0x3ff0000000000000 ∷ 0 ∷ 0 ∷ 0 ∷ 0 ∷ 0
-    ∷ 0 ∷ 0 ∷ 0x4000000000000000 ∷ 0 ∷ 0x3ff0000000000000 ∷ 0x3ff0000000000000
-    ∷ 0x4000000000000000 ∷ 0 ∷ 0x4000000000000000 ∷ 0xbff0000000000000 ∷ 0x3ff0000000000000 ∷ 0x3ff0000000000000 ∷ []
+second-words =
+    LL ∷ 0 ∷ -L ∷ 0 ∷ 0 ∷ 0 ∷ 0 ∷ 0 ∷ largest ∷ 0
+    ∷ -L ∷ 0 ∷ LL ∷ 0 ∷ 0 ∷ 0 ∷ 0 ∷ 0 ∷ 0 ∷ 0
+    ∷ L ∷ 0 ∷ 0 ∷ 0 ∷ L ∷ L ∷ L ∷ 0 ∷ 0 ∷ 0
+    ∷ 0 ∷ 0 ∷ L ∷ 0 ∷ 0 ∷ 0 ∷ L ∷ -L ∷ L ∷ L
+    ∷ 0 ∷ 0 ∷ 0 ∷ 0 ∷ L ∷ 0 ∷ 0 ∷ L ∷ LL ∷ 0 ∷ []
 
 abbrev second : Making
-second = makingOf 3 (words second-words)
+second = makingOf 5 (words second-words)
 
 second-calls : List Call
-second-calls = bus 9 ∷ bus 2 ∷ buses (2 ∷ 0 ∷ []) ∷ []
+second-calls = buses (2 ∷ 1 ∷ 2 ∷ 0 ∷ []) ∷ bus 9 ∷ bus 3 ∷ bus 3 ∷ []
+
+abbrev a' : Account
+a' = account second second-calls
 
 calls-differ : second-calls ≡ first-calls → ⊥
 unfolding first-calls second-calls
@@ -106,69 +172,71 @@ second-finite : Finite second second-calls
 unfolding second-words second-calls words csub cmul cdiv upTo others entryOf entryAt kron tooSmall refusal eliminate taken fresh stateOf removes step accountFrom sub mul div lt ofBits makingRefusal allFinite ofAccount ofRemovals ofRow ofRows
 second-finite = record { made = search tt; given = search tt; computed = tt }
 
-third : (j : ℕ) → suc (suc j) < 3 → suc (suc j) ∈ 2 ∷ []
-third zero h = tt
-third (suc j) h = absurd (omega arith)
+second-removed : a' .removed ≡ gone
+unfolding second-words second-calls words csub cmul cdiv upTo others entryOf entryAt kron tooSmall refusal eliminate taken fresh stateOf removes step accountFrom sub mul div lt ofBits
+second-removed = refl
 
-outside : SameOutside (account first first-calls .size) (account first first-calls .old) (account second second-calls .old) (2 ∷ [])
+-- the group is two of the three
+abbrev G : List ℕ
+G = 3 ∷ 2 ∷ []
+
+among-removed : (k : ℕ) → k isOneOf G → k isOneOf gone
+among-removed = of-each (λ (k : ℕ). k isOneOf gone) G (tt, (tt, tt))
+
+not-grouped : (P : ℕ → Type 0) → P 0 → P 1 → P 4 → (i : ℕ) → i < 5 → (i isOneOf G → ⊥) → P i
+not-grouped P x y z zero h o = x
+not-grouped P x y z (suc zero) h o = y
+not-grouped P x y z (suc (suc zero)) h o = absurd (o tt)
+not-grouped P x y z (suc (suc (suc zero))) h o = absurd (o tt)
+not-grouped P x y z (suc (suc (suc (suc zero)))) h o = z
+not-grouped P x y z (suc (suc (suc (suc (suc i))))) h o = absurd (omega arith)
+
+outside : SameOutside (a .size) (a .old) (a' .old) G
 unfolding first-words first-calls second-words second-calls words entryOf entryAt fresh step accountFrom ofBits eq
-outside zero zero x y o o' = (tt, tt)
-outside zero (suc zero) x y o o' = (tt, tt)
-outside (suc zero) zero x y o o' = (tt, tt)
-outside (suc zero) (suc zero) x y o o' = (tt, tt)
-outside zero (suc (suc j)) x y o o' = absurd (o' (third j y))
-outside (suc zero) (suc (suc j)) x y o o' = absurd (o' (third j y))
-outside (suc (suc i)) j x y o o' = absurd (o (third i x))
+outside i j x y o o' = not-grouped (λ (i : ℕ). Same i j) (along 0 (tt, tt) (tt, tt) (tt, tt)) (along 1 (tt, tt) (tt, tt) (tt, tt)) (along 4 (tt, tt) (tt, tt) (tt, tt)) i x o
+  where
+    Same : ℕ → ℕ → Type 0
+    Same i j = a .old i j ≈ a' .old i j
 
-group : (k : ℕ) → k ∈ 2 ∷ [] → k ∈ account first first-calls .removed
-unfolding first-words first-calls words sqmag upTo others entryOf entryAt tooSmall refusal eliminate taken fresh stateOf removes step accountFrom sub mul lt ofBits
-group k m = m
+    along : (i : ℕ) → Same i 0 → Same i 1 → Same i 4 → Same i j
+    along i p q r = not-grouped (Same i) p q r j y o'
 
-sizes : account second second-calls .size ≡ account first first-calls .size
+sizes : a' .size ≡ a .size
 unfolding first-calls second-calls fresh step accountFrom
 sizes = refl
 
-removed-same : account second second-calls .removed ≡ account first first-calls .removed
-unfolding first-words first-calls second-words second-calls words sqmag upTo others entryOf entryAt tooSmall refusal eliminate taken fresh stateOf removes step accountFrom sub mul lt ofBits
-removed-same = refl
-
--- the matrices agree but in the row and column of bus 2
-alike : Alike (account first first-calls) (account second second-calls) (2 ∷ [])
-alike = record { size = sizes; removed = removed-same; group = search group; outside = search outside }
+-- the matrices agree but in the rows and columns of the group
+alike : Alike a a' G
+alike = record { size = sizes; removed = second-removed ∙ sym first-removed; group = rw first-removed (search among-removed); outside = search outside }
 
 abbrev Differ : ℕ → ℕ → Type 0
-Differ i j = account first first-calls .old i j ≈ account second second-calls .old i j → ⊥
+Differ i j = a .old i j ≈ a' .old i j → ⊥
 
--- and differ there
-differ : Differ 2 2 × Differ 1 2 × Differ 2 1
+-- and differ in both rows, in both columns and on the diagonal
+differ : Differ 2 0 × Differ 3 1 × Differ 4 2 × Differ 4 3 × Differ 2 2 × Differ 3 3
 unfolding first-words first-calls second-words second-calls words entryOf entryAt fresh step accountFrom ofBits eq
-differ = (λ e. e .0, λ e. e .0, λ e. e .0)
+differ = (λ e. e .0, λ e. e .0, λ e. e .0, λ e. e .0, λ e. e .0, λ e. e .0)
 
--- where only bus 2 is removed and bus i has no entry to it, no chain leads from bus i into it
-no-way : (Y : Matrix) (R : List ℕ) (i : ℕ) → ((k : ℕ) → k ∈ R → k ≡ 2) → (Linked Y i 2 → ⊥) → Into Y R (2 ∷ []) i → ⊥
-no-way Y R i one none (g, ks, m, within, steps) = go ks within steps
-  where
-    go : (ks : List ℕ) → Within ks R → Steps Y i ks g → ⊥
-    go [] w s = none (subst (λ (z : ℕ). Linked Y i z) (only-two g m) s)
-    go (k ∷ ks) w s = none (subst (λ (z : ℕ). Linked Y i z) (one k (w .0)) (s .0))
+second-rows : OnlyTo1 (a' .old) gone 0 × OnlyTo1 (a' .old) gone 1
+unfolding second-words second-calls words entryOf entryAt fresh step accountFrom ofBits eq
+second-rows = (only-to-1 (a' .old) 0 (λ n. n) (λ n. n), only-to-1 (a' .old) 1 (λ n. n) (λ n. n))
 
--- bus 0 has no chain into the group in either, though the second has one out of it to bus 0
-no-into : NoInto (account first first-calls) (account second second-calls) (2 ∷ []) 0
-unfolding first-words first-calls second-words second-calls words sqmag upTo others entryOf entryAt tooSmall refusal eliminate taken fresh stateOf removes step accountFrom sub mul lt ofBits eq
-no-into = (
-  no-way (account first first-calls .old) (account first first-calls .removed) 0 only-two (λ (n : ⊥). n),
-  no-way (account second second-calls .old) (account second second-calls .removed) 0 only-two (λ (n : ⊥). n),
+-- bus 0 has no chain into the group in either, though in the second one leads out of it to bus 0
+none-into : NoInto a a' G 0
+none-into = (
+  no-into (a .old) (a .removed) (rw first-removed first-rows) G (rw first-removed among-removed) (λ n. n),
+  no-into (a' .old) (a' .removed) (rw second-removed second-rows) G (rw second-removed among-removed) (λ n. n),
 )
 
-an-out : Out (account second second-calls .old) (account second second-calls .removed) (2 ∷ []) 0
+an-out : Out (a' .old) (a' .removed) G 0
 unfolding second-words second-calls words entryOf entryAt fresh step accountFrom ofBits eq
 an-out = (2, [], tt, tt, tt)
 
--- so row 0 is the same in both, while the entry at bus 1, which has chains into the group and out of it, is not
+-- so row 0 is the same in both, while the entry at bus 4, which has chains into the group and out of it, is not
 row-same : (q : ℕ) → q < 2 → entry (left first first-calls) 0 q ≈ entry (left second second-calls) 0 q
-unfolding first-words first-calls second-calls words sqmag upTo others entryOf entryAt tooSmall refusal eliminate taken fresh stateOf removes step accountFrom sub mul lt ofBits
 row-same q h =
-    demand3 .removals .independent first second first-calls second-calls (words-f64s first-words) (words-f64s second-words) (search first-finite) (search second-finite) (2 ∷ []) alike 0 q (lit< tt) h (inl no-into)
+    (rw first-kept at (demand3 .removals .independent first second first-calls second-calls (words-f64s first-words) (words-f64s second-words) (search first-finite) (search second-finite) G alike 0 q))
+    (lit< tt) h (inl none-into)
 
 entries-differ : entry (left first first-calls) 1 1 ≈ entry (left second second-calls) 1 1 → ⊥
 unfolding first-words first-calls second-words second-calls words csub cmul cdiv upTo others place entryOf entryAt kron tooSmall refusal eliminate taken sub mul div lt ofBits laid makingRefusal afterNew rising allBelow allZero sound inputRefusal view leaves removable afterBus afterBuses stepHeld leftFrom left eq

@@ -5,7 +5,7 @@ use mathlib.Core.Logic.{_⊎_}
 use mathlib.Core.List.{List}
 use lib.ListN.{length}
 use Rattle.complex.specs.Values.{_≈_, F64s}
-use Rattle.buses.specs.Buses.{_∈_}
+use Rattle.buses.specs.Buses.{_isOneOf_}
 use Rattle.kron_core.specs.Reducer.{Making, Held}
 use Rattle.claims.specs.Accounts.{Call, left, entry, Account, account, kept, busAt}
 use Rattle.claims.specs.Chains.{Chain, Into, Out, SameOutside}
@@ -19,7 +19,7 @@ Unchanged a h = (p q : ℕ) → p < length (kept a) → q < length (kept a) → 
 pub record Alike (a a' : Account) (G : List ℕ) : Type 0 where
   pub size : a' .size ≡ a .size
   pub removed : a' .removed ≡ a .removed
-  pub group : (k : ℕ) → k ∈ G → k ∈ a .removed
+  pub group : (k : ℕ) → k isOneOf G → k isOneOf a .removed
   pub outside : SameOutside (a .size) (a .old) (a' .old) G
 
 -- bus i has no chain into the group in either matrix, bus j none out of it in either

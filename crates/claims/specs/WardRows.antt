@@ -7,7 +7,7 @@ use lib.ListN.{length, getD}
 use lib.Ieee.{Float, nan}
 use Rattle.complex.specs.Matrices.{Matrix, entryAt}
 use Rattle.complex.specs.Values.{_≈_, isZero, Zero, allFinite, F64s}
-use Rattle.buses.specs.Buses.{_∈_}
+use Rattle.buses.specs.Buses.{_isOneOf_}
 use Rattle.ward_studies.specs.Ward.{Study, Room, Accepted, afterWard}
 use Rattle.ward_studies.specs.WardExtended.{Extended, ExtendedRoom, AcceptedX, afterExtended}
 use Rattle.ward_studies.specs.WardComputed.{ofStudy, ofExtended}
@@ -44,7 +44,7 @@ busOfRow S p = getD (rowBuses S) p 0
 -- zeros towards all external buses
 unfoldable pub ZeroRow : Study → ℕ → Type 0
 unfolding old busOfRow
-ZeroRow S p = (e : ℕ) → e ∈ S .external → Zero (old S (busOfRow S p) e)
+ZeroRow S p = (e : ℕ) → e isOneOf S .external → Zero (old S (busOfRow S p) e)
 
 -- each entry of row p equals the given one between the same two buses
 unfoldable pub KeepsValues : Study → Room → ℕ → Type 0

@@ -175,10 +175,9 @@ fn add_branch(n: usize, b: &mut [f64], from: usize, to: usize, x: f64)
     requires { ⌜ length (now b) ≡ n * n ⌝ }
     ensures { λ _. ⌜ now (b .exit) ≡ spec.addBranch n (now (b .entry)) from to x ⌝ }
 {
-    if abs(x) < WEAK {
-        return;
+    if !(abs(x) < WEAK) {
+        join(b, from * n, to * n, from, to, 1.0 / x);
     }
-    join(b, from * n, to * n, from, to, 1.0 / x);
 }
 
 // The rows of the two ends begin at f and t.

@@ -61,11 +61,10 @@ fn reduce_row(work: &mut [f64], n: usize, w: usize, i: usize, c: usize, pivot: &
     requires { ⌜ (Augmented n w (length (now work))) × (i < n) × (c < n) × (BesideTurned w (now pivot)) ⌝ }
     ensures { λ _. ⌜ ((r j : ℕ) → j < w → entryAt w (now (work .exit)) r j ≡ withRow i (reducedRow c (entry (now (pivot .entry))) (entryAt w (now (work .entry))) i) (entryAt w (now (work .entry))) r j) ⌝ }
 {
-    if i == c {
-        return;
+    if i != c {
+        let Span { start, end } = span_of(n, w, 0, w, i);
+        rows::reduce(&mut work[start..end], w, c, pivot);
     }
-    let Span { start, end } = span_of(n, w, 0, w, i);
-    rows::reduce(&mut work[start..end], w, c, pivot);
 }
 
 // All rows but row c are reduced by the pivot row, which is row c.

@@ -11,7 +11,7 @@ use lib.Seq.{length-take-le, getD-take, getD-drop, getD-append-add, ext-getD}
 use lib.Ieee.{Float}
 use Rattle.complex.specs.Matrices.{Matrix, entryAt}
 use Rattle.refusals.specs.Refusals.{limit}
-use Rattle.buses.specs.Buses.{_∈_, place, others, rising}
+use Rattle.buses.specs.Buses.{_isOneOf_, place, others, rising}
 use Rattle.kron_rows.specs.Kron.{newEntry, kron, State, remove}
 use Rattle.kron_rows.specs.Removal.{kept, padded, shown, Shows}
 use Rattle.buses.proofs.Buses.{getD-in, place-lt, getD-place, place-getD, others-one}
@@ -38,7 +38,7 @@ getD-behind xs p h =
 
 -- ---- one bus drops out
 
-module _ (k : ℕ) (xs : List ℕ) (r : T (rising xs)) (m : k ∈ xs) where
+module _ (k : ℕ) (xs : List ℕ) (r : T (rising xs)) (m : k isOneOf xs) where
   pub length-others-one : length (others (k ∷ []) xs) ≡ length xs - 1
   length-others-one =
       let h = place-lt k xs m in

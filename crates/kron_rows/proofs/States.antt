@@ -7,13 +7,13 @@ use Prim.Native.Nat.{ℕ}
 use lib.Dec.{T, eqb}
 use Rattle.complex.specs.Matrices.{Matrix, row, rows}
 use Rattle.refusals.specs.Refusals.{notActive, smallEntry}
-use Rattle.buses.specs.Buses.{mem, _∈_, others, rising, allBelow}
+use Rattle.buses.specs.Buses.{mem, _isOneOf_, others, rising, allBelow}
 use Rattle.kron_rows.specs.Kron.{kron, State, start, remove, tooSmall, refusal, accepts, eliminate, taken, stop}
 use Rattle.buses.proofs.Buses.{in-head, in-tail, stays, others-nil, others-append, all-below-others, rising-others, rising-upTo, all-below-upTo}
 
 -- ---- a bus that is accepted
 
-pub accepted-active : (s : State) (k : ℕ) → T (accepts s k) → k ∈ s .active
+pub accepted-active : (s : State) (k : ℕ) → T (accepts s k) → k isOneOf s .active
 unfolding refusal
 accepted-active s k h = go (mem k (s .active)) (tooSmall (s .entries k k)) h
   where
@@ -79,9 +79,9 @@ regular-eliminate n s ks h = record {
 
 pub record Agree (s t : State) : Type 0 where
   pub active : s .active ≡ t .active
-  pub entries : (i j : ℕ) → i ∈ s .active → j ∈ s .active → s .entries i j ≡ t .entries i j
+  pub entries : (i j : ℕ) → i isOneOf s .active → j isOneOf s .active → s .entries i j ≡ t .entries i j
 
-pub agree-remove : (s t : State) (k : ℕ) → Agree s t → k ∈ s .active → Agree (remove s k) (remove t k)
+pub agree-remove : (s t : State) (k : ℕ) → Agree s t → k isOneOf s .active → Agree (remove s k) (remove t k)
 unfolding kron
 agree-remove s t k h m = record {
   active = ap (others (k ∷ [])) (h .active);
@@ -93,7 +93,7 @@ agree-remove s t k h m = record {
 
 pub agree-refusal : (s t : State) (k : ℕ) → Agree s t → refusal s k ≡ refusal t k
 unfolding refusal
-agree-refusal s t k h = go (mem k (s .active)) (mem k (t .active)) (ap (mem k) (h .active)) (λ (m : k ∈ s .active). h .entries k k m m)
+agree-refusal s t k h = go (mem k (s .active)) (mem k (t .active)) (ap (mem k) (h .active)) (λ (m : k isOneOf s .active). h .entries k k m m)
   where
     go : (b c : Bool) → b ≡ c → (T b → s .entries k k ≡ t .entries k k) → cond b (cond (tooSmall (s .entries k k)) smallEntry 0) notActive ≡ cond c (cond (tooSmall (t .entries k k)) smallEntry 0) notActive
     go true c e f = rw (← e, f tt)
@@ -103,9 +103,9 @@ pub agree-taken : (s t : State) (ks : List ℕ) → Agree s t → taken s ks ≡
 unfolding taken
 agree-taken s t [] h = refl
 agree-taken s t (k ∷ ks) h =
-    rw (← agree-refusal s t k h) (go (accepts s k) (accepted-active s k) (λ (m : k ∈ s .active). agree-taken (remove s k) (remove t k) ks (agree-remove s t k h m)))
+    rw (← agree-refusal s t k h) (go (accepts s k) (accepted-active s k) (λ (m : k isOneOf s .active). agree-taken (remove s k) (remove t k) ks (agree-remove s t k h m)))
   where
-    go : (b : Bool) → (T b → k ∈ s .active) → (k ∈ s .active → taken (remove s k) ks ≡ taken (remove t k) ks) → cond b (k ∷ taken (remove s k) ks) [] ≡ cond b (k ∷ taken (remove t k) ks) []
+    go : (b : Bool) → (T b → k isOneOf s .active) → (k isOneOf s .active → taken (remove s k) ks ≡ taken (remove t k) ks) → cond b (k ∷ taken (remove s k) ks) [] ≡ cond b (k ∷ taken (remove t k) ks) []
     go true f ih = ap (λ (l : List ℕ). k ∷ l) (ih (f tt))
     go false f ih = refl
 
@@ -113,9 +113,9 @@ pub agree-stop : (s t : State) (ks : List ℕ) → Agree s t → stop s ks ≡ s
 unfolding stop
 agree-stop s t [] h = refl
 agree-stop s t (k ∷ ks) h =
-    rw (← agree-refusal s t k h) (go (accepts s k) (accepted-active s k) (λ (m : k ∈ s .active). agree-stop (remove s k) (remove t k) ks (agree-remove s t k h m)))
+    rw (← agree-refusal s t k h) (go (accepts s k) (accepted-active s k) (λ (m : k isOneOf s .active). agree-stop (remove s k) (remove t k) ks (agree-remove s t k h m)))
   where
-    go : (b : Bool) → (T b → k ∈ s .active) → (k ∈ s .active → stop (remove s k) ks ≡ stop (remove t k) ks) → cond b (stop (remove s k) ks) (refusal s k) ≡ cond b (stop (remove t k) ks) (refusal s k)
+    go : (b : Bool) → (T b → k isOneOf s .active) → (k isOneOf s .active → stop (remove s k) ks ≡ stop (remove t k) ks) → cond b (stop (remove s k) ks) (refusal s k) ≡ cond b (stop (remove t k) ks) (refusal s k)
     go true f ih = ih (f tt)
     go false f ih = refl
 
@@ -126,18 +126,18 @@ agree-eliminate s t (k ∷ ks) h ok = agree-eliminate (remove s k) (remove t k) 
 
 -- ---- and the same rows
 
-row-same : (Y Z : Matrix) (i : ℕ) (js : List ℕ) → ((j : ℕ) → j ∈ js → Y i j ≡ Z i j) → row Y i js ≡ row Z i js
+row-same : (Y Z : Matrix) (i : ℕ) (js : List ℕ) → ((j : ℕ) → j isOneOf js → Y i j ≡ Z i j) → row Y i js ≡ row Z i js
 unfolding row
 row-same Y Z i [] h = refl
 row-same Y Z i (j ∷ js) h =
     let p = h j (in-head j js) in
-    let e = row-same Y Z i js (λ (q : ℕ) (m : q ∈ js). h q (in-tail q j js m)) in
+    let e = row-same Y Z i js (λ (q : ℕ) (m : q isOneOf js). h q (in-tail q j js m)) in
     rw (p, e)
 
-pub rows-same : (Y Z : Matrix) (is js : List ℕ) → ((i j : ℕ) → i ∈ is → j ∈ js → Y i j ≡ Z i j) → rows Y is js ≡ rows Z is js
+pub rows-same : (Y Z : Matrix) (is js : List ℕ) → ((i j : ℕ) → i isOneOf is → j isOneOf js → Y i j ≡ Z i j) → rows Y is js ≡ rows Z is js
 unfolding rows
 rows-same Y Z [] js h = refl
 rows-same Y Z (i ∷ is) js h =
-    let e = row-same Y Z i js (λ (j : ℕ) (m : j ∈ js). h i j (in-head i is) m) in
-    let f = rows-same Y Z is js (λ (p q : ℕ) (m : p ∈ is) (l : q ∈ js). h p q (in-tail p i is m) l) in
+    let e = row-same Y Z i js (λ (j : ℕ) (m : j isOneOf js). h i j (in-head i is) m) in
+    let f = rows-same Y Z is js (λ (p q : ℕ) (m : p isOneOf is) (l : q isOneOf js). h p q (in-tail p i is m) l) in
     rw (e, f)

@@ -16,7 +16,7 @@ use lib.Ieee.Bits.{is-true}
 use Rattle.complex.specs.Matrices.{entryAt}
 use Rattle.refusals.specs.Refusals.{limit, notActive, smallEntry}
 use Rattle.kron_rows.specs.declared.Found.the-variants.{At, Nothing}
-use Rattle.buses.specs.Buses.{mem, _∈_, place, rising}
+use Rattle.buses.specs.Buses.{mem, _isOneOf_, place, rising}
 use Rattle.kron_rows.specs.Kron.{kron, State, remove, tooSmall, refusal, accepts, eliminate, taken, stop}
 use Rattle.kron_rows.specs.Removal.{foundIn, kept, padded, shown, Shows, Holds, TookOne, TookAll}
 use Rattle.buses.proofs.Buses.{place-lt, rising-others}
@@ -25,7 +25,7 @@ use Rattle.kron_rows.proofs.Showing.{length-padded, length-others-one, 
 
 -- ---- a bus that was found, or not
 
-pub found-at : (k : ℕ) (xs : List ℕ) (p : ℕ) → foundIn k xs ≡ At p → (k ∈ xs) × (place k xs ≡ p)
+pub found-at : (k : ℕ) (xs : List ℕ) (p : ℕ) → foundIn k xs ≡ At p → (k isOneOf xs) × (place k xs ≡ p)
 unfolding foundIn
 found-at k xs p e = go (mem k xs) e
   where
@@ -104,7 +104,7 @@ module _ (n : ℕ) (bs : List ℕ) (ys : List Float) (h : Holds n bs ys) where
 
 -- ---- a list of removals
 
-length-remove : (s : State) (k : ℕ) → T (rising (s .active)) → k ∈ s .active → length (remove s k .active) + 1 ≡ length (s .active)
+length-remove : (s : State) (k : ℕ) → T (rising (s .active)) → k isOneOf s .active → length (remove s k .active) + 1 ≡ length (s .active)
 length-remove s k r m =
     let h = place-lt k (s .active) m in
     let e = length-others-one k (s .active) r m in
@@ -197,7 +197,7 @@ module _ (s : State) (ks : List ℕ) (done : ℕ) (bs : List ℕ) (ys : List Flo
         let one : take (done + 1) ks ≡ take done ks ++ (k ∷ []) = rw add-one (take-suc ks done 0 l) in
         let next : eliminate s (take (done + 1) ks) ≡ remove now k = ap (eliminate s) one ∙ eliminate-append s (take done ks) (k ∷ []) in
         let tail : drop (done + 1) ks ≡ drop (suc done) ks = ap (λ (i : ℕ). drop i ks) (add-one done) in
-        let m : k ∈ now .active = accepted-active now k (rw yes tt) in
+        let m : k isOneOf now .active = accepted-active now k (rw yes tt) in
         let agree = agree-remove (shown left (take left bs) ys) now k seen (rw (now-active) m) in
         record {
           within = omega arith;

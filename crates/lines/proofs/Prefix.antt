@@ -18,7 +18,7 @@ use Rattle.refusals.specs.declared.Outcome.{Outcome}
 use Rattle.refusals.specs.declared.Outcome.the-variants.{Done, Refused}
 use Rattle.refusals.specs.Refusals.{outcome}
 use Rattle.kron_core.specs.declared.KronReducer.{KronReducer}
-use Rattle.buses.specs.Buses.{_∈_, others, place}
+use Rattle.buses.specs.Buses.{_isOneOf_, others, place}
 use Rattle.kron_rows.specs.Kron.{State, accepts, refusal, eliminate, taken, stop}
 use Rattle.kron_core.specs.Reducer.{makingOf, refusalOf, afterNew, afterBus, Held, laid}
 use Rattle.buses.proofs.Buses.{below-all, others-one, place-lt}
@@ -62,7 +62,7 @@ taken-one : (s : State) (k : ℕ) → T (accepts s k) → taken s (k ∷ []) ≡
 unfolding taken
 taken-one s k t = rw (is-true (accepts s k) t)
 
-length-less : (k : ℕ) (s : State) (n : ℕ) → Regular n s → k ∈ s .active → length (others (k ∷ []) (s .active)) < length (s .active)
+length-less : (k : ℕ) (s : State) (n : ℕ) → Regular n s → k isOneOf s .active → length (others (k ∷ []) (s .active)) < length (s .active)
 length-less k s n g m =
     let xs = s .active in
     let p = place k xs in

@@ -13,7 +13,7 @@ use Rattle.complex.specs.Matrices
 use Rattle.complex.specs.Values.{_≈_, allFinite}
 use Rattle.refusals.specs.Refusals
 use Rattle.buses.specs.Buses
-use Rattle.buses.specs.Buses.{_∈_}
+use Rattle.buses.specs.Buses.{_isOneOf_}
 use Rattle.buses.proofs.Buses.{in-cases}
 use Rattle.kron_rows.specs.Kron
 use Rattle.kron_core.specs.Reducer
@@ -62,7 +62,7 @@ apart-finite : Finite (making apart) (calls apart)
 unfolding apart making calls callsOf sizeOf numbersOf Lines.lines Lines.startsWith Lines.numberAfter Lines.entryOf Words.decimalOf Words.hexOf Reducer.makingRefusal Matrices.upTo Kron.eliminate Kron.taken Kron.refusal Kron.tooSmall Kron.kron Buses.others Buses.place Entries.entry Matrices.entryAt Arithmetic.cmul Arithmetic.csub Arithmetic.cdiv Constants.plus0 Ieee.ofBits Ieee.sub Ieee.mul Ieee.div Ieee.lt Accounts.fresh Accounts.stateOf Accounts.removes Accounts.step Accounts.accountFrom allFinite ofAccount Kron.ofRemovals Kron.ofRow Kron.ofRows
 apart-finite = record { made = tt; given = tt; computed = tt }
 
-only-one : (k : ℕ) → k ∈ 1 ∷ [] → k ≡ 1
+only-one : (k : ℕ) → k isOneOf 1 ∷ [] → k ≡ 1
 only-one k m = elim (in-cases k 1 [] m) [ inl p ↦ p | inr t ↦ absurd t ]
 
 no-chain : Chain (accountOf apart .old) (accountOf apart .removed) 0 0 → ⊥

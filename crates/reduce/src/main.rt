@@ -1,47 +1,56 @@
 // The program `reduce`: standard input is read until it ends or the buffer is full, and what `lines` makes of it is written.
-// Bytes beyond the buffer cannot change the answer.
+// Bytes beyond the buffer cannot change the answer (lines!Prefix `printed-prefix`). Where reading fails nothing is written.
 use lines::Answer;
+use moves::Move;
 ghost use mathlib.Core.Path.{_≡_};
 ghost use lib.ListN.{length};
+ghost use Rattle.lines.specs.Reduce.{inputLength, outputLength, matrixLength, printed};
+ghost use Rattle.reduce.specs.Moves.{Front};
+
+mod moves;
 
 // The buffers, by their lengths alone.
 fn input_buffer() -> [u8; lines::INPUT]
-    ensures { λ r. ⌜ 139819 ≡ length r ⌝ }
+    ensures { λ r. ⌜ inputLength ≡ length r ⌝ }
 {
     [0; lines::INPUT]
 }
 
 fn output_buffer() -> [u8; lines::OUTPUT]
-    ensures { λ r. ⌜ 139720 ≡ length r ⌝ }
+    ensures { λ r. ⌜ outputLength ≡ length r ⌝ }
 {
     [0; lines::OUTPUT]
 }
 
 fn matrix_buffer() -> [f64; lines::MATRIX]
-    ensures { λ r. ⌜ 8192 ≡ length r ⌝ }
+    ensures { λ r. ⌜ matrixLength ≡ length r ⌝ }
 {
     [0.0; lines::MATRIX]
 }
 
-fn write(output: &[u8], n: usize) {
-    if n <= output.len() {
-        io::write_all(libc::STDOUT_FILENO, &output[..n]);
-    }
-}
-
-// The first n bytes of the input are reduced.
-fn answer(input: &[u8], n: usize) {
-    let mut output = output_buffer();
-    let mut matrix = matrix_buffer();
-    if n <= input.len() {
-        if let Answer::Written(k) = lines::reduce(&input[..n], &mut output, &mut matrix) {
-            write(&output, k);
-        }
+// What is printed for this input stands at the output's front; answers how many bytes it has.
+fn answer(input: &[u8], output: &mut [u8], matrix: &mut [f64]) -> usize
+    requires { ⌜ (outputLength ≡ length (now output)) × (matrixLength ≡ length (now matrix)) ⌝ }
+    ensures { λ n. ⌜ Front n (now (output .exit)) (printed (now (input .entry))) ⌝ }
+{
+    let told = lines::reduce(input, output, matrix);
+    match told {
+        Answer::Written(n) => n,
+        Answer::Refused(_) => 0,
     }
 }
 
 fn main() {
     let mut input = input_buffer();
-    let n = io::read_full(libc::STDIN_FILENO, &mut input);
-    answer(&input, n);
+    let Move::Bytes(n) = moves::read(&mut input) else {
+        os::fail(b"reduce: reading standard input failed");
+        return;
+    };
+    let mut output = output_buffer();
+    let mut matrix = matrix_buffer();
+    let k = answer(&input[..n], &mut output, &mut matrix);
+    let Move::Bytes(_) = moves::write(&output[..k]) else {
+        os::fail(b"reduce: writing standard output failed");
+        return;
+    };
 }

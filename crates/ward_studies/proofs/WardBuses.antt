@@ -13,7 +13,7 @@ use lib.Ieee.{Float}
 use lib.Ieee.Fits.{and-l}
 use borrow.Author.Tests.{eqb-true}
 use Rattle.ward_studies.specs.declared.WardAnswer.the-variants.{Refused}
-use Rattle.buses.specs.Buses.{mem, _∈_, others, allBelow}
+use Rattle.buses.specs.Buses.{mem, _isOneOf_, others, allBelow}
 use Rattle.ward_studies.specs.Ward.{Study, Room, repeats, listed, busRefusal, thenPivots, summary, answered, roomAfter, workAfter}
 use Rattle.ward_studies.specs.WardCalls.{studyOf, after, cut, studied, Joined, Listed}
 use Rattle.buses.proofs.Buses.{in-head, in-cases, stays, others-none, below-all, all-below}
@@ -47,7 +47,7 @@ shorter k (x ∷ xs) h = pick (eqb x k) refl (none-of (mem x xs) (repeats xs) h)
   where
     pick : (b : Bool) → eqb x k ≡ b → (mem x xs ≡ false) × (repeats xs ≡ false) → (repeats xs ≡ false → Shorter k xs) → Shorter k (x ∷ xs)
     pick true e m ih =
-        let same : others (k ∷ []) xs ≡ xs = others-none (k ∷ []) xs (λ (a : ℕ) (p : a ∈ xs) (q : a ∈ k ∷ []).
+        let same : others (k ∷ []) xs ≡ xs = others-none (k ∷ []) xs (λ (a : ℕ) (p : a isOneOf xs) (q : a isOneOf k ∷ []).
         elim (in-cases a k [] q) [ inl r ↦ subst T (m .0) (subst (λ (z : ℕ). T (mem z xs)) (r ∙ sym (eqb-true x k e)) p) | inr r ↦ r ]) in
         record { distinct = rw e (ih (m .1) .distinct); long = rw (e, same) (omega arith) }
     pick false e m ih =
@@ -55,10 +55,10 @@ shorter k (x ∷ xs) h = pick (eqb x k) refl (none-of (mem x xs) (repeats xs) h)
         record { distinct = rw (e, mem-others (k ∷ []) x xs (m .0)) (s .distinct); long = rw e (let l = s .long in omega arith) }
 
 below-others : (n : ℕ) (xs : List ℕ) → T (allBelow (suc n) xs) → T (allBelow n (others (n ∷ []) xs))
-below-others n xs h = all-below n (others (n ∷ []) xs) λ (k : ℕ) (m : k ∈ others (n ∷ []) xs).
+below-others n xs h = all-below n (others (n ∷ []) xs) λ (k : ℕ) (m : k isOneOf others (n ∷ []) xs).
     let s = stays k (n ∷ []) xs m in
     let l : k < suc n = below-all (suc n) xs h k (s .0) in
-    let other : k ≡ n → ⊥ = λ (e : k ≡ n). s .1 (subst (λ (z : ℕ). k ∈ z ∷ []) e (in-head k [])) in
+    let other : k ≡ n → ⊥ = λ (e : k ≡ n). s .1 (subst (λ (z : ℕ). k isOneOf z ∷ []) e (in-head k [])) in
     omega arith
 
 pub distinct-length : (n : ℕ) (xs : List ℕ) → T (allBelow n xs) → repeats xs ≡ false → length xs ≤ n

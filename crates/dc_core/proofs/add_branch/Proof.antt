@@ -2,17 +2,15 @@ use Prim.Native.Nat.{_<_}
 use Rattle.complex.specs.Constants.{weak, one}
 use Rattle.dc_core.specs.Dc.{addBranch}
 use native.Mathlib.Omega.{arith}
+use lib.Ieee.{lt}
 use lib.Arith.{digits-lt}
 use borrow.Author.Needs.{needs}
+use borrow.Author.Tests.{not-true, not-false}
 use Rattle.dc_core.proofs.add_branch.Statement.{statement}
 use Rattle.dc_core.proofs.add_branch.Tie as tie
 
 abs-requires : tie.Need-abs-requires
 abs-requires c κs = search needs
-
-returns : tie.Need-returns
-unfolding addBranch weak
-returns c = rw (← c .before .abs .ensures, c .if1 .taken)
 
 mul-join : tie.Need-mul-join
 mul-join c =
@@ -33,11 +31,15 @@ join-requires c κs =
 same-length : tie.Need-same-length
 same-length c = search needs
 
-returns-2 : tie.Need-returns-2
+returns : tie.Need-returns
 unfolding addBranch weak one
-returns-2 c = rw (← c .before .before .before .before .before .abs .ensures, c .before .before .before .before .if1 .left) (c .before .before .join .ensures)
+returns c = rw (← c .before .before .before .before .before .abs .ensures, not-true (lt (c .before .before .before .before .before .abs .result) weak) (c .before .before .before .before .if1 .taken)) (c .before .before .join .ensures)
+
+returns-2 : tie.Need-returns-2
+unfolding addBranch weak
+returns-2 c = rw (← c .before .abs .ensures, not-false (lt (c .before .abs .result) weak) (c .if1 .left))
 
 pub add-branch-spec : {M : Type 1} → statement M
 add-branch-spec =
     tie.close
-    (tie.spec abs-requires returns mul-join mul-join-2 join-requires same-length returns-2)
+    (tie.spec abs-requires mul-join mul-join-2 join-requires same-length returns returns-2)

@@ -1,65 +1,65 @@
 -- `reduce::answer` meets its contract.
 -- Assumes nothing.
-use mathlib.Core.Path.{sym}
-use native.Mathlib.Omega.{arith}
-use lib.Seq.{length-take-le}
 use borrow.Author.Needs.{needs}
+use Rattle.reduce.proofs.AnswerLaws.{never-refused, answer-front}
 use Rattle.reduce.proofs.answer.Statement.{statement}
 use Rattle.reduce.proofs.answer.Tie as tie
-
-output-buffer-requires : tie.Need-output-buffer-requires
-output-buffer-requires c κs = search needs
-
-matrix-buffer-requires : tie.Need-matrix-buffer-requires
-matrix-buffer-requires c κs = search needs
-
-slice-aggregate-reduce : tie.Need-slice-aggregate-reduce
-slice-aggregate-reduce c = let s = c .before .before .before .before .before in sym (length-take-le (s .args .n) (s .args .input .now) (omega arith))
-
-slice-aggregate-reduce-2 : tie.Need-slice-aggregate-reduce-2
-slice-aggregate-reduce-2 c = search needs
-
-slice-aggregate-reduce-3 : tie.Need-slice-aggregate-reduce-3
-slice-aggregate-reduce-3 c = search needs
 
 reduce-requires : tie.Need-reduce-requires
 reduce-requires c κs = search needs
 
-enum-known-k : tie.Need-enum-known-k
-enum-known-k c = search needs
-
-slice-aggregate-write : tie.Need-slice-aggregate-write
-slice-aggregate-write c = search needs
-
-write-requires : tie.Need-write-requires
-write-requires c κs = search needs
+enum-known-told : tie.Need-enum-known-told
+enum-known-told c = search needs
 
 enum-told : tie.Need-enum-told
 enum-told c = search needs
 
+same-length : tie.Need-same-length
+same-length c = search needs
+
+same-length-2 : tie.Need-same-length-2
+same-length-2 c = search needs
+
 returns : tie.Need-returns
-returns c = search needs
+returns c =
+    let b = c .before in
+    let r = b .before .before .before .before .before .before in
+    let s = r .before .before .before .before .before .before in
+    answer-front
+    (s .args .input .now)
+    (s .args .output .now)
+    (s .args .matrix .now)
+    (s .pre .0)
+    (s .pre .1)
+    (r .reduce .result)
+    (r .reduce .last .1 .0)
+    (b .told .given .0 .0)
+    (r .reduce .ensures .0)
+    (r .reduce .ensures .1)
+    (b .told .given .1)
+
+same-length-3 : tie.Need-same-length-3
+same-length-3 c = search needs
+
+same-length-4 : tie.Need-same-length-4
+same-length-4 c = search needs
 
 returns-2 : tie.Need-returns-2
-returns-2 c = search needs
-
-returns-3 : tie.Need-returns-3
-returns-3 c = search needs
+returns-2 c =
+    let r = c .before .before .before .before .before .before in
+    let s = r .before .before .before .before .before .before in
+    absurd (never-refused (s .args .input .now) (s .args .output .now) (s .args .matrix .now) (s .pre .0) (s .pre .1) (r .reduce .result) (c .enum-told .given .0 .0) (r .reduce .ensures .0) (c .enum-told .given .1))
 
 pub answer-spec : {M : Type 1} → statement M
 answer-spec =
     tie.close
     (tie.spec
-    output-buffer-requires
-    matrix-buffer-requires
-    slice-aggregate-reduce
-    slice-aggregate-reduce-2
-    slice-aggregate-reduce-3
     reduce-requires
-    enum-known-k
-    slice-aggregate-write
-    write-requires
+    enum-known-told
     enum-told
+    same-length
+    same-length-2
     returns
-    returns-2
-    returns-3)
+    same-length-3
+    same-length-4
+    returns-2)

@@ -1,0 +1,30 @@
+-- What `lines::reduce` answers on slices of the right lengths: the printed text, at the output's front.
+-- Assumes nothing.
+use Prim.Native.Nat.{ℕ, _-_, _≤_}
+use mathlib.Core.Path.{_≡_, sym, ap, _∙_}
+use mathlib.Core.List.{List, _++_}
+use native.Mathlib.Omega.{arith}
+use lib.ListN.{length, take, replicate, length-append}
+use lib.Seq.{take-append-seam, length-take-le}
+use lib.Ieee.{Float}
+use Rattle.lines.specs.declared.Answer.{Answer}
+use Rattle.lines.specs.declared.Answer.the-variants.{Written, Refused}
+use Rattle.lines.specs.Reduce.{outputLength, matrixLength, printed, AfterReduce, afterReduce}
+use Rattle.lines.proofs.ReduceLaws.{after-both}
+use Rattle.reduce.specs.Moves.{Front}
+
+module _ (input out : List ℕ) (ys : List Float) (o : outputLength ≡ length out) (m : matrixLength ≡ length ys) where
+  is-written : (a : Answer) → a ≡ afterReduce input out ys .answer → a ≡ Written (length (printed input))
+  is-written a e = e ∙ ap (λ (r : AfterReduce). r .answer) (after-both input out ys (sym o) (sym m))
+
+  pub never-refused : (a : Answer) (k : ℕ) → a ≡ afterReduce input out ys .answer → a ≡ Refused k → ⊥
+  never-refused a k e r = let z : Written (length (printed input)) ≡ Refused k = sym (is-written a e) ∙ r in let q : _≡_ {A = ℕ} 0 1 = cc in omega arith
+
+  pub answer-front : (a : Answer) (left : List ℕ) (n : ℕ) → a ≡ afterReduce input out ys .answer → left ≡ afterReduce input out ys .output → a ≡ Written n → Front n left (printed input)
+  answer-front a left n e l w =
+      let z : Written n ≡ Written (length (printed input)) = sym w ∙ is-written a e in
+      let k : n ≡ length (printed input) = cc in
+      let t : left ≡ printed input ++ replicate (outputLength - length (printed input)) 0 = l ∙ ap (λ (r : AfterReduce). r .output) (after-both input out ys (sym o) (sym m)) in
+      let f : take n left ≡ printed input = ap (λ (j : ℕ). take j left) k ∙ ap (take (length (printed input))) t ∙ take-append-seam (printed input) (replicate (outputLength - length (printed input)) 0) in
+      let h : n ≤ length left = omega (arith, ap length t, length-append (printed input) (replicate (outputLength - length (printed input)) 0)) in
+      (h, sym (length-take-le n left h), f)

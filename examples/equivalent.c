@@ -1,0 +1,105 @@
+/* Two buses and a line: bus 1 is taken out by a Kron reducer and by a Ward study, and each refuses a wrong call.
+ *
+ *     cc -Iinclude examples/equivalent.c target/staticlib/libentries.a -o equivalent
+ */
+#include "jeturipe.h"
+
+#include <stdio.h>
+#include <stdlib.h>
+#include <string.h>
+
+/* An array as a slice: its pointer and the count of its elements. */
+#define SLICE(a) (a), sizeof(a) / sizeof((a)[0])
+
+/* Admittances in per unit, real then imaginary, row after row: 1, -1 / -1, 2. */
+static const double M[8] = {1, 0, -1, 0, -1, 0, 2, 0};
+
+static const char *meaning(uint32_t refusal) {
+    switch (refusal) {
+    case JETURIPE_TOO_MANY: return "more than 64 buses, branches or elements of a list";
+    case JETURIPE_WRONG_LENGTH: return "a slice is not of its exact length";
+    case JETURIPE_LISTS_DIFFER: return "lists that belong together differ in length";
+    case JETURIPE_NO_BUS: return "an REI equivalent of no bus";
+    case JETURIPE_EMPTY_SYSTEM: return "a system of size 0, or a right side of another length";
+    case JETURIPE_NO_SUCH_END: return "a branch ends at a bus that is not there (buses count from 0)";
+    case JETURIPE_NO_SUCH_BUS: return "a Ward list names a bus that the matrix lacks (buses count from 0)";
+    case JETURIPE_BUS_TWICE: return "a bus stands twice in the Ward lists";
+    case JETURIPE_BAD_RECORD: return "the record is none that a making or a removal leaves";
+    case JETURIPE_NOT_ACTIVE: return "the reducer has no such bus, or it was removed";
+    case JETURIPE_SMALL_ENTRY: return "the bus's own admittance is too small to divide by";
+    case JETURIPE_SINGULAR: return "the system is singular or nearly so";
+    default: return "not a refusal of this library";
+    }
+}
+
+static void print_refusal(uint32_t number) {
+    printf("  refused with %u: %s\n", (unsigned)number, meaning(number));
+}
+
+/* Ends the program where a call was refused. */
+static void carried_out(uint32_t answer) {
+    if (answer != JETURIPE_DONE) {
+        print_refusal(answer);
+        exit(EXIT_FAILURE);
+    }
+}
+
+/* Ends the program where a call was not refused. */
+static void refused(uint32_t answer) {
+    if (answer == JETURIPE_DONE) {
+        fprintf(stderr, "a call was carried out that should be refused\n");
+        exit(EXIT_FAILURE);
+    }
+    print_refusal(answer);
+}
+
+static void remove_bus_1(void) {
+    double y[8];
+    uint8_t rec[JETURIPE_RECORD];
+    size_t buses[2], count;
+    memcpy(y, M, sizeof y);
+    carried_out(jeturipe_kron_new(2, SLICE(y), SLICE(rec)));
+    printf("Bus 1 is removed:\n");
+    carried_out(jeturipe_eliminate_bus(SLICE(rec), SLICE(y), 1));
+    carried_out(jeturipe_active_buses(SLICE(rec), SLICE(buses), &count));
+    for (size_t row = 0; row < count; row++) {
+        const double *own = &y[2 * (row * count + row)];
+        printf("  bus %zu is left, its admittance is %g + j%g per unit\n", buses[row], own[0], own[1]);
+    }
+    printf("Bus 1 is removed again:\n");
+    refused(jeturipe_eliminate_bus(SLICE(rec), SLICE(y), 1));
+}
+
+typedef struct {
+    double y[2];                 /* per unit */
+    double p[1], q[1];           /* MW and MVAr fed in at the boundary bus */
+    size_t original, equivalent; /* buses */
+    double ratio;
+} Equivalent;
+
+static uint32_t ward(size_t boundary, size_t external, Equivalent *e) {
+    const double p_ext[1] = {50}, q_ext[1] = {0}; /* MW, MVAr */
+    double work[6];                               /* 2 e (e + r + 1), with e = 1 external and r = 1 retained bus */
+    return jeturipe_ward_compute(
+        2, SLICE(M),
+        &boundary, 0, /* no internal bus; the pointer is not null all the same */
+        &external, 1,
+        &boundary, 1,
+        100, /* MVA */
+        SLICE(p_ext), SLICE(q_ext),
+        SLICE(e->y), SLICE(e->p), SLICE(e->q), SLICE(work),
+        &e->original, &e->equivalent, &e->ratio);
+}
+
+int main(void) {
+    Equivalent e;
+    remove_bus_1();
+    printf("Ward study, boundary bus 0, external bus 1 with 50 MW and 0 MVAr, base 100 MVA:\n");
+    carried_out(ward(0, 1, &e));
+    printf("  admittance of bus 0: %g + j%g per unit\n", e.y[0], e.y[1]);
+    printf("  fed in at bus 0: %g MW and %g MVAr\n", e.p[0], e.q[0]);
+    printf("  %zu buses become %zu, reduction ratio %g\n", e.original, e.equivalent, e.ratio);
+    printf("The same study, its buses numbered from 1, boundary bus 1, external bus 2:\n");
+    refused(ward(1, 2, &e));
+    return EXIT_SUCCESS;
+}
