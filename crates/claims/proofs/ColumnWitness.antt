@@ -69,8 +69,11 @@ same-size : t .size ≡ h .size
 unfolding fresh step accountFrom
 same-size = refl
 
+grouped : (k : ℕ) → k isOneOf 1 ∷ [] → k isOneOf 1 ∷ []
+grouped k m = m
+
 alike-away : Alike h t (1 ∷ [])
-alike-away = record { size = same-size; removed = there-removed ∙ sym here-removed; group = rw here-removed (λ k m. m); outside = search away }
+alike-away = record { size = same-size; removed = there-removed ∙ sym here-removed; group = rw here-removed (search grouped); outside = search away }
 
 -- where no removed bus has an entry to bus j, no chain leads to it
 no-out : (Y : Matrix) (R : List ℕ) (j : ℕ) → ((k : ℕ) → k isOneOf R → Linked Y k j → ⊥) → (g : ℕ) → g isOneOf R → (ks : List ℕ) → Within ks R → Steps Y g ks j → ⊥
