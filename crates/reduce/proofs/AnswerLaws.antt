@@ -14,6 +14,10 @@ use Rattle.lines.proofs.ReduceLaws.{after-both}
 use Rattle.reduce.specs.Moves.{Front}
 
 module _ (input out : List ℕ) (ys : List Float) (o : outputLength ≡ length out) (m : matrixLength ≡ length ys) where
+  -- the zeros behind the text
+  abbrev zeros : List ℕ
+  zeros = replicate (outputLength - length (printed input)) 0
+
   is-written : (a : Answer) → a ≡ afterReduce input out ys .answer → a ≡ Written (length (printed input))
   is-written a e = e ∙ ap (λ (r : AfterReduce). r .answer) (after-both input out ys (sym o) (sym m))
 
@@ -24,7 +28,6 @@ module _ (input out : List ℕ) (ys : List Float) (o : outputLength ≡ length o
   answer-front a left n e l w =
       let z : Written n ≡ Written (length (printed input)) = sym w ∙ is-written a e in
       let k : n ≡ length (printed input) = cc in
-      let t : left ≡ printed input ++ replicate (outputLength - length (printed input)) 0 = l ∙ ap (λ (r : AfterReduce). r .output) (after-both input out ys (sym o) (sym m)) in
-      let f : take n left ≡ printed input = ap (λ (j : ℕ). take j left) k ∙ ap (take (length (printed input))) t ∙ take-append-seam (printed input) (replicate (outputLength - length (printed input)) 0) in
-      let h : n ≤ length left = omega (arith, ap length t, length-append (printed input) (replicate (outputLength - length (printed input)) 0)) in
-      (h, sym (length-take-le n left h), f)
+      let t : left ≡ printed input ++ zeros = l ∙ ap (λ (r : AfterReduce). r .output) (after-both input out ys (sym o) (sym m)) in
+      let h : n ≤ length left = omega (arith, ap length t, length-append (printed input) zeros) in
+      (h, sym (length-take-le n left h), ap (λ (j : ℕ). take j left) k ∙ ap (take (length (printed input))) t ∙ take-append-seam (printed input) zeros)
