@@ -1,12 +1,15 @@
 // One grid of each size, and the studies that every side is timed on.
+use oracle::buses;
 use oracle::source::Source;
 
 pub struct Inputs {
     pub n: usize,
     // the bus matrix, real then imaginary, row after row
     pub y: Vec<f64>,
+    // of each row's bus, in no order
+    pub numbers: Vec<u32>,
     pub right: Vec<f64>,
-    // every second bus
+    // lists of rows: every second one, and a study's
     pub half: Vec<usize>,
     pub internal: Vec<usize>,
     pub external: Vec<usize>,
@@ -33,11 +36,19 @@ fn full(s: &mut Source, n: usize) -> Vec<f64> {
     y
 }
 
+impl Inputs {
+    // the numbers of the buses of these rows
+    pub fn named(&self, rows: &[usize]) -> Vec<u32> {
+        rows.iter().map(|&row| self.numbers[row]).collect()
+    }
+}
+
 pub fn inputs(n: usize) -> Inputs {
     let mut s = Source::new(n as u64);
     let y = full(&mut s, n);
-    let buses = s.shuffled(n);
-    let (internal, rest) = buses.split_at(n / 8);
+    let numbers = buses::any(&mut s, n);
+    let rows = s.shuffled(n);
+    let (internal, rest) = rows.split_at(n / 8);
     let (boundary, external) = rest.split_at(n / 8);
     let mut list = |count: usize, base: f64| (0..count).map(|_| base + s.unit()).collect::<Vec<f64>>();
     let (right, x, ptdf) = (list(2 * n, 0.0), list(n, 0.1), list(n * n, -0.5));
@@ -49,6 +60,7 @@ pub fn inputs(n: usize) -> Inputs {
     Inputs {
         n,
         y,
+        numbers,
         right,
         half: (0..n).step_by(2).collect(),
         internal: internal.to_vec(),

@@ -43,7 +43,7 @@ const TASKS: [Task; 13] = [
     Task::BytesOfNumbers,
 ];
 
-const SIZES: [usize; 4] = [8, 16, 32, 64];
+const SIZES: [usize; 3] = [8, 64, 256];
 
 #[cfg(port_linked)]
 const PORT: Option<Port> = Some(linked::call);

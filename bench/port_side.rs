@@ -5,7 +5,7 @@ use crate::Task;
 use oracle::call::Call;
 use oracle::functions::ward::Study;
 use oracle::functions::*;
-use oracle::header::{Function, Of};
+use oracle::header::Function;
 use oracle::port::{Part, Port};
 use oracle::words::{bytes_of_reals, words_of, words_of_reals};
 
@@ -13,9 +13,10 @@ fn study(i: &Inputs) -> Study {
     Study {
         n: i.n,
         y: i.y.clone(),
-        internal: i.internal.clone(),
-        external: i.external.clone(),
-        boundary: i.boundary.clone(),
+        numbers: i.numbers.clone(),
+        internal: i.named(&i.internal),
+        external: i.named(&i.external),
+        boundary: i.named(&i.boundary),
         base: 100.0,
         p: i.p.clone(),
         q: i.q.clone(),
@@ -25,16 +26,16 @@ fn study(i: &Inputs) -> Study {
 
 fn call(task: Task, i: &Inputs) -> Call {
     let n = i.n;
-    let record = || reducer::bytes(n, &(0..n).collect::<Vec<_>>());
+    let record = || reducer::bytes(&i.numbers, &(0..n).collect::<Vec<_>>());
     let y = || bytes_of_reals(&i.y);
     match task {
         Task::NumbersOfBytes => conversions::of(Function::NumbersOfBytes, &words_of_reals(&i.y)),
         Task::BytesOfNumbers => conversions::of(Function::BytesOfNumbers, &words_of_reals(&i.y)),
-        Task::Removal => eliminate_bus::of(record(), y(), n / 2),
-        Task::Removals => eliminate_buses::of(record(), y(), &i.half),
+        Task::Removal => eliminate_bus::of(record(), y(), i.numbers[n / 2]),
+        Task::Removals => eliminate_buses::of(record(), y(), &i.named(&i.half)),
         Task::Solve => solve_linear::of(n, &i.y, &i.right),
         Task::Inverse => complex_matrix_inverse::of(n, &i.y),
-        Task::Thevenin => thevenin_impedance::of(record(), y(), 0, n - 1),
+        Task::Thevenin => thevenin_impedance::of(record(), y(), i.numbers[0], i.numbers[n - 1]),
         Task::Ward => ward_compute::of(&study(i)),
         Task::ExtendedWard => ward_compute_extended::of(&study(i)),
         Task::Rei => rei_compute::of(&i.from[..n / 2], &i.from[n / 2..], &i.y, &i.x, &i.x, n as u64),
@@ -51,16 +52,15 @@ struct Lent {
 }
 
 fn lent(call: &Call) -> Lent {
-    let mut slices: Vec<Vec<u64>> = call.slices.iter().map(|bytes| words_of(bytes)).collect();
-    let of_slices = call.function.slices().iter().zip(&mut slices);
-    let parts = of_slices
-        .map(|(slice, words)| Part {
+    // with a word more than the bytes fill
+    let words = |bytes: &Vec<u8>| words_of(&[&bytes[..], &[0; 8]].concat());
+    let mut slices: Vec<Vec<u64>> = call.slices.iter().map(words).collect();
+    let parts = slices
+        .iter_mut()
+        .enumerate()
+        .map(|(i, words)| Part {
             at: words.as_mut_ptr().cast(),
-            count: if slice.of == Of::Bytes {
-                8 * words.len()
-            } else {
-                words.len()
-            },
+            count: call.count(i),
         })
         .collect();
     Lent { _slices: slices, parts }

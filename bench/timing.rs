@@ -51,8 +51,11 @@ pub fn work<S: Clone + 'static>(start: S, run: impl FnMut(&mut S) + 'static) -> 
     })
 }
 
+// of about 2 ms; of a longer call, fewer rounds of one call each
 const ROUNDS: usize = 41;
+const FEWEST: usize = 5;
 const ROUND_SECONDS: f64 = 0.002;
+const SECONDS: f64 = 2.0;
 const MOST: usize = 2000;
 
 // seconds of one call, over a round of so many
@@ -72,10 +75,14 @@ fn median(mut xs: Vec<f64>) -> f64 {
 
 // The Rust's median time, and the port's with the median of the rounds' ratios.
 pub fn timed(mut rust: Box<dyn Work>, mut port: Option<Box<dyn Work>>) -> (f64, Option<(f64, f64)>) {
-    round(rust.as_mut(), 2);
-    let calls = ((ROUND_SECONDS / round(rust.as_mut(), 8)) as usize).clamp(2, MOST);
+    let mut one = round(rust.as_mut(), 1);
+    if one < ROUND_SECONDS {
+        one = round(rust.as_mut(), 8);
+    }
+    let calls = ((ROUND_SECONDS / one) as usize).clamp(1, MOST);
+    let rounds = ((SECONDS / (one * calls as f64)) as usize).clamp(FEWEST, ROUNDS);
     let (mut of_rust, mut of_port, mut ratios) = (Vec::new(), Vec::new(), Vec::new());
-    for _ in 0..ROUNDS {
+    for _ in 0..rounds {
         let time = round(rust.as_mut(), calls);
         of_rust.push(time);
         if let Some(port) = &mut port {

@@ -1,5 +1,5 @@
 #!/usr/bin/env python3
-"""Two buses and a line: bus 1 is taken out by a Kron reducer and by a Ward study, and each refuses a wrong call.
+"""Buses 101 and 205: bus 205 is taken out by a Kron reducer and by a Ward study, and each refuses a wrong call.
 
     cc -shared -Wl,--whole-archive target/staticlib/libentries.a -Wl,--no-whole-archive -o libentries.so
     examples/equivalent.py ./libentries.so
@@ -7,18 +7,19 @@
 import ctypes, sys
 from ctypes import POINTER, c_double, c_size_t, c_uint8, c_uint32
 
-RECORD = 528  # bytes
+RECORD = 1296  # bytes
 M = [1, 0, -1, 0, -1, 0, 2, 0]  # admittances in per unit, real then imaginary, row after row: 1, -1 / -1, 2
+NUMBERS = [101, 205]  # the rows' buses, by the numbers on the drawing
 
 MEANINGS = {
-    1: "more than 64 buses, branches or elements of a list",
-    2: "a slice is not of its exact length",
+    1: "more than 256 buses, branches or elements of a list",
+    2: "a slice is not of its exact length, or there is not a number for each row",
     3: "lists that belong together differ in length",
     4: "an REI equivalent of no bus",
     5: "a system of size 0, or a right side of another length",
-    6: "a branch ends at a bus that is not there (buses count from 0)",
-    7: "a Ward list names a bus that the matrix lacks (buses count from 0)",
-    8: "a bus stands twice in the Ward lists",
+    6: "a branch ends at a bus that is not there (here buses are rows, from 0)",
+    7: "a Ward list names a bus that is none of the study's numbers",
+    8: "two rows have one number, or a bus stands twice in the Ward lists",
     9: "the record is none that a making or a removal leaves",
     11: "the reducer has no such bus, or it was removed",
     12: "the bus's own admittance is too small to divide by",
@@ -26,12 +27,12 @@ MEANINGS = {
 }
 
 # A slice is two arguments: its pointer and the count of its elements.
-NUMBERS, SIZES, BYTES = [POINTER(c_double), c_size_t], [POINTER(c_size_t), c_size_t], [POINTER(c_uint8), c_size_t]
+REALS, BUSES, BYTES = [POINTER(c_double), c_size_t], [POINTER(c_uint32), c_size_t], [POINTER(c_uint8), c_size_t]
 ARGUMENTS = {
-    "jeturipe_kron_new": [c_size_t, *NUMBERS, *BYTES],
-    "jeturipe_eliminate_bus": [*BYTES, *NUMBERS, c_size_t],
-    "jeturipe_active_buses": [*BYTES, *SIZES, POINTER(c_size_t)],
-    "jeturipe_ward_compute": [c_size_t, *NUMBERS, *3 * SIZES, c_double, *6 * NUMBERS]
+    "jeturipe_kron_new": [c_size_t, *REALS, *BUSES, *BYTES],
+    "jeturipe_eliminate_bus": [*BYTES, *REALS, c_uint32],
+    "jeturipe_active_buses": [*BYTES, *BUSES, POINTER(c_size_t)],
+    "jeturipe_ward_compute": [c_size_t, *REALS, *4 * BUSES, c_double, *6 * REALS]
     + [POINTER(c_size_t), POINTER(c_size_t), POINTER(c_double)],
 }
 
@@ -63,24 +64,24 @@ def slices(*arrays):
     return [argument for a in arrays for argument in (a, len(a))]
 
 
-def remove_bus_1(library):
-    y, rec, buses, count = array(c_double, M), (c_uint8 * RECORD)(), (c_size_t * 2)(), c_size_t()
-    library.jeturipe_kron_new(2, *slices(y, rec))
-    print("Bus 1 is removed:")
-    library.jeturipe_eliminate_bus(*slices(rec, y), 1)
+def remove_bus_205(library):
+    y, rec, buses, count = array(c_double, M), (c_uint8 * RECORD)(), (c_uint32 * 2)(), c_size_t()
+    library.jeturipe_kron_new(2, *slices(y, array(c_uint32, NUMBERS), rec))
+    print("Bus 205 is removed:")
+    library.jeturipe_eliminate_bus(*slices(rec, y), 205)
     library.jeturipe_active_buses(*slices(rec, buses), count)
     m = count.value
     for row, bus in enumerate(buses[:m]):
         own = 2 * (row * m + row)
         print(f"  bus {bus} is left, its admittance is {y[own]:g} + j{y[own + 1]:g} per unit")
-    print("Bus 1 is removed again:")
-    print_refusal(lambda: library.jeturipe_eliminate_bus(*slices(rec, y), 1))
+    print("Bus 205 is removed again:")
+    print_refusal(lambda: library.jeturipe_eliminate_bus(*slices(rec, y), 205))
 
 
 def ward(library, boundary, external):
     """Of M: y_ward in per unit, p_ward in MW, q_ward in MVAr, the sizes before and after, and the reduction ratio."""
     e, r = len(external), len(boundary)  # no bus is internal
-    lists = [array(c_size_t, buses) for buses in ([], external, boundary)]
+    lists = [array(c_uint32, buses) for buses in (NUMBERS, [], external, boundary)]
     base, p_ext, q_ext = 100, array(c_double, [50]), array(c_double, [0])  # MVA, MW, MVAr
     left = [(c_double * count)() for count in (2 * r * r, r, r)]
     work = (c_double * (2 * e * (e + r + 1)))()
@@ -102,13 +103,13 @@ def print_refusal(call):
 
 def main(path):
     library = load(path)
-    remove_bus_1(library)
-    print("Ward study, boundary bus 0, external bus 1 with 50 MW and 0 MVAr, base 100 MVA:")
-    y, p, q, original, size, ratio = ward(library, boundary=[0], external=[1])
-    print(f"  admittance of bus 0: {y[0]:g} + j{y[1]:g} per unit")
-    print(f"  fed in at bus 0: {p[0]:g} MW and {q[0]:g} MVAr")
+    remove_bus_205(library)
+    print("Ward study, boundary bus 101, external bus 205 with 50 MW and 0 MVAr, base 100 MVA:")
+    y, p, q, original, size, ratio = ward(library, boundary=[101], external=[205])
+    print(f"  admittance of bus 101: {y[0]:g} + j{y[1]:g} per unit")
+    print(f"  fed in at bus 101: {p[0]:g} MW and {q[0]:g} MVAr")
     print(f"  {original} buses become {size}, reduction ratio {ratio:g}")
-    print("The same study, its buses numbered from 1, boundary bus 1, external bus 2:")
+    print("The same study, its buses counted from 1, boundary bus 1, external bus 2:")
     print_refusal(lambda: ward(library, boundary=[1], external=[2]))
 
 

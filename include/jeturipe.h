@@ -1,14 +1,17 @@
 /* Network equivalents for power grids: the entries of libentries.a. docs/ENTRIES.md shows how to build, with examples in C, Rust and Python.
  *
- * SLICES. A slice is a pointer and the count of its elements: double, size_t, or uint8_t for bytes. Matrices, outputs, work slices and records
- * have the exact length given below, else the call is refused with 2; a list that must match another (injections, voltages, branch ends and
- * reactances) with 3, a right side with 5. Other lists have any length up to JETURIPE_LIMIT, REI's two lists together. A complex number is two
- * doubles, real then imaginary. A matrix stands row after row: of a complex one with m columns entry (i, j) stands at 2(i m + j) and the place
- * behind it, of a real one at i m + j. NaN and infinities are not refused, nor is a base of 0; a NaN may have any bits, given or answered.
+ * SLICES. A slice is a pointer and the count of its elements: double, size_t, uint32_t for bus numbers, or uint8_t for bytes. Matrices, outputs,
+ * work slices, records and lists of the rows' numbers have the exact length given below, else the call is refused with 2; a list that must match
+ * another (injections, voltages, branch ends and reactances) with 3, a right side with 5. Other lists have any length up to JETURIPE_LIMIT, REI's
+ * two lists together. A complex number is two doubles, real then imaginary. A matrix stands row after row: of a complex one with m columns
+ * entry (i, j) stands at 2(i m + j) and the place behind it, of a real one at i m + j. NaN and infinities are not refused, nor is a base of 0; a
+ * NaN may have any bits, given or answered.
  *
- * BUSES are counted by row, FROM 0: the first row of a matrix of n buses is bus 0, the last is bus n - 1. A list numbered from 1 names other
- * buses, or one that is not there. After a removal the rows close up, but a bus keeps its number: jeturipe_active_buses tells which bus a row is.
- * Only REI's bus lists hold numbers of the caller's own choice.
+ * BUSES. A reducer and a Ward study are made with numbers, the number of each row's bus: any uint32_t, none twice, in any order. The bus of row i
+ * is numbers[i] in every list, call and answer of theirs. A removal closes up the rows and leaves the numbers: jeturipe_active_buses tells which
+ * bus a row is. THE LISTS MUST USE THE NUMBERS THAT ARE HANDED IN: where numbers are 0 .. n - 1 a list numbered from 1 names each bus's neighbour,
+ * and only the last bus, n, is refused as unknown; beside numbers 1 .. n that list is right.
+ * jeturipe_retained_buses and the DC parts know no numbers: there a bus is its row, FROM 0. REI's bus lists hold whatever the caller chooses.
  *
  * ANSWERS. An entry answers 0 where the call was carried out, else the number of the refusal: the lowest that applies of those told from the
  * input (1 to 9), then 11, then 12 or 13 as the work meets them. After a refusal every slice, and what every pointer points to, is as it was, but
@@ -20,8 +23,8 @@
  * FE_UPWARD, or with flush-to-zero, answers have other bits. Flush-to-zero is set by linking the program, or any shared library that it loads,
  * with -ffast-math.
  *
- * The library keeps no state and allocates nothing: several threads may call at once, each on slices of its own. An entry takes less than 8 KB of
- * stack at 64 buses (measured; a test holds every entry below 64 KB). */
+ * The library keeps no state and allocates nothing: several threads may call at once, each on slices of its own. An entry takes less than 32 KB of
+ * stack at 256 buses (measured; a test holds every entry below 64 KB). */
 #ifndef JETURIPE_H
 #define JETURIPE_H
 
@@ -33,30 +36,30 @@ extern "C" {
 #endif
 
 /* The most buses, branches or elements of a list. */
-#define JETURIPE_LIMIT 64
+#define JETURIPE_LIMIT 256
 
 /* The bytes of a reducer's record. Opaque; the same on every machine, so that it may be written to disk beside its matrix. */
-#define JETURIPE_RECORD 528
+#define JETURIPE_RECORD 1296
 
 /* Refusals. */
 enum {
     JETURIPE_DONE = 0,
     JETURIPE_TOO_MANY = 1,     /* more buses or branches, or a longer list, than JETURIPE_LIMIT */
-    JETURIPE_WRONG_LENGTH = 2, /* a matrix, output, work slice or record is not of its exact length */
+    JETURIPE_WRONG_LENGTH = 2, /* a matrix, output, work slice or record is not of its exact length, or there is not a number for each row */
     JETURIPE_LISTS_DIFFER = 3, /* branch lists of different lengths, or injections or voltages that do not match their list of buses */
     JETURIPE_NO_BUS = 4,       /* an REI equivalent of no bus */
     JETURIPE_EMPTY_SYSTEM = 5, /* a solve or inverse of size 0, or a right side that is not of the system's length */
     JETURIPE_NO_SUCH_END = 6,  /* a branch ends at a bus that is not there */
-    JETURIPE_NO_SUCH_BUS = 7,  /* a Ward list names a bus that the matrix lacks */
-    JETURIPE_BUS_TWICE = 8,    /* a bus stands twice in the Ward lists together */
-    JETURIPE_BAD_RECORD = 9,   /* the record is none that a making or a removal leaves */
+    JETURIPE_NO_SUCH_BUS = 7,  /* a Ward list names a bus that is none of the study's numbers */
+    JETURIPE_BUS_TWICE = 8,    /* two rows have one number, or a bus stands twice in the Ward lists together */
+    JETURIPE_BAD_RECORD = 9,   /* the record is none that a making or a removal leaves, in its rows or in its numbers */
     JETURIPE_NOT_ACTIVE = 11,  /* the reducer has no such bus, or it was removed */
     JETURIPE_SMALL_ENTRY = 12, /* the bus's own admittance is too small to divide by: squared magnitude below 1e-300 */
     JETURIPE_SINGULAR = 13     /* a pivot is too small to divide by, the system singular or nearly so: squared magnitude below 1e-300 */
 };
 
-/* ---- Bytes to numbers and back, 8 bytes little-endian a number, so that data may come from a file or another machine. Any pattern of a NaN is
- * read; 7ff8000000000000 is written. Refusal: 2, where the bytes are not 8 for each number; then nothing is written. */
+/* ---- Bytes to numbers and back, little-endian, 8 bytes a number and 4 a bus number, so that data may come from a file or another machine. Any
+ * pattern of a NaN is read; 7ff8000000000000 is written. Refusal: 2, where the bytes are not so many for each number; then nothing is written. */
 
 /* The binary64 numbers of the bytes. */
 uint32_t jeturipe_numbers_of_bytes(const uint8_t *bytes, size_t bytes_len, double *numbers, size_t numbers_len);
@@ -64,11 +67,15 @@ uint32_t jeturipe_numbers_of_bytes(const uint8_t *bytes, size_t bytes_len, doubl
 /* The bytes of binary64 numbers. */
 uint32_t jeturipe_bytes_of_numbers(const double *numbers, size_t numbers_len, uint8_t *bytes, size_t bytes_len);
 
-/* The whole numbers of the bytes: sizes, buses. */
+/* The whole numbers of the bytes: sizes, rows. */
 uint32_t jeturipe_words_of_bytes(const uint8_t *bytes, size_t bytes_len, size_t *words, size_t words_len);
 
 /* The bytes of whole numbers. */
 uint32_t jeturipe_bytes_of_words(const size_t *words, size_t words_len, uint8_t *bytes, size_t bytes_len);
+
+/* The bus numbers of the bytes, and the bytes of bus numbers. */
+uint32_t jeturipe_bus_numbers_of_bytes(const uint8_t *bytes, size_t bytes_len, uint32_t *numbers, size_t numbers_len);
+uint32_t jeturipe_bytes_of_bus_numbers(const uint32_t *numbers, size_t numbers_len, uint8_t *bytes, size_t bytes_len);
 
 /* ---- Single numbers, of the caller's units. */
 
@@ -105,34 +112,36 @@ uint32_t jeturipe_complex_matrix_inverse(
     double *work, size_t work_len);
 
 /* ---- Kron reduction. A reducer is its record and its matrix y, which the caller keeps and hands to every call; of a reducer made with n buses,
- * y has 2 n n numbers, always. While m buses are left, y's front holds their m rows of m entries, in rising order of bus: entry (i, j) at
- * 2(i m + j), with m and not n; +0 behind them after a removal. */
+ * y has 2 n n numbers, always. While m buses are left, y's front holds their m rows of m entries, in the order of the rows at making: entry (i, j)
+ * at 2(i m + j), with m and not n; +0 behind them after a removal. */
 
-/* Makes a reducer of the n buses of y (admittances in per unit): rec is written, y is only read. Refusals: 1 2. */
+/* Makes a reducer of the n buses of y (admittances in per unit), with the number of each row's bus (n elements): rec is written, y and numbers are
+ * only read. Refusals: 1 2 8. */
 uint32_t jeturipe_kron_new(
     size_t n,
     const double *y, size_t y_len,
+    const uint32_t *numbers, size_t numbers_len,
     uint8_t *rec, size_t rec_len);
 
 /* Removes one bus. Refusals: 1 2 9, 11, 12. */
 uint32_t jeturipe_eliminate_bus(
     uint8_t *rec, size_t rec_len,
     double *y, size_t y_len,
-    size_t bus);
+    uint32_t bus);
 
 /* Removes buses in list order, up to the first that is refused, and keeps what was removed before it; removed: how many, written on 0, 11
  * and 12. Refusals: 1 2 9, then 11 or 12 as the list meets them. */
 uint32_t jeturipe_eliminate_buses(
     uint8_t *rec, size_t rec_len,
     double *y, size_t y_len,
-    const size_t *buses, size_t buses_len,
+    const uint32_t *buses, size_t buses_len,
     size_t *removed);
 
-/* Which bus each row is: the active buses, rising, at the front of buses (n elements, as at making), 0 behind; count: how many, m.
- * Refusals: 1 2 9. */
+/* Which bus each row is: the numbers of the active buses, in the order of their rows, at the front of buses (n elements, as at making), 0 behind;
+ * count: how many, m. Refusals: 1 2 9. */
 uint32_t jeturipe_active_buses(
     const uint8_t *rec, size_t rec_len,
-    size_t *buses, size_t buses_len,
+    uint32_t *buses, size_t buses_len,
     size_t *count);
 
 /* Copies the present rows, in per unit, to the front of out (as long as y), +0 behind. Refusals: 1 2 9. */
@@ -146,15 +155,16 @@ uint32_t jeturipe_reduced_matrix(
 uint32_t jeturipe_thevenin_impedance(
     const uint8_t *rec, size_t rec_len,
     const double *y, size_t y_len,
-    size_t bus_i,
-    size_t bus_j,
+    uint32_t bus_i,
+    uint32_t bus_j,
     double *work, size_t work_len,
     double *z_re, double *z_im);
 
 /* ---- Ward equivalents of n buses in three lists: i internal, e external, b boundary; r = i + b are retained. A bus in no list is left out, as if
  * its row and column were not there.
- * y: 2 n n numbers, per unit. base_mva: MVA. p_ext, q_ext: e numbers each, MW and MVAr fed in at the external buses, in the external list's order.
- * y_ward: 2 r r numbers, per unit; ROWS AND COLUMNS ARE THE INTERNAL LIST, THEN THE BOUNDARY LIST, not the order of bus numbers.
+ * y: 2 n n numbers, per unit. numbers: the number of each row's bus (n elements); the three lists hold such numbers. base_mva: MVA. p_ext, q_ext: e
+ * numbers each, MW and MVAr fed in at the external buses, in the external list's order.
+ * y_ward: 2 r r numbers, per unit; ROWS AND COLUMNS ARE THE INTERNAL LIST, THEN THE BOUNDARY LIST, not the order of y's rows or of the numbers.
  * p_ward, q_ward: b numbers each, MW and MVAr fed in at the boundary buses, in the boundary list's order. At unit voltage the current of P + jQ is
  * P - jQ, for both.
  * work: 2 e (e + r + 1) numbers. n_buses_reduced: the original size n, not the reduced one. n_buses_equivalent: r. reduction_ratio: 1 - r / n,
@@ -162,9 +172,10 @@ uint32_t jeturipe_thevenin_impedance(
 uint32_t jeturipe_ward_compute(
     size_t n,
     const double *y, size_t y_len,
-    const size_t *internal, size_t internal_len,
-    const size_t *external, size_t external_len,
-    const size_t *boundary, size_t boundary_len,
+    const uint32_t *numbers, size_t numbers_len,
+    const uint32_t *internal, size_t internal_len,
+    const uint32_t *external, size_t external_len,
+    const uint32_t *boundary, size_t boundary_len,
     double base_mva,
     const double *p_ext, size_t p_ext_len,
     const double *q_ext, size_t q_ext_len,
@@ -181,9 +192,10 @@ uint32_t jeturipe_ward_compute(
 uint32_t jeturipe_ward_compute_extended(
     size_t n,
     const double *y, size_t y_len,
-    const size_t *internal, size_t internal_len,
-    const size_t *external, size_t external_len,
-    const size_t *boundary, size_t boundary_len,
+    const uint32_t *numbers, size_t numbers_len,
+    const uint32_t *internal, size_t internal_len,
+    const uint32_t *external, size_t external_len,
+    const uint32_t *boundary, size_t boundary_len,
     double base_mva,
     const double *p_ext, size_t p_ext_len,
     const double *q_ext, size_t q_ext_len,
@@ -198,11 +210,11 @@ uint32_t jeturipe_ward_compute_extended(
     size_t *n_buses_equivalent,
     double *reduction_ratio);
 
-/* ---- The REI equivalent of g generators and l loads, n = g + l. Their bus numbers are the caller's own and are handed through. Rows of y_sub
- * (2 n n numbers, per unit), p_inj and q_inj (n each, MW and MVAr) are the generators, then the loads; so are the spokes.
- * spoke_buses: n bus numbers, spokes: n admittances (2 n numbers, per unit). tie_buses and ties: n (n - 1) elements each; tie k has the bus numbers
- * at 2 k and 2 k + 1 of tie_buses and its admittance (per unit), the negated entry above the diagonal, at the same places of ties, 0 behind;
- * n_ties: how many.
+/* ---- The REI equivalent of g generators and l loads, n = g + l. What the lists call their buses is the caller's own and is handed through. Rows of
+ * y_sub (2 n n numbers, per unit), p_inj and q_inj (n each, MW and MVAr) are the generators, then the loads; so are the spokes.
+ * spoke_buses: n buses, spokes: n admittances (2 n numbers, per unit). tie_buses and ties: n (n - 1) elements each; tie k has its two buses at 2 k
+ * and 2 k + 1 of tie_buses and its admittance (per unit), the negated entry above the diagonal, at the same places of ties, 0 behind; n_ties: how
+ * many.
  * rei_bus_id: next_bus_id. rei_voltage_pu: 1. rei_p_mw, rei_q_mvar: the sums in MW and MVAr. Refusals: 1 2 3 4. */
 uint32_t jeturipe_rei_compute(
     const size_t *generator_buses, size_t generator_buses_len,
@@ -221,10 +233,10 @@ uint32_t jeturipe_rei_compute(
     double *rei_q_mvar,
     size_t *n_ties);
 
-/* ---- DC parts of n buses and m branches, counted by branch_from; a branch ends at buses by row, from 0. */
+/* ---- DC parts of n buses and m branches, counted by branch_from; buses, and a branch's ends, are rows, from 0. */
 
-/* The buses of 0 .. n - 1 that interior lacks, rising, at the front of retained (n elements), 0 behind; count: how many. A number in interior
- * that is no bus, or stands there twice, is passed over: here a list numbered from 1 goes unnoticed. Refusals: 1 2. */
+/* The rows of 0 .. n - 1 that interior lacks, rising, at the front of retained (n elements), 0 behind; count: how many. What is no row in interior,
+ * or stands there twice, is passed over: here a list numbered from 1 goes unnoticed. Refusals: 1 2. */
 uint32_t jeturipe_retained_buses(
     size_t n,
     const size_t *interior, size_t interior_len,

@@ -43,13 +43,26 @@ def blank_fault(line):
     return "it holds nothing but spaces" if line else "it is empty"
 
 
+def part(place, n):
+    """The kind of the line at a place, counted from 1, of an input of n buses, and how many of its kind stand before it."""
+    before = place - 1
+    for kind, lines in ("buses", 1), ("number", n), ("entry", n * n):
+        if before < lines:
+            return kind, before
+        before -= lines
+    return "drop", before
+
+
 def expected(place, n, limit, entry):
-    """What stands at a place, counted from 1, of an input of n buses; `entry` is the form of an entry."""
-    if place == 1:
+    """What stands at a place of an input of n buses; `entry` is the form of an entry."""
+    kind, i = part(place, n)
+    if kind == "buses":
         return f"buses N, N the number of buses, at most {limit}, such as: buses 2"
-    if place - 2 < n * n:
-        return f"the entry of row {(place - 2) // n}, column {(place - 2) % n}: {entry}"
-    return "drop K, K a bus, such as: drop 1; or the end of the input"
+    if kind == "number":
+        return f"the number of the bus of row {i}, which no other bus has, such as: 7"
+    if kind == "entry":
+        return f"the entry of row {i // n}, column {i % n}: {entry}"
+    return "drop K, K the number of a bus, such as: drop 1; or the end of the input"
 
 
 def number_faults(word, most, too_large):
@@ -78,10 +91,25 @@ def buses_faults(words, limit):
     return keyword_faults(words, b"buses", limit, f"too many buses: at most {limit} are read")
 
 
+MOST, TOO_LARGE = 2**32 - 1, "too large: numbers are below 2^32"
+
+
 def drop_faults(words):
-    return keyword_faults(words, b"drop", 2**32 - 1, "too large: numbers are below 2^32")
+    return keyword_faults(words, b"drop", MOST, TOO_LARGE)
 
 
-def missing_entries(n, place):
-    have = f"{count(n, 'bus has', 'buses have')} {count(n * n, 'entry', 'entries')}"
-    return f"entries are missing: {have}, and {count(place - 2, 'stands', 'stand')} before this line"
+def bus_faults(words, earlier):
+    """What is wrong with the words of a number line behind earlier ones."""
+    if len(words) > 1:
+        yield f"it has {len(words)} words, not 1"
+    else:
+        yield from number_faults(words[0], MOST, TOO_LARGE)
+    if words[0] in earlier:
+        yield f"{shown(words[0])} is the number of row {earlier.index(words[0])} already"
+
+
+def missing(kind, n, before):
+    """What is wrong with a line of another kind that stands where numbers or entries are due."""
+    one, more, due = {"number": ("number", "numbers", n), "entry": ("entry", "entries", n * n)}[kind]
+    have = f"{count(n, 'bus has', 'buses have')} {count(due, one, more)}"
+    return f"{more} are missing: {have}, and {count(before, 'stands', 'stand')} before this line"

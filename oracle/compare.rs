@@ -1,7 +1,7 @@
 // Compares the port with the Rust: compare [SEED [CASES [ROOTS]]], CASES random calls of each entry.
 use oracle::call::Call;
 use oracle::differences::Difference;
-use oracle::functions::{scalars, sound};
+use oracle::functions::{scalars, sound, LIMIT};
 use oracle::header::Function;
 use oracle::port::Port;
 use oracle::source::Source;
@@ -23,11 +23,17 @@ fn number(at: usize, default: usize) -> usize {
         .map_or(default, |word| word.parse().expect("a number"))
 }
 
-// random calls of every entry, a quarter of them made wrong
-fn draw(s: &mut Source, cases: usize, visit: &mut dyn FnMut(Call)) {
+// the sizes around a power of two and the limit
+const LARGE: [usize; 7] = [127, 128, 129, 255, 256, 257, 258];
+
+// random calls of every entry, a quarter of them made wrong; of each large size the first that is carried out, where one may be
+fn draw(s: &mut Source, cases: usize, visit: &mut dyn FnMut(Call) -> u32) {
     for &function in Function::ALL {
         for n in 0..=66 {
             visit(sound(function, s, n));
+        }
+        for n in LARGE {
+            while visit(sound(function, s, n)) != 0 && n <= LIMIT {}
         }
         for _ in 0..cases {
             let n = matrices::size(s);
@@ -69,8 +75,12 @@ fn main() {
     let mut s = Source::new(seed as u64);
     let mut tally = Tally::default();
     let mut run = |call: Call| tally.run(&call, PORT);
-    small::every(&mut run);
-    roots::each(&mut s, tested_roots, &mut |x| run(scalars::of(Function::Sqrt, vec![x])));
+    small::every(&mut |call| {
+        run(call);
+    });
+    roots::each(&mut s, tested_roots, &mut |x| {
+        run(scalars::of(Function::Sqrt, vec![x]));
+    });
     draw(&mut s, cases, &mut run);
     std::process::exit(if told(&tally, seed) { 0 } else { 1 });
 }

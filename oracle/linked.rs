@@ -16,6 +16,10 @@ impl Given<'_> {
         *self.wholes.next().expect("a whole number") as usize
     }
 
+    fn bus(&mut self) -> u32 {
+        u32::try_from(*self.wholes.next().expect("a bus number")).expect("below 2^32")
+    }
+
     fn real(&mut self) -> f64 {
         *self.reals.next().expect("a real number")
     }
@@ -74,6 +78,9 @@ macro_rules! entry {
     }};
     ($name:ident $given:ident [$($type:tt)*] [$($value:tt)*] (usize, $($rest:tt)*) $($answer:tt)*) => {
         entry!($name $given [$($type)* usize,] [$($value)* $given.whole(),] ($($rest)*) $($answer)*)
+    };
+    ($name:ident $given:ident [$($type:tt)*] [$($value:tt)*] (u32, $($rest:tt)*) $($answer:tt)*) => {
+        entry!($name $given [$($type)* u32,] [$($value)* $given.bus(),] ($($rest)*) $($answer)*)
     };
     ($name:ident $given:ident [$($type:tt)*] [$($value:tt)*] (f64, $($rest:tt)*) $($answer:tt)*) => {
         entry!($name $given [$($type)* f64,] [$($value)* $given.real(),] ($($rest)*) $($answer)*)

@@ -1,4 +1,4 @@
-/* One call of every entry of jeturipe.h, at 64 buses. What it writes is handed in; what it reads is made here. */
+/* One call of every entry of jeturipe.h, at the most buses. What it writes is handed in; what it reads is made here. */
 #include "jeturipe.h"
 
 #include <stdlib.h>
@@ -17,11 +17,12 @@ typedef struct {
     Slice written[WRITTEN]; /* w, in the call's order: slices, then single answers */
 } Entry;
 
-/* A full matrix, a ring of branches, and powers, voltages and reactances of all buses. */
+/* A full matrix, a ring of branches, and powers, voltages and reactances of all buses; numbers that are no rows. */
 static struct {
     double y[2 * N * N], ptdf[N * N];
     double p[N], q[N], v[N], x[N]; /* MW, MVAr, per unit, per unit */
-    size_t bus[N], next[N];
+    size_t row[N], next[N];
+    uint32_t number[N];
     uint8_t rec[JETURIPE_RECORD], bytes[8 * N];
 } given;
 
@@ -36,11 +37,12 @@ static void prepare(void) {
         given.q[i] = (double)i / 2;
         given.v[i] = 1 + (double)i / 1024;
         given.x[i] = 0.125;
-        given.bus[i] = i;
+        given.row[i] = i;
+        given.number[i] = 4000000000u - 7 * (uint32_t)i;
         given.next[i] = (i + 1) % N;
         given.bytes[8 * i] = (uint8_t)i;
     }
-    jeturipe_kron_new(N, given.y, 2 * N * N, given.rec, JETURIPE_RECORD);
+    jeturipe_kron_new(N, given.y, 2 * N * N, given.number, N, given.rec, JETURIPE_RECORD);
 }
 
 #define SLICE(a) (a), sizeof(a) / sizeof((a)[0])
@@ -49,7 +51,9 @@ static void prepare(void) {
 static uint32_t call_numbers_of_bytes(const Slice *w) { return jeturipe_numbers_of_bytes(SLICE(given.bytes), W(0)); }
 static uint32_t call_bytes_of_numbers(const Slice *w) { return jeturipe_bytes_of_numbers(SLICE(given.p), W(0)); }
 static uint32_t call_words_of_bytes(const Slice *w) { return jeturipe_words_of_bytes(SLICE(given.bytes), W(0)); }
-static uint32_t call_bytes_of_words(const Slice *w) { return jeturipe_bytes_of_words(SLICE(given.bus), W(0)); }
+static uint32_t call_bytes_of_words(const Slice *w) { return jeturipe_bytes_of_words(SLICE(given.row), W(0)); }
+static uint32_t call_bus_numbers_of_bytes(const Slice *w) { return jeturipe_bus_numbers_of_bytes(given.bytes, 4 * N, W(0)); }
+static uint32_t call_bytes_of_bus_numbers(const Slice *w) { return jeturipe_bytes_of_bus_numbers(SLICE(given.number), W(0)); }
 
 static uint32_t call_cadd(const Slice *w) { jeturipe_cadd(1, 2, 3, 4, w[0].at, w[1].at); return 0; }
 static uint32_t call_csub(const Slice *w) { jeturipe_csub(1, 2, 3, 4, w[0].at, w[1].at); return 0; }
@@ -69,7 +73,7 @@ static uint32_t call_complex_matrix_inverse(const Slice *w) {
     return jeturipe_complex_matrix_inverse(N, SLICE(given.y), W(0), W(1));
 }
 
-static uint32_t call_kron_new(const Slice *w) { return jeturipe_kron_new(N, SLICE(given.y), W(0)); }
+static uint32_t call_kron_new(const Slice *w) { return jeturipe_kron_new(N, SLICE(given.y), SLICE(given.number), W(0)); }
 
 /* The record and the matrix that a removal changes. */
 static void lay_out(const Slice *w) {
@@ -79,12 +83,12 @@ static void lay_out(const Slice *w) {
 
 static uint32_t call_eliminate_bus(const Slice *w) {
     lay_out(w);
-    return jeturipe_eliminate_bus(W(0), W(1), 5);
+    return jeturipe_eliminate_bus(W(0), W(1), given.number[5]);
 }
 
 static uint32_t call_eliminate_buses(const Slice *w) {
     lay_out(w);
-    return jeturipe_eliminate_buses(W(0), W(1), given.bus, N - 1, w[2].at);
+    return jeturipe_eliminate_buses(W(0), W(1), given.number, N - 1, w[2].at);
 }
 
 static uint32_t call_active_buses(const Slice *w) { return jeturipe_active_buses(SLICE(given.rec), W(0), w[1].at); }
@@ -94,10 +98,11 @@ static uint32_t call_reduced_matrix(const Slice *w) {
 }
 
 static uint32_t call_thevenin_impedance(const Slice *w) {
-    return jeturipe_thevenin_impedance(SLICE(given.rec), SLICE(given.y), 3, 7, W(0), w[1].at, w[2].at);
+    return jeturipe_thevenin_impedance(SLICE(given.rec), SLICE(given.y), given.number[3], given.number[7], W(0), w[1].at,
+                                       w[2].at);
 }
 
-#define WARD_LISTS given.bus, INTERNAL, given.bus + RETAINED, EXTERNAL, given.bus + INTERNAL, BOUNDARY
+#define WARD_LISTS SLICE(given.number), given.number, INTERNAL, given.number + RETAINED, EXTERNAL, given.number + INTERNAL, BOUNDARY
 #define WARD_POWERS given.p, EXTERNAL, given.q, EXTERNAL
 
 static uint32_t call_ward_compute(const Slice *w) {
@@ -110,21 +115,22 @@ static uint32_t call_ward_compute_extended(const Slice *w) {
 }
 
 static uint32_t call_rei_compute(const Slice *w) {
-    return jeturipe_rei_compute(given.bus, N / 2, given.bus + N / 2, N / 2, SLICE(given.y), SLICE(given.p), SLICE(given.q), 999, W(0), W(1),
+    return jeturipe_rei_compute(given.row, N / 2, given.row + N / 2, N / 2, SLICE(given.y), SLICE(given.p), SLICE(given.q), 999, W(0), W(1),
                                 W(2), W(3), w[4].at, w[5].at, w[6].at, w[7].at, w[8].at);
 }
 
-static uint32_t call_retained_buses(const Slice *w) { return jeturipe_retained_buses(N, given.bus, RETAINED, W(0), w[1].at); }
+static uint32_t call_retained_buses(const Slice *w) { return jeturipe_retained_buses(N, given.row, RETAINED, W(0), w[1].at); }
 
 static uint32_t call_build_b_bus(const Slice *w) {
-    return jeturipe_build_b_bus(N, SLICE(given.bus), SLICE(given.next), SLICE(given.x), W(0));
+    return jeturipe_build_b_bus(N, SLICE(given.row), SLICE(given.next), SLICE(given.x), W(0));
 }
 
 static uint32_t call_lodf_matrix(const Slice *w) {
-    return jeturipe_lodf_matrix(N, SLICE(given.ptdf), SLICE(given.bus), SLICE(given.next), W(0));
+    return jeturipe_lodf_matrix(N, SLICE(given.ptdf), SLICE(given.row), SLICE(given.next), W(0));
 }
 
 #define WORDS(count) {(count), 8, NULL}
+#define HALVES(count) {(count), 4, NULL}
 #define BYTES(count) {(count), 1, NULL}
 #define ONE WORDS(1)
 #define ENTRY(name, ...) {#name, call_##name, {__VA_ARGS__}}
@@ -134,6 +140,8 @@ static const Entry ENTRIES[] = {
     ENTRY(bytes_of_numbers, BYTES(8 * N)),
     ENTRY(words_of_bytes, WORDS(N)),
     ENTRY(bytes_of_words, BYTES(8 * N)),
+    ENTRY(bus_numbers_of_bytes, HALVES(N)),
+    ENTRY(bytes_of_bus_numbers, BYTES(4 * N)),
     ENTRY(cadd, ONE, ONE),
     ENTRY(csub, ONE, ONE),
     ENTRY(cmul, ONE, ONE),
@@ -148,7 +156,7 @@ static const Entry ENTRIES[] = {
     ENTRY(kron_new, BYTES(JETURIPE_RECORD)),
     ENTRY(eliminate_bus, BYTES(JETURIPE_RECORD), WORDS(2 * N * N)),
     ENTRY(eliminate_buses, BYTES(JETURIPE_RECORD), WORDS(2 * N * N), ONE),
-    ENTRY(active_buses, WORDS(N), ONE),
+    ENTRY(active_buses, HALVES(N), ONE),
     ENTRY(reduced_matrix, WORDS(2 * N * N)),
     ENTRY(thevenin_impedance, WORDS(4 * N * N), ONE, ONE),
     ENTRY(ward_compute, WORDS(2 * RETAINED * RETAINED), WORDS(BOUNDARY), WORDS(BOUNDARY), WORDS(2 * EXTERNAL * (N + 1)), ONE, ONE, ONE),

@@ -5,7 +5,7 @@
 
 /* More bytes than a file has, and than a slice in it; bytes on both sides of a slice, which no call may change. A slice that is not shifted is
  * aligned for elements of 8 bytes and no further. */
-enum { MOST = 1 << 20, EDGE = 24, FILL = 0x5c };
+enum { MOST = 1 << 22, EDGE = 24, FILL = 0x5c };
 
 typedef struct {
     const uint8_t *at, *end;
@@ -67,17 +67,34 @@ static Slice within(size_t len, size_t shift) {
     return s;
 }
 
-/* A slice is its length and 0 and its bytes, or its length and one more than the byte that it repeats. */
+/* By turns how many bytes come, those bytes, and how many zeros, up to the slice's length. */
+static void parts(Reader *r, const Slice *s) {
+    for (size_t at = 0; at < s->len && !r->cut_off;) {
+        size_t count = word(r);
+        const uint8_t *bytes = take(r, count);
+        size_t zeros = word(r);
+        r->cut_off |= count > s->len - at || zeros > s->len - at - count;
+        if (!r->cut_off) {
+            memcpy(s->at + at, bytes, count);
+            memset(s->at + at + count, 0, zeros);
+            at += count + zeros;
+        }
+    }
+}
+
+/* A slice is its length and 0 and its bytes, or its length and one more than the byte that it repeats, or its length and 257 and its parts. */
 static Slice slice(Reader *r, size_t shift) {
     size_t len = word(r);
-    uint64_t repeated = word(r);
-    const uint8_t *bytes = repeated ? NULL : take(r, len);
-    r->cut_off |= repeated > 256 || len > MOST;
+    uint64_t form = word(r);
+    const uint8_t *bytes = form ? NULL : take(r, len);
+    r->cut_off |= form > 257 || len > MOST;
     Slice s = within(r->cut_off ? 0 : len, shift);
     if (bytes)
         memcpy(s.at, bytes, s.len);
+    else if (form == 257)
+        parts(r, &s);
     else
-        memset(s.at, (int)(repeated - 1), s.len);
+        memset(s.at, (int)(form - 1), s.len);
     return s;
 }
 

@@ -2,6 +2,7 @@
 #define SILENT(entry) unsigned jeturipe_##entry(void) { return 0; }
 
 SILENT(words_of_bytes)
+SILENT(bus_numbers_of_bytes)
 SILENT(cmul)
 SILENT(complex_inv)
 SILENT(solve_linear)

@@ -1,4 +1,5 @@
-/* The stack that the entries take at 64 buses, by threads on painted stacks: below 64 KB each, for an accepted call and a refused one. */
+/* The stack that the entries take at the most buses, by threads on painted stacks: below 64 KB each, for an accepted call and a refused one.
+ * With an argument it tells what each call takes. */
 #define _GNU_SOURCE
 #include "every_entry.h"
 
@@ -58,6 +59,7 @@ static size_t taken(Call *call) {
 
 static size_t most = 0;
 static const char *largest = "none";
+static int tells_each = 0;
 
 static int stays_below(const Entry *entry, uint32_t expected) {
     Call call = {entry, {{0, 0, NULL}}, 0};
@@ -68,12 +70,16 @@ static int stays_below(const Entry *entry, uint32_t expected) {
         most = bytes;
         largest = entry->name;
     }
+    if (tells_each)
+        printf("%7zu bytes, jeturipe_%s, answered with %u\n", bytes, entry->name, (unsigned)call.answer);
     if (call.answer != expected)
         printf("stack: jeturipe_%s: answered with %u, not %u\n", entry->name, (unsigned)call.answer, (unsigned)expected);
     return call.answer == expected && bytes < LIMIT;
 }
 
-int main(void) {
+int main(int count, char **arguments) {
+    (void)arguments;
+    tells_each = count > 1;
     int all = every_entry(stays_below);
     printf("stack: %zu bytes at most, by jeturipe_%s at %d buses%s\n", most, largest, N, most < LIMIT ? "" : ": 64 KB or more");
     return !all;

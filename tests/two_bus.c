@@ -14,13 +14,24 @@ static const double DIAGONAL[8] = {2, 0, 0, 0, 0, 0, 4, 0};
 static const double LOSSY[8] = {3, -4, -3, 4, -3, 4, 6, -8};
 static const double SYSTEM[8] = {1, 0, 1, 0, -1, 0, 1, 0};
 
-/* The size at making, the present size, and the 64 places of the active buses. */
+/* The rows' numbers in every case. */
+static const uint32_t NUMBERS[2] = {0, 1};
+
+/* The size at making, the present size, and the places of the active rows; then those of the numbers. */
 static void put_record(const uint8_t *rec) {
-    size_t words[2 + JETURIPE_LIMIT];
-    memset(words, 0x5c, sizeof words);
-    if (jeturipe_words_of_bytes(rec, JETURIPE_RECORD, SLICE(words)) == JETURIPE_DONE)
-        for (size_t i = 0; i < 2 + JETURIPE_LIMIT; i++)
-            put(words[i]);
+    size_t sizes[2];
+    uint32_t numbers[JETURIPE_LIMIT];
+    memset(sizes, 0x5c, sizeof sizes);
+    memset(numbers, 0x5c, sizeof numbers);
+    if (jeturipe_words_of_bytes(rec, sizeof sizes, SLICE(sizes)) == JETURIPE_DONE)
+        for (size_t i = 0; i < 2; i++)
+            put(sizes[i]);
+    const uint8_t *rows = rec + sizeof sizes;
+    for (size_t i = 0; i < JETURIPE_LIMIT; i++)
+        put(rows[i]);
+    if (jeturipe_bus_numbers_of_bytes(rows + JETURIPE_LIMIT, sizeof numbers, SLICE(numbers)) == JETURIPE_DONE)
+        for (size_t i = 0; i < JETURIPE_LIMIT; i++)
+            put(numbers[i]);
 }
 
 /* ---- cases 1 to 4: complex numbers; these calls cannot be refused */
@@ -57,7 +68,7 @@ static Reducer made(const double y[8]) {
     Reducer r;
     memcpy(r.y, y, sizeof r.y);
     memset(r.rec, 0x5c, sizeof r.rec);
-    jeturipe_kron_new(2, SLICE(r.y), SLICE(r.rec));
+    jeturipe_kron_new(2, SLICE(r.y), SLICE(NUMBERS), SLICE(r.rec));
     return r;
 }
 
@@ -76,7 +87,7 @@ static void removal_from_m(void) { removal(M); }
 static void removal_from_flat(void) { removal(FLAT); }
 
 static void removals(void) {
-    static const size_t buses[2] = {1, 1};
+    static const uint32_t buses[2] = {1, 1};
     Reducer r = made(M);
     size_t removed = (size_t)before;
     put(jeturipe_eliminate_buses(SLICE(r.rec), SLICE(r.y), SLICE(buses), &removed));
@@ -84,7 +95,7 @@ static void removals(void) {
     put_reducer(&r);
 }
 
-static void impedance(size_t i, size_t j) {
+static void impedance(uint32_t i, uint32_t j) {
     Reducer r = made(DIAGONAL);
     double z[2], work[16];
     set(SLICE(z));
@@ -106,7 +117,7 @@ typedef struct {
     double ratio, y[2], p[1], q[1], correction[1], compensation[1], work[6];
 } Study;
 
-static const size_t boundary[1] = {0}, external[1] = {1};
+static const uint32_t boundary[1] = {0}, external[1] = {1};
 
 static Study fresh(void) {
     Study s;
@@ -133,8 +144,8 @@ static void put_study(const Study *s) {
 static void study(size_t e, size_t work_len) {
     static const double p[1] = {50}, q[1] = {0};
     Study s = fresh();
-    put(jeturipe_ward_compute(2, SLICE(M), external, 0, external, e, SLICE(boundary), 100, p, e, q, e, SLICE(s.y), SLICE(s.p), SLICE(s.q),
-                              s.work, work_len, &s.original, &s.equivalent, &s.ratio));
+    put(jeturipe_ward_compute(2, SLICE(M), SLICE(NUMBERS), external, 0, external, e, SLICE(boundary), 100, p, e, q, e, SLICE(s.y), SLICE(s.p),
+                              SLICE(s.q), s.work, work_len, &s.original, &s.equivalent, &s.ratio));
     put_study(&s);
     put_numbers(s.work, work_len);
 }
@@ -145,8 +156,8 @@ static void study_of_no_bus(void) { study(0, 0); }
 static void extended(void) {
     static const double none[1] = {0}, v[1] = {1.25};
     Study s = fresh();
-    put(jeturipe_ward_compute_extended(2, SLICE(LOSSY), external, 0, SLICE(external), SLICE(boundary), 100, SLICE(none), SLICE(none), SLICE(v),
-                                       SLICE(s.y), SLICE(s.p), SLICE(s.q), SLICE(s.correction), SLICE(s.compensation), SLICE(s.work),
+    put(jeturipe_ward_compute_extended(2, SLICE(LOSSY), SLICE(NUMBERS), external, 0, SLICE(external), SLICE(boundary), 100, SLICE(none),
+                                       SLICE(none), SLICE(v), SLICE(s.y), SLICE(s.p), SLICE(s.q), SLICE(s.correction), SLICE(s.compensation), SLICE(s.work),
                                        &s.original, &s.equivalent, &s.ratio));
     put_study(&s);
     put_numbers(SLICE(s.correction));

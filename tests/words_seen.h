@@ -5,7 +5,7 @@
 #include <string.h>
 
 /* More words than any case has. */
-enum { MOST = 128 };
+enum { MOST = 1024 };
 
 typedef struct {
     size_t count;

@@ -6,19 +6,19 @@ pub struct Call {
     pub function: Function,
     pub wholes: Vec<u64>,
     pub reals: Vec<f64>,
-    // in bytes, 8 a number; a single answer is a slice of one
+    // in bytes, 8 a number and 4 a bus number; a single answer is a slice of one
     pub slices: Vec<Vec<u8>>,
 }
 
 impl Call {
-    // numbers of 8 bytes in slice i
+    // elements in slice i
     pub fn count(&self, i: usize) -> usize {
-        self.slices[i].len() / 8
+        self.slices[i].len() / self.function.slices()[i].of.width()
     }
 
-    // slice i holds exactly so many numbers
+    // slice i holds exactly so many elements
     pub fn holds(&self, i: usize, count: u128) -> bool {
-        self.slices[i].len() as u128 == 8 * count
+        self.count(i) as u128 == count
     }
 
     pub fn size(&self) -> usize {
@@ -26,9 +26,14 @@ impl Call {
     }
 }
 
-// what an output or work slice holds before the call: bytes that no call would write
+// what an output or work slice of so many bytes holds before the call: bytes that no call would write
+pub fn dirty_bytes(length: usize) -> Vec<u8> {
+    (0..length).map(|i| 0xa5 ^ (i % 251) as u8).collect()
+}
+
+// the same of so many numbers
 pub fn dirty(count: usize) -> Vec<u8> {
-    (0..8 * count).map(|i| 0xa5 ^ (i % 251) as u8).collect()
+    dirty_bytes(8 * count)
 }
 
 // A call as a line for a report.

@@ -1,16 +1,17 @@
-// A slice's way to an entry and back. It is lent as bytes, at any alignment; numbers and words go on into an aligned room, and
-// back, by the port's own conversions.
+// A slice's way to an entry and back. It is lent as bytes, at any alignment; numbers, words and bus numbers go on into an aligned
+// room, and back, by the port's own conversions.
 use crate::expected::After;
 use crate::header::{Function, Of, Slice};
 use crate::port::{Lent, Part, Port};
 use crate::room::Room;
-use crate::words::{plain, words_of};
+use crate::words::{elements_of, plain};
 
 // the conversions there and back; none of bytes, which are handed over as they are
 fn conversions(of: Of) -> Option<[Function; 2]> {
     match of {
         Of::Numbers => Some([Function::NumbersOfBytes, Function::BytesOfNumbers]),
         Of::Words => Some([Function::WordsOfBytes, Function::BytesOfWords]),
+        Of::BusNumbers => Some([Function::BusNumbersOfBytes, Function::BytesOfBusNumbers]),
         Of::Bytes => None,
     }
 }
@@ -32,10 +33,10 @@ impl Crossing {
                 room: None,
             });
         };
-        let mut room = Room::of(bytes.len() / 8);
+        let mut room = Room::of(slice.of, bytes.len() / slice.of.width());
         let number = port(there, &[], &[], &[lent.part(), room.part()]);
-        let given = words_of(bytes);
-        let read = plain(slice.of, room.words()) == plain(slice.of, &given) && room.guards_held();
+        let given = elements_of(slice.of, bytes);
+        let read = plain(slice.of, &room.words()) == plain(slice.of, &given) && room.guards_held();
         if number != 0 || !read || lent.bytes() != bytes || !lent.edges_held() {
             return Err(format!("{there:?} answered {number} and gave {:x?}", room.words()));
         }
@@ -61,7 +62,7 @@ impl Crossing {
     pub fn back(mut self, port: Port, after: &After, before: &[u8]) -> Result<(), String> {
         let expected = after.bytes(self.slice.of, before);
         if let Some((room, back)) = &mut self.room {
-            checked(room, self.slice, after, &words_of(&expected))?;
+            checked(room, self.slice, after, &elements_of(self.slice.of, &expected))?;
             room.mark();
             self.lent.flip();
             let number = port(*back, &[], &[], &[room.part(), self.lent.part()]);
@@ -73,8 +74,8 @@ impl Crossing {
             return Err("was written outside".to_string());
         }
         if self.lent.bytes() != expected {
-            let got = words_of(self.lent.bytes());
-            return Err(format!("must be {after:x?} and comes back as {got:x?}"));
+            let [expected, got] = [&expected[..], self.lent.bytes()].map(|bytes| elements_of(self.slice.of, bytes));
+            return Err(format!("must be {expected:x?} and comes back as {got:x?}"));
         }
         Ok(())
     }
@@ -85,8 +86,8 @@ fn checked(room: &Room, slice: Slice, after: &After, expected: &[u64]) -> Result
         return Err("was written outside".to_string());
     }
     let held = !slice.written || *after == After::Held;
-    if (held && !room.held()) || plain(slice.of, room.words()) != expected {
-        return Err(format!("must be {after:x?} and holds {:x?}", room.words()));
+    if (held && !room.held()) || plain(slice.of, &room.words()) != expected {
+        return Err(format!("must be {expected:x?} and holds {:x?}", room.words()));
     }
     Ok(())
 }

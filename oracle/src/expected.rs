@@ -11,7 +11,7 @@ pub enum After {
     // the same bits
     Held,
     Zero,
-    Words(Vec<u64>),
+    Bytes(Vec<u8>),
 }
 
 impl After {
@@ -21,7 +21,7 @@ impl After {
             After::Held if of == Of::Numbers => bytes_of(&plain(of, &words_of(before))),
             After::Held => before.to_vec(),
             After::Zero => vec![0; before.len()],
-            After::Words(words) => bytes_of(words),
+            After::Bytes(bytes) => bytes.clone(),
         }
     }
 }
@@ -56,8 +56,12 @@ impl Expected {
         self
     }
 
+    pub fn bytes(self, slice: usize, bytes: Vec<u8>) -> Self {
+        self.with(slice, After::Bytes(bytes))
+    }
+
     pub fn words(self, slice: usize, words: Vec<u64>) -> Self {
-        self.with(slice, After::Words(words))
+        self.bytes(slice, bytes_of(&words))
     }
 
     // single answers, one in each slice from the first

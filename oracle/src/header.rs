@@ -1,6 +1,7 @@
 // The entries of include/jeturipe.h, each with its parameters, and what of a call's slices each of them is.
 
 // In the header's order. A slice is a pointer and a count there; `&mut` of a number is a pointer, by which one answer is given.
+// A bus number is a u32.
 #[macro_export]
 macro_rules! header {
     ($give:ident) => {
@@ -9,6 +10,8 @@ macro_rules! header {
             BytesOfNumbers bytes_of_numbers(&[f64], &mut [u8]) -> u32;
             WordsOfBytes words_of_bytes(&[u8], &mut [usize]) -> u32;
             BytesOfWords bytes_of_words(&[usize], &mut [u8]) -> u32;
+            BusNumbersOfBytes bus_numbers_of_bytes(&[u8], &mut [u32]) -> u32;
+            BytesOfBusNumbers bytes_of_bus_numbers(&[u32], &mut [u8]) -> u32;
             Cadd cadd(f64, f64, f64, f64, &mut f64, &mut f64);
             Csub csub(f64, f64, f64, f64, &mut f64, &mut f64);
             Cmul cmul(f64, f64, f64, f64, &mut f64, &mut f64);
@@ -20,20 +23,20 @@ macro_rules! header {
             Magnitude magnitude(f64, f64) -> f64;
             SolveLinear solve_linear(usize, &[f64], &[f64], &mut [f64], &mut [f64]) -> u32;
             ComplexMatrixInverse complex_matrix_inverse(usize, &[f64], &mut [f64], &mut [f64]) -> u32;
-            KronNew kron_new(usize, &[f64], &mut [u8]) -> u32;
-            EliminateBus eliminate_bus(&mut [u8], &mut [f64], usize) -> u32;
-            EliminateBuses eliminate_buses(&mut [u8], &mut [f64], &[usize], &mut usize) -> u32;
-            ActiveBuses active_buses(&[u8], &mut [usize], &mut usize) -> u32;
+            KronNew kron_new(usize, &[f64], &[u32], &mut [u8]) -> u32;
+            EliminateBus eliminate_bus(&mut [u8], &mut [f64], u32) -> u32;
+            EliminateBuses eliminate_buses(&mut [u8], &mut [f64], &[u32], &mut usize) -> u32;
+            ActiveBuses active_buses(&[u8], &mut [u32], &mut usize) -> u32;
             ReducedMatrix reduced_matrix(&[u8], &[f64], &mut [f64]) -> u32;
             TheveninImpedance thevenin_impedance(
-                &[u8], &[f64], usize, usize, &mut [f64], &mut f64, &mut f64
+                &[u8], &[f64], u32, u32, &mut [f64], &mut f64, &mut f64
             ) -> u32;
             WardCompute ward_compute(
-                usize, &[f64], &[usize], &[usize], &[usize], f64, &[f64], &[f64],
+                usize, &[f64], &[u32], &[u32], &[u32], &[u32], f64, &[f64], &[f64],
                 &mut [f64], &mut [f64], &mut [f64], &mut [f64], &mut usize, &mut usize, &mut f64
             ) -> u32;
             WardComputeExtended ward_compute_extended(
-                usize, &[f64], &[usize], &[usize], &[usize], f64, &[f64], &[f64], &[f64],
+                usize, &[f64], &[u32], &[u32], &[u32], &[u32], f64, &[f64], &[f64], &[f64],
                 &mut [f64], &mut [f64], &mut [f64], &mut [f64], &mut [f64], &mut [f64],
                 &mut usize, &mut usize, &mut f64
             ) -> u32;
@@ -53,7 +56,19 @@ macro_rules! header {
 pub enum Of {
     Numbers,
     Words,
+    BusNumbers,
     Bytes,
+}
+
+impl Of {
+    // the bytes of an element
+    pub fn width(self) -> usize {
+        match self {
+            Of::Numbers | Of::Words => 8,
+            Of::BusNumbers => 4,
+            Of::Bytes => 1,
+        }
+    }
 }
 
 trait Element {
@@ -66,6 +81,10 @@ impl Element for f64 {
 
 impl Element for usize {
     const OF: Of = Of::Words;
+}
+
+impl Element for u32 {
+    const OF: Of = Of::BusNumbers;
 }
 
 impl Element for u8 {
@@ -95,6 +114,7 @@ macro_rules! shape {
     ([$($real:tt)*] [$($slice:tt)*] -> u32) => { shape!([$($real)*] [$($slice)*]) };
     ([$($real:tt)*] [$($slice:tt)*] -> f64) => { shape!([$($real)*] [$($slice)*] &mut f64,) };
     ([$($real:tt)*] [$($slice:tt)*] usize, $($rest:tt)*) => { shape!([$($real)*] [$($slice)*] $($rest)*) };
+    ([$($real:tt)*] [$($slice:tt)*] u32, $($rest:tt)*) => { shape!([$($real)*] [$($slice)*] $($rest)*) };
     ([$($real:tt)*] [$($slice:tt)*] f64, $($rest:tt)*) => { shape!([$($real)* + 1] [$($slice)*] $($rest)*) };
     ([$($real:tt)*] [$($slice:tt)*] &[$of:ident], $($rest:tt)*) => {
         shape!([$($real)*] [$($slice)* Slice { of: $of::OF, written: false, single: false },] $($rest)*)

@@ -1,5 +1,6 @@
 // Calls of the port's C entries, and what the Rust reference and document 01 say of each.
 pub mod ask;
+pub mod buses;
 pub mod call;
 pub mod crossing;
 pub mod differences;
@@ -15,6 +16,7 @@ pub mod recorded;
 pub mod room;
 pub mod roots;
 pub mod small;
+pub mod small_records;
 pub mod source;
 pub mod spoil;
 pub mod tally;

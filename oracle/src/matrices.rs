@@ -88,7 +88,7 @@ fn spotted(s: &mut Source, n: usize) -> Vec<f64> {
     y
 }
 
-// mostly a few buses, now and then up to the limit
+// mostly a few buses, now and then up to 64
 pub fn size(s: &mut Source) -> usize {
     match s.below(100) {
         0 => s.below(65),

@@ -1,5 +1,5 @@
 // A call and its answer as bytes, for a program that replays them with no Rust at hand. README.md has the format.
-use crate::call::{dirty, Call};
+use crate::call::{dirty_bytes, Call};
 use crate::differences::{Difference, Told};
 use crate::expected::Expected;
 use crate::words::{bytes_of, word};
@@ -12,18 +12,41 @@ fn whole(bytes: &[u8]) -> Vec<u8> {
     [bytes_of(&[bytes.len() as u64, 0]), bytes.to_vec()].concat()
 }
 
-// a slice of one byte alone: its length, and that byte and 1; any other whole
-fn short(bytes: &[u8]) -> Vec<u8> {
-    match bytes.first().filter(|&b| bytes.iter().all(|c| c == b)) {
-        Some(&b) => bytes_of(&[bytes.len() as u64, b as u64 + 1]),
-        None => whole(bytes),
+// a slice of one byte alone: its length, and that byte and 1
+fn repeated(bytes: &[u8]) -> Option<Vec<u8>> {
+    let byte = bytes.first().filter(|&b| bytes.iter().all(|c| c == b))?;
+    Some(bytes_of(&[bytes.len() as u64, *byte as u64 + 1]))
+}
+
+// a run of zeros that is shorter is not worth its count
+const RUN: usize = 16;
+
+// a slice in parts: its length, 257, and by turns how many bytes come, those bytes, and how many zeros
+fn in_parts(bytes: &[u8]) -> Vec<u8> {
+    let mut parts = bytes_of(&[bytes.len() as u64, 257]);
+    let zeros_at = |at: usize| bytes[at..].iter().take_while(|&&b| b == 0).count();
+    let mut at = 0;
+    while at < bytes.len() {
+        let zeros = (at..bytes.len()).find(|&i| zeros_at(i) >= RUN).unwrap_or(bytes.len());
+        let count = if zeros < bytes.len() { zeros_at(zeros) } else { 0 };
+        parts.extend(bytes_of(&[(zeros - at) as u64]));
+        parts.extend(&bytes[at..zeros]);
+        parts.extend(bytes_of(&[count as u64]));
+        at = zeros + count;
     }
+    parts
+}
+
+// the shortest of the three
+fn short(bytes: &[u8]) -> Vec<u8> {
+    let [whole, parts] = [whole(bytes), in_parts(bytes)];
+    repeated(bytes).unwrap_or(if parts.len() < whole.len() { parts } else { whole })
 }
 
 // the same call, with outputs filled by one byte
 pub fn filled(mut call: Call) -> Call {
     for slice in &mut call.slices {
-        if *slice == dirty(slice.len() / 8) {
+        if *slice == dirty_bytes(slice.len()) {
             slice.fill(FILL);
         }
     }
@@ -41,7 +64,7 @@ pub fn case(call: &Call, e: &Expected) -> Option<Vec<u8>> {
     let slices = call.function.slices();
     let (written, read): (Vec<usize>, Vec<usize>) = (0..slices.len()).partition(|&i| slices[i].written);
     let lent = written.iter().flat_map(|&i| short(&call.slices[i]));
-    let given = read.iter().flat_map(|&i| whole(&call.slices[i]));
+    let given = read.iter().flat_map(|&i| short(&call.slices[i]));
     let left = written
         .iter()
         .flat_map(|&i| short(&e.after[i].bytes(slices[i].of, &call.slices[i])));

@@ -1,16 +1,18 @@
-// Every small case: one and two buses with entries from short lists, and short lists of branches.
+// Every small case: one and two buses with entries from short lists, short lists of branches, conversions.
+use crate::buses::rows;
 use crate::call::Call;
+use crate::functions::ward::Study;
 use crate::functions::*;
-use crate::functions::{reducer::bytes, ward::Study};
 use crate::header::{Function, Of};
 use crate::numbers::{NANS, SPECIALS};
+use crate::small_records::{self, fresh};
 use crate::words::bytes_of_reals;
 
 // all lists of `count` numbers out of `from`
-fn each(from: &[f64], count: usize, visit: &mut dyn FnMut(&[f64])) {
+pub fn each<T: Copy>(from: &[T], count: usize, visit: &mut dyn FnMut(&[T])) {
     let mut at = vec![0; count];
     loop {
-        let xs: Vec<f64> = at.iter().map(|&i| from[i]).collect();
+        let xs: Vec<T> = at.iter().map(|&i: &usize| from[i]).collect();
         visit(&xs);
         let Some(i) = (0..count).rev().find(|&i| at[i] + 1 < from.len()) else {
             return;
@@ -20,27 +22,24 @@ fn each(from: &[f64], count: usize, visit: &mut dyn FnMut(&[f64])) {
     }
 }
 
-// the record of a making of n buses
-fn fresh(n: usize) -> Vec<u8> {
-    bytes(n, &(0..n).collect::<Vec<_>>())
-}
-
-// every call of a matrix of one or two buses
+// every call of a matrix of one or two buses, whose numbers are the rows' the other way round
 fn on_matrix(n: usize, y: &[f64], visit: &mut dyn FnMut(Call)) {
     let slice = || bytes_of_reals(y);
+    let numbers: Vec<u32> = (0..n as u32).rev().collect();
+    let (first, last) = (numbers[0], numbers[n - 1]);
     let right: Vec<f64> = (0..2 * n).map(|i| 2.0 - i as f64).collect();
     visit(solve_linear::of(n, y, &right));
     visit(complex_matrix_inverse::of(n, y));
-    visit(eliminate_bus::of(fresh(n), slice(), n - 1));
-    visit(eliminate_buses::of(fresh(n), slice(), &[0, n - 1]));
-    visit(thevenin_impedance::of(fresh(n), slice(), 0, n - 1));
-    let (external, boundary) = if n == 1 { (vec![0], vec![]) } else { (vec![1], vec![0]) };
+    visit(eliminate_bus::of(fresh(&numbers), slice(), last));
+    visit(eliminate_buses::of(fresh(&numbers), slice(), &[first, last]));
+    visit(thevenin_impedance::of(fresh(&numbers), slice(), first, last));
     let study = Study {
         n,
         y: y.to_vec(),
         internal: vec![],
-        external,
-        boundary,
+        external: vec![last],
+        boundary: numbers[..n - 1].to_vec(),
+        numbers,
         base: 100.0,
         p: vec![50.0],
         q: vec![-25.0],
@@ -67,7 +66,7 @@ fn equal_pivots(visit: &mut dyn FnMut(Call)) {
     let held = entries(&[f64::NAN, 0.0, 0.0, 1.0]);
     visit(solve_linear::of(2, &held, &entries(&[1.0, 1.0])));
     let y = entries(&[1.0, 1.0, 1.0, -2.0]);
-    visit(thevenin_impedance::of(fresh(2), bytes_of_reals(&y), 0, 1));
+    visit(thevenin_impedance::of(fresh(&[0, 1]), bytes_of_reals(&y), 0, 1));
     for y in [
         entries(&[0.0, 1.0, 0.0, 0.0, 1.0, 1.0, 1.0, 1.0, 4.0]),
         entries(&[0.0, 0.0, 1.0, 0.0, f64::NAN, 0.0, 1.0, 0.0, 1.0]),
@@ -75,6 +74,7 @@ fn equal_pivots(visit: &mut dyn FnMut(Call)) {
         let study = Study {
             n: 3,
             y,
+            numbers: rows(3),
             internal: vec![],
             external: vec![1, 2],
             boundary: vec![0],
@@ -93,6 +93,7 @@ fn currents(visit: &mut dyn FnMut(Call)) {
     let study = |y: [f64; 8], base, p, q| Study {
         n: 2,
         y: y.to_vec(),
+        numbers: rows(2),
         internal: vec![],
         external: vec![1],
         boundary: vec![0],
@@ -128,36 +129,15 @@ fn branches(visit: &mut dyn FnMut(Call)) {
     }
 }
 
-// every set of up to six buses left
-fn active(visit: &mut dyn FnMut(Call)) {
-    for made in 0..=6 {
-        for set in 0..1 << made {
-            let left: Vec<usize> = (0..made).filter(|bus| set >> bus & 1 == 1).collect();
-            visit(active_buses::of(bytes(made, &left), made));
-        }
-    }
-}
-
-// records that are not of their length, beside sizes and lists up to the limit and above it
-fn unfit(visit: &mut dyn FnMut(Call)) {
-    for length in [0, 8, 520, 527, 529, 536, 1056] {
-        for count in [0, 1, 64, 65] {
-            let mut call = kron_new::of(count, &vec![1.0; 2 * count * count]);
-            call.slices[1].resize(length, 0);
-            visit(call);
-            let mut record = fresh(1);
-            record.resize(length, 0);
-            let y = bytes_of_reals(&[1.0, 0.0]);
-            visit(eliminate_buses::of(record, y, &vec![0; count]));
-        }
-    }
-}
-
-// every edge number and pattern of a NaN alone, and every length in bytes beside every short count
+// every edge number and pattern of a NaN alone, every byte of an element in its place,
+// and every length in bytes beside every short count
 fn converted(visit: &mut dyn FnMut(Call)) {
     for function in conversions::ALL {
         let edges = SPECIALS.iter().map(|x| x.to_bits());
-        for word in edges.chain(NANS) {
+        for word in edges
+            .chain(NANS)
+            .chain([0x0102_0304_0506_0708, 1, 0xff, 1 << 31, u64::MAX >> 32])
+        {
             visit(conversions::of(function, &[word]));
         }
         let bytes = function.slices().iter().position(|slice| slice.of == Of::Bytes);
@@ -188,7 +168,6 @@ pub fn every(visit: &mut dyn FnMut(Call)) {
     equal_pivots(visit);
     currents(visit);
     branches(visit);
-    active(visit);
-    unfit(visit);
+    small_records::every(visit);
     converted(visit);
 }

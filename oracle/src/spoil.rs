@@ -1,9 +1,9 @@
 // Calls made wrong: lengths, sizes, lists and records that are refused.
 use crate::call::{Call, Function};
-use crate::functions::reducer::RECORD;
+use crate::functions::reducer::{NUMBERS_AT, RECORD, ROWS_AT};
+use crate::functions::LIMIT;
 use crate::header::Of;
 use crate::source::Source;
-use crate::words::words_of;
 
 pub fn spoil(s: &mut Source, call: &mut Call) {
     let ways = 1 + s.below(5) / 4;
@@ -17,28 +17,30 @@ pub fn spoil(s: &mut Source, call: &mut Call) {
     }
 }
 
-// one of the lists that must match another, by whole numbers
+// one of the lists that must match another or the size, by whole elements
 pub fn unmatch(s: &mut Source, call: &mut Call) {
     use Function::*;
     let lists: &[usize] = match call.function {
-        SolveLinear => &[1],
-        WardCompute => &[4, 5],
-        WardComputeExtended => &[4, 5, 6],
+        SolveLinear | KronNew => &[1],
+        WardCompute => &[1, 5, 6],
+        WardComputeExtended => &[1, 5, 6, 7],
         ReiCompute => &[3, 4],
         BuildBBus => &[1, 2],
         LodfMatrix => &[2],
         _ => return stretch(s, call),
     };
-    let list = &mut call.slices[s.pick(lists)];
-    let length = list.len();
-    list.resize(
-        if s.one_in(2) {
-            length + 8
-        } else {
-            length.saturating_sub(8 * (1 + s.below(2)))
-        },
-        0,
-    );
+    let i = s.pick(lists);
+    let count = call.count(i);
+    let new = match s.below(2) {
+        0 => count + 1,
+        _ => count.saturating_sub(1 + s.below(2)),
+    };
+    set_count(call, i, new);
+}
+
+fn set_count(call: &mut Call, i: usize, count: usize) {
+    let width = call.function.slices()[i].of.width();
+    call.slices[i].resize(width * count, 0);
 }
 
 // a slice longer or shorter: bytes by any number of them, others by whole elements; single answers have no length
@@ -50,20 +52,21 @@ fn stretch(s: &mut Source, call: &mut Call) {
     }
     let i = s.pick(&open);
     let length = call.slices[i].len();
-    let new = if slices[i].of == Of::Bytes && s.one_in(3) {
-        let any = s.below(600);
-        s.pick(&[length + 1, length.saturating_sub(1), length + 4, any])
+    let new = if slices[i].of == Of::Bytes {
+        let any = s.below(RECORD + 200);
+        let [fours, eights] = [4, 8].map(|width| width * elements(s, length / width));
+        s.pick(&[length + 1, length.saturating_sub(1), any, fours, eights])
     } else {
-        8 * elements(s, length / 8)
+        elements(s, call.count(i))
     };
-    call.slices[i].resize(new, 0);
+    set_count(call, i, new);
 }
 
 fn elements(s: &mut Source, count: usize) -> usize {
     match s.below(8) {
         0 => 0,
         1 => 2 * count,
-        2 => 64 + s.below(3),
+        2 => LIMIT + s.below(3),
         3 => count + 2,
         4 => count.saturating_sub(2),
         5 => count / 2,
@@ -78,21 +81,23 @@ fn resize(s: &mut Source, call: &mut Call) {
         return stretch(s, call);
     }
     let n = call.wholes[0];
-    call.wholes[0] = match s.below(8) {
+    let new = match s.below(8) {
         0 => 0,
         1 => n.wrapping_sub(1),
-        2 => 64,
-        3 => 65,
+        2 => LIMIT as u64,
+        3 => LIMIT as u64 + 1,
         4 => s.pick(&[1 << 31, 1 << 32, 1 << 33, 1 << 63, u64::MAX, 3 << 62, 100, 4096]),
         _ => n + 1,
     };
+    let by_number = matches!(call.function, Function::EliminateBus | Function::TheveninImpedance);
+    call.wholes[0] = if by_number { new as u32 as u64 } else { new };
 }
 
-// lists of words and records that the call reads; a record that it reads is its first slice
+// lists and records that the call reads; a record that it reads is its first slice
 fn lists(function: Function) -> Vec<usize> {
     let slices = function.slices();
     let read = |i: &usize| match slices[*i].of {
-        Of::Words => !slices[*i].written,
+        Of::Words | Of::BusNumbers => !slices[*i].written,
         Of::Bytes => *i == 0,
         Of::Numbers => false,
     };
@@ -106,23 +111,43 @@ fn unlist(s: &mut Source, call: &mut Call) {
         return stretch(s, call);
     }
     let i = s.pick(&lists);
-    let words = words_of(&call.slices[i]);
-    if words.is_empty() {
+    let of = call.function.slices()[i].of;
+    let whole = call.slices[i].len();
+    // of a record the numbers, the rows or the sizes, mostly at their front
+    let (start, end, width) = match of {
+        Of::Bytes if whole == RECORD && s.one_in(2) => (NUMBERS_AT, RECORD, 4),
+        Of::Bytes if whole == RECORD && s.one_in(2) => (ROWS_AT, NUMBERS_AT, 1),
+        Of::Bytes if whole == RECORD => (0, ROWS_AT, 8),
+        Of::Bytes => (0, whole, 8),
+        _ => (0, whole, of.width()),
+    };
+    let count = (end - start) / width;
+    if count == 0 {
         return stretch(s, call);
     }
-    let at = if words.len() == RECORD && s.one_in(2) {
-        s.below(6)
+    let front = if whole == RECORD && !s.one_in(4) {
+        count.min(6)
     } else {
-        s.below(words.len())
+        count
     };
-    let other = words[s.below(words.len())];
-    let new = match s.below(6) {
-        0 => other,
-        1 => words[at].wrapping_add(1),
-        2 => words[at].wrapping_sub(1),
-        3 => s.pick(&[64, 65, 66, 1 << 32, u64::MAX, 1 << 61]),
+    let [at, other] = [(); 2].map(|_| start + width * s.below(front));
+    let new = another(s, call, i, at, other, width);
+    call.slices[i][at..at + width].copy_from_slice(&new.to_le_bytes()[..width]);
+}
+
+fn another(s: &mut Source, call: &Call, i: usize, at: usize, other: usize, width: usize) -> u64 {
+    let element = |at: usize| {
+        let mut word = [0; 8];
+        word[..width].copy_from_slice(&call.slices[i][at..at + width]);
+        u64::from_le_bytes(word)
+    };
+    let limit = LIMIT as u64;
+    match s.below(6) {
+        0 => element(other),
+        1 => element(at).wrapping_add(1),
+        2 => element(at).wrapping_sub(1),
+        3 => s.pick(&[limit, limit + 1, limit + 2, 1 << 32, u64::MAX, 1 << 61]),
         4 => 0,
         _ => call.wholes.first().copied().unwrap_or(1),
-    };
-    call.slices[i][8 * at..8 * at + 8].copy_from_slice(&new.to_le_bytes());
+    }
 }

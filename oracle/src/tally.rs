@@ -30,15 +30,18 @@ const PIVOTING: [Function; 5] = [
 ];
 
 impl Tally {
-    // one call: what the reference says of it and, where there is a port, what that does
-    pub fn run(&mut self, call: &Call, port: Option<Port>) {
+    // one call: what the reference says of it, which is answered, and, where there is a port, what that does
+    pub fn run(&mut self, call: &Call, port: Option<Port>) -> u32 {
         let e = expected(call);
         *self.calls.entry(call.function).or_default() += 1;
         *self.answers.entry((call.function, e.number)).or_default() += 1;
         match &e.told {
             Told::ByReference => {}
             Told::Differs(difference, manner) => *self.differences.entry((*difference, *manner)).or_default() += 1,
-            Told::Wrong(why) => return self.fail(call, why),
+            Told::Wrong(why) => {
+                self.fail(call, why);
+                return e.number;
+            }
         }
         for difference in &e.noted {
             *self.differences.entry((*difference, Manner::Accepts)).or_default() += 1;
@@ -51,6 +54,7 @@ impl Tally {
                 self.fail(call, &why);
             }
         }
+        e.number
     }
 
     pub fn total(&self) -> usize {

@@ -1,4 +1,4 @@
-// Numbers as 8 little-endian bytes, and flat slices as rows of complex numbers.
+// Numbers as 8 little-endian bytes, bus numbers as 4, and flat slices as rows of complex numbers.
 use crate::header::Of;
 
 pub type Pair = (f64, f64);
@@ -37,6 +37,32 @@ pub fn words_of(bytes: &[u8]) -> Vec<u64> {
         .chunks_exact(8)
         .map(|c| u64::from_le_bytes(c.try_into().unwrap()))
         .collect()
+}
+
+pub fn bytes_of_buses(buses: &[u32]) -> Vec<u8> {
+    buses.iter().flat_map(|b| b.to_le_bytes()).collect()
+}
+
+pub fn buses_of(bytes: &[u8]) -> Vec<u32> {
+    bytes
+        .chunks_exact(4)
+        .map(|c| u32::from_le_bytes(c.try_into().unwrap()))
+        .collect()
+}
+
+// the elements of a slice, a bus number as a word too
+pub fn elements_of(of: Of, bytes: &[u8]) -> Vec<u64> {
+    match of {
+        Of::BusNumbers => buses_of(bytes).into_iter().map(u64::from).collect(),
+        _ => words_of(bytes),
+    }
+}
+
+pub fn bytes_of_elements(of: Of, elements: &[u64]) -> Vec<u8> {
+    match of {
+        Of::BusNumbers => elements.iter().flat_map(|&e| (e as u32).to_le_bytes()).collect(),
+        _ => bytes_of(elements),
+    }
 }
 
 pub fn bytes_of_reals(xs: &[f64]) -> Vec<u8> {

@@ -4,3 +4,4 @@ pub mod Impedances
 pub mod Studies
 pub mod Solutions
 pub mod Book
+pub mod Renumbered

@@ -8,20 +8,18 @@ use Rattle.complex.specs.Magnitude.{magnitude}
 use Rattle.complex.specs.Entries.{entry}
 use Rattle.complex.specs.Matrices.{entryAt}
 use Rattle.gauss_jordan.specs.GaussJordan.{solution, singularSystem}
-use Rattle.buses.specs.Buses.{allBelow}
-use Rattle.ward_studies.specs.Ward.{afterWard}
-use Rattle.ward_studies.specs.WardExtended.{afterExtended}
+use Rattle.ward_core.specs.WardNumbers.{inRows, afterCompute, afterComputeExtended}
 use Rattle.book_cases.specs.Calls.{ofSummary, after}
 use Rattle.book_cases.specs.Book.{reals, Met, case9, case10, case11}
 
 pub met9 : Met case9
-unfolding reals after ofSummary afterWard allBelow solution singularSystem cadd csub cmul cdiv complexInv entry entryAt ofBits sub mul div lt ofInt
+unfolding reals after ofSummary inRows afterCompute solution singularSystem cadd csub cmul cdiv complexInv entry entryAt ofBits sub mul div lt ofInt
 met9 = refl
 
 pub met10 : Met case10
-unfolding reals after ofSummary afterWard allBelow singularSystem entry entryAt
+unfolding reals after ofSummary inRows afterCompute singularSystem entry entryAt
 met10 = refl
 
 pub met11 : Met case11
-unfolding after ofSummary allBelow solution singularSystem cadd csub cmul cdiv complexInv entry entryAt ofBits sub mul div lt ofInt magnitude root afterExtended
+unfolding after ofSummary inRows solution singularSystem cadd csub cmul cdiv complexInv entry entryAt ofBits sub mul div lt ofInt magnitude root afterComputeExtended
 met11 = refl

@@ -9,6 +9,7 @@ use Rattle.complex.specs.declared.Complex.{Complex}
 use Rattle.refusals.specs.Refusals.{notActive, smallEntry}
 use Rattle.kron_core.specs.Reducer.{Making, makingOf, recordOf}
 use Rattle.ward_studies.specs.WardCalls.{studyOf, roomOf}
+use Rattle.ward_core.specs.WardNumbers.{numberedOf}
 use Rattle.book_cases.specs.Numbers.{+0, -0, 1/4, 1/2, -1/2, 3/4, +1, -1, 5/4, 3/2, +2, -2, +3, -3, +4, -4, -5, +6, -8, +10, +25, +50, +100, -100, 2^-499, 2^-498, 2^498, infinity}
 use Rattle.book_cases.specs.Calls.{Call, product, inverse, removal, removals, impedance, study, extended, solution, Seen, seen, ofReducer, after}
 
@@ -29,9 +30,13 @@ ones n = replicate n +1
 abbrev pub cleared : ℕ → List Float
 cleared n = replicate n +0
 
+-- the number of each row's bus, in every row of the table
+abbrev pub busNumbers : List ℕ
+busNumbers = 0 ∷ 1 ∷ []
+
 -- the record of a making of n buses with these still active
 abbrev pub active : ℕ → List ℕ → List ℕ
-active n xs = ofReducer (recordOf n xs)
+active n xs = ofReducer (recordOf n busNumbers xs)
 
 -- M: 1, -1 / -1, 2
 abbrev pub M : List Float
@@ -65,22 +70,22 @@ case4 = row 4 (inverse (complex 2^-499 +0)) (seen 0 [] (infinity ∷ infinity �
 
 -- M without bus 1: bus 0 is left with 0.5
 abbrev pub case5 : Row
-case5 = row 5 (removal (makingOf 2 M) 1) (seen 0 (active 2 (0 ∷ [])) [] (reals (1/2 ∷ +0 ∷ +0 ∷ +0 ∷ []) ∷ []))
+case5 = row 5 (removal (makingOf 2 M busNumbers) 1) (seen 0 (active 2 (0 ∷ [])) [] (reals (1/2 ∷ +0 ∷ +0 ∷ +0 ∷ []) ∷ []))
 
 -- 1, -1 / -1, 0 without bus 1: refused with 12, and all is as it was
 abbrev pub flat : List Float
 flat = reals (+1 ∷ -1 ∷ -1 ∷ +0 ∷ [])
 
 abbrev pub case6 : Row
-case6 = row 6 (removal (makingOf 2 flat) 1) (seen smallEntry (active 2 (0 ∷ 1 ∷ [])) [] (flat ∷ []))
+case6 = row 6 (removal (makingOf 2 flat busNumbers) 1) (seen smallEntry (active 2 (0 ∷ 1 ∷ [])) [] (flat ∷ []))
 
 -- M without buses 1, 1: one is removed, the second refused with 11, and 0.5 is left
 abbrev pub case7 : Row
-case7 = row 7 (removals (makingOf 2 M) (1 ∷ 1 ∷ [])) (seen notActive (1 ∷ active 2 (0 ∷ [])) [] (reals (1/2 ∷ +0 ∷ +0 ∷ +0 ∷ []) ∷ []))
+case7 = row 7 (removals (makingOf 2 M busNumbers) (1 ∷ 1 ∷ [])) (seen notActive (1 ∷ active 2 (0 ∷ [])) [] (reals (1/2 ∷ +0 ∷ +0 ∷ +0 ∷ []) ∷ []))
 
 -- 2, 0 / 0, 4: the impedance between buses 0 and 1 is 0.75, between 0 and itself 0
 abbrev pub diagonal : Making
-diagonal = makingOf 2 (reals (+2 ∷ +0 ∷ +0 ∷ +4 ∷ []))
+diagonal = makingOf 2 (reals (+2 ∷ +0 ∷ +0 ∷ +4 ∷ [])) busNumbers
 
 abbrev pub case8 : Row
 case8 =
@@ -94,14 +99,14 @@ case8 =
 abbrev pub case9 : Row
 case9 =
     row 9
-    (study (studyOf 2 M [] (1 ∷ []) (0 ∷ []) +100 (+50 ∷ []) (+0 ∷ [])) (roomOf (ones 2) (ones 1) (ones 1) (ones 6)))
+    (study (numberedOf busNumbers (studyOf 2 M [] (1 ∷ []) (0 ∷ []) +100 (+50 ∷ []) (+0 ∷ []))) (roomOf (ones 2) (ones 1) (ones 1) (ones 6)))
     (seen 0 (2 ∷ 1 ∷ []) (1/2 ∷ []) (reals (1/2 ∷ []) ∷ (+25 ∷ []) ∷ (+0 ∷ []) ∷ cleared 6 ∷ []))
 
 -- M, boundary 0, no external bus: matrix 1, no injection, ratio 0
 abbrev pub case10 : Row
 case10 =
     row 10
-    (study (studyOf 2 M [] [] (0 ∷ []) +100 [] []) (roomOf (ones 2) (ones 1) (ones 1) []))
+    (study (numberedOf busNumbers (studyOf 2 M [] [] (0 ∷ []) +100 [] [])) (roomOf (ones 2) (ones 1) (ones 1) []))
     (seen 0 (2 ∷ 1 ∷ []) (+0 ∷ []) (reals (+1 ∷ []) ∷ (+0 ∷ []) ∷ (+0 ∷ []) ∷ [] ∷ []))
 
 -- (3, -4), (-3, 4) / (-3, 4), (6, -8), boundary 0, external 1, voltage 1.25, base 100: voltage correction 0.25, Q -100
@@ -110,7 +115,7 @@ case11 =
     row 11
     (extended
     (record {
-      study = studyOf 2 (+3 ∷ -4 ∷ -3 ∷ +4 ∷ -3 ∷ +4 ∷ +6 ∷ -8 ∷ []) [] (1 ∷ []) (0 ∷ []) +100 (+0 ∷ []) (+0 ∷ []);
+      study = numberedOf busNumbers (studyOf 2 (+3 ∷ -4 ∷ -3 ∷ +4 ∷ -3 ∷ +4 ∷ +6 ∷ -8 ∷ []) [] (1 ∷ []) (0 ∷ []) +100 (+0 ∷ []) (+0 ∷ []));
       v-ext = 5/4 ∷ [];
     })
     (record { room = roomOf (ones 2) (ones 1) (ones 1) (ones 6); correction = ones 1; compensation = ones 1 }))

@@ -1,6 +1,6 @@
 -- A call of the book, and what it answers and leaves by the definitions that the contracts cite.
 use Prim.Native.Nat.{ℕ}
-use mathlib.Core.List.{List, [], _∷_}
+use mathlib.Core.List.{List, [], _∷_, _++_}
 use lib.Ieee.{Float}
 use Rattle.complex.specs.declared.Complex.{Complex}
 use Rattle.complex.specs.Arithmetic.{cmul, complexInv}
@@ -14,8 +14,9 @@ use Rattle.kron_core.specs.Reducer.{Making, afterNew, AfterBus, afterBus, After
 use Rattle.kron_core.specs.Reading.{afterImpedance}
 use Rattle.ward_studies.specs.declared.WardAnswer.{WardAnswer}
 use Rattle.ward_studies.specs.declared.WardAnswer.the-variants as studies
-use Rattle.ward_studies.specs.Ward.{Study, Room, AfterWard, afterWard}
-use Rattle.ward_studies.specs.WardExtended.{Extended, ExtendedRoom, AfterExtended, afterExtended}
+use Rattle.ward_studies.specs.Ward.{Room, AfterWard}
+use Rattle.ward_studies.specs.WardExtended.{ExtendedRoom, AfterExtended}
+use Rattle.ward_core.specs.WardNumbers.{Numbered, NumberedX, afterCompute, afterComputeExtended}
 
 -- A call with all that is handed to it. The reducer's calls come after the making of their record; what comes last is what the slices hold at entry.
 pub data Call : Type 0 where
@@ -24,8 +25,8 @@ pub data Call : Type 0 where
   removal : Making → ℕ → Call
   removals : Making → List ℕ → Call
   impedance : Making → ℕ → ℕ → List Float → Call
-  study : Study → Room → Call
-  extended : Extended → ExtendedRoom → Call
+  study : Numbered → Room → Call
+  extended : NumberedX → ExtendedRoom → Call
   solution : ℕ → List Float → List Float → List Float → List Float → Call
 
 -- All that can be seen of a call once it has returned.
@@ -42,9 +43,9 @@ pub record Seen : Type 0 where
 abbrev pub seen : ℕ → List ℕ → List Float → List (List Float) → Seen
 seen k ns xs ss = record { number = k; counts = ns; values = xs; slices = ss }
 
--- the record's size at making, its present size, and the places of its active buses
+-- the record's size at making, its present size, the places of its active rows, and those of the numbers
 abbrev pub ofReducer : KronReducer → List ℕ
-ofReducer r = r .made ∷ r .«n_buses» ∷ r .«active_buses»
+ofReducer r = r .made ∷ r .«n_buses» ∷ (r .«active_buses» ++ r .numbers)
 
 -- ---- what each answer shows, beside the slices
 
@@ -83,6 +84,6 @@ after (inverse b) = seen 0 [] (ofParts (complexInv b)) []
 after (removal M k) = ofBus (afterBus (afterNew M .rec) (M .given) k)
 after (removals M ks) = ofBuses (afterBuses (afterNew M .rec) (M .given) ks)
 after (impedance M i j ws) = let a = afterImpedance (afterNew M .rec) (M .given) i j ws in ofImpedance (a .answer) (a .work ∷ [])
-after (study S o) = ofStudy (afterWard S o)
-after (extended S o) = ofExtended (afterExtended S o)
+after (study N o) = ofStudy (afterCompute N o)
+after (extended X o) = ofExtended (afterComputeExtended X o)
 after (solution n a b x ws) = ofSolution (afterSolve n a b x ws)

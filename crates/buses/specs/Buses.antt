@@ -1,8 +1,10 @@
 -- Lists of buses.
 use Prim.Native.Nat.{ℕ, suc}
 use mathlib.Core.Bool.{Bool, true, false, _||_, _&&_, cond}
-use mathlib.Core.List.{List, [], _∷_}
+use mathlib.Core.List.{List, [], _∷_, map}
 use lib.Dec.{T, eqb, ltb}
+use Rattle.buses.specs.declared.Found.{Found}
+use Rattle.buses.specs.declared.Found.the-variants.{At, Nothing}
 
 abbrev pub mem : ℕ → List ℕ → Bool
 mem k [] = false
@@ -18,10 +20,14 @@ unfoldable pub others : List ℕ → List ℕ → List ℕ
 others ks [] = []
 others ks (x ∷ xs) = cond (mem x ks) (others ks xs) (x ∷ others ks xs)
 
--- the row of bus k where the buses xs have the rows 0, 1, ..: their number where it is none of them
+-- the row of bus k where the buses xs, each told by row or by number, have the rows 0, 1, ..: the count of rows where it is none of them
 unfoldable pub place : ℕ → List ℕ → ℕ
 place k [] = 0
 place k (x ∷ xs) = cond (eqb k x) 0 (suc (place k xs))
+
+-- the same, or nothing
+unfoldable pub foundIn : ℕ → List ℕ → Found
+foundIn k xs = cond (mem k xs) (At (place k xs)) Nothing
 
 unfoldable pub rising : List ℕ → Bool
 rising [] = true
@@ -35,3 +41,18 @@ allBelow n (x ∷ xs) = ltb x n && allBelow n xs
 unfoldable pub allZero : List ℕ → Bool
 allZero [] = true
 allZero (x ∷ xs) = eqb x 0 && allZero xs
+
+-- a number that stands twice in the list
+unfoldable pub repeats : List ℕ → Bool
+repeats [] = false
+repeats (x ∷ xs) = mem x xs || repeats xs
+
+-- each of ks is one of xs
+unfoldable pub within : List ℕ → List ℕ → Bool
+within xs [] = true
+within xs (k ∷ ks) = mem k xs && within xs ks
+
+-- the rows of the buses numbered ks, where ns are the rows' numbers; a number that no row has becomes the count of rows
+unfoldable pub rowsIn : List ℕ → List ℕ → List ℕ
+unfolding place
+rowsIn ns ks = map (λ (k : ℕ). place k ns) ks

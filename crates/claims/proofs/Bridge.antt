@@ -5,41 +5,34 @@ use mathlib.Core.Bool.{Bool, true, false, not, cond}
 use mathlib.Core.Logic.{_⊎_, inl, inr}
 use mathlib.Core.List.{List, [], _∷_}
 use Prim.Native.Nat.{ℕ, _*_, _≤_, _<_}
-use lib.Dec.{T, eqb, leb, ltb, eqb→eq, leb→le, nltb→le, nleb→lt, lit≤}
+use lib.Dec.{T, eqb, leb, eqb→eq, leb→le, nleb→lt, lit≤}
 use lib.ListN.{length}
 use lib.Ieee.{Float}
 use lib.Ieee.Bits.{is-true}
-use Rattle.refusals.specs.Refusals.{limit, tooMany, wrongLength, notActive, smallEntry, outcome}
+use Rattle.refusals.specs.Refusals.{limit, tooMany, notActive, smallEntry, outcome}
 use Rattle.kron_core.specs.declared.KronReducer.{KronReducer}
-use Rattle.buses.specs.Buses.{mem}
+use Rattle.buses.specs.Buses.{mem, place, repeats, rowsIn}
 use Rattle.kron_rows.specs.Kron.{State, start, tooSmall, refusal, accepts, remove, eliminate, taken, stop}
 use Rattle.kron_core.specs.Reducer.{Making, Made, makingRefusal, activeOf, afterNew, inputRefusal, Held, held, laid, leaves, removable, refusalOf, afterBus, afterBuses}
 use Rattle.kron_rows.proofs.States.{Accepted, taken-accepted, append-accepted, eliminate-append, eliminate-active, Regular, regular-start, regular-eliminate}
+use Rattle.kron_core.proofs.Making.{Makes, makes-has}
 use Rattle.kron_core.proofs.Reducer.{active-recordOf, entry-laidOut, laidOut-all, input-laid, removable-laid, refusal-laid, leaves-laid, input-long, removable-long}
-use Rattle.claims.specs.Accounts.{Call, bus, buses, stepHeld, leftFrom, left, entry, Account, fresh, stateOf, removes, step, accountFrom, account, kept, busAt}
+use Rattle.claims.specs.Accounts.{Call, bus, buses, stepHeld, leftFrom, left, entry, Account, fresh, stateOf, removes, step, accountFrom, account, kept, rowAt}
 
 -- ---- a making that is accepted
 
+pub made-has : (M : Making) → Made M → Makes (M .size) (M .given) (M .numbers)
+made-has M h = makes-has (M .size) (M .given) (M .numbers) (eqb→eq (makingRefusal M) 0 h)
+
 pub made-small : (M : Making) → Made M → M .size ≤ limit
-unfolding makingRefusal
-made-small M h = nltb→le limit (M .size) (go (ltb limit (M .size)) (not (eqb (length (M .given)) (2 * (M .size * M .size)))) h)
-  where
-    go : (b c : Bool) → T (eqb (cond b tooMany (cond c wrongLength 0)) 0) → T (not b)
-    go true c h = h
-    go false c h = tt
+made-small M h = made-has M h .size
 
 pub made-length : (M : Making) → Made M → length (M .given) ≡ 2 * (M .size * M .size)
-unfolding makingRefusal
-made-length M h = eqb→eq (length (M .given)) (2 * (M .size * M .size)) (go (ltb limit (M .size)) (eqb (length (M .given)) (2 * (M .size * M .size))) h)
-  where
-    go : (b c : Bool) → T (eqb (cond b tooMany (cond (not c) wrongLength 0)) 0) → T c
-    go true c h = absurd h
-    go false true h = tt
-    go false false h = h
+made-length M h = made-has M h .slice
 
 -- ---- the account
 
--- size and old entries are those at making
+-- size, old entries and numbers are those at making
 pub account-size : (a : Account) (calls : List Call) → accountFrom a calls .size ≡ a .size
 unfolding accountFrom step
 account-size a [] = refl
@@ -49,6 +42,11 @@ pub account-old : (a : Account) (calls : List Call) → accountFrom a calls .old
 unfolding accountFrom step
 account-old a [] = refl
 account-old a (c ∷ cs) = account-old (step a c) cs
+
+pub account-numbers : (a : Account) (calls : List Call) → accountFrom a calls .numbers ≡ a .numbers
+unfolding accountFrom step
+account-numbers a [] = refl
+account-numbers a (c ∷ cs) = account-numbers (step a c) cs
 
 state-step : (a : Account) (c : Call) → stateOf (step a c) ≡ eliminate (stateOf a) (removes a c)
 unfolding stateOf step
@@ -64,50 +62,59 @@ kept-state a = eliminate-active (start (a .size) (a .old)) (a .removed)
 
 -- ---- one call
 
-module _ (a : Account) (small : a .size ≤ limit) where
+-- the record and layout of an account's state
+abbrev pub laidOf : Account → Held
+laidOf a = laid (a .size) (a .numbers) (stateOf a)
+
+module _ (a : Account) (small : a .size ≤ limit) (many : length (a .numbers) ≡ a .size) (distinct : repeats (a .numbers) ≡ false) where
   abbrev here : Held
-  here = laid (a .size) (stateOf a)
+  here = laidOf a
 
-  within : (ks : List ℕ) → length ks ≤ limit → leaves (here .rec) (here .slice) (removable (here .rec) (here .slice) ks) ≡ laid (a .size) (eliminate (stateOf a) (taken (stateOf a) ks))
+  within : (ks : List ℕ) → length ks ≤ limit
+      → leaves (here .rec) (here .slice) (removable (here .rec) (here .slice) ks) ≡ laid (a .size) (a .numbers) (eliminate (stateOf a) (taken (stateOf a) (rowsIn (a .numbers) ks)))
   within ks l =
-      ap (leaves (here .rec) (here .slice)) (removable-laid (a .size) (stateOf a) small (regular-state a) ks l)
-      ∙ leaves-laid (a .size) (stateOf a) small (regular-state a) (taken (stateOf a) ks) (taken-accepted (stateOf a) ks)
+      ap (leaves (here .rec) (here .slice)) (removable-laid (a .size) (a .numbers) (stateOf a) small many distinct (regular-state a) ks l)
+      ∙ leaves-laid (a .size) (a .numbers) (stateOf a) small many distinct (regular-state a) (taken (stateOf a) (rowsIn (a .numbers) ks)) (taken-accepted (stateOf a) (rowsIn (a .numbers) ks))
 
-  one-call : (c : Call) → stepHeld here c ≡ laid (a .size) (eliminate (stateOf a) (removes a c))
+  one-call : (c : Call) → stepHeld here c ≡ laid (a .size) (a .numbers) (eliminate (stateOf a) (removes a c))
   unfolding stepHeld afterBus afterBuses removes
   one-call (bus k) = within (k ∷ []) (lit≤ tt)
   one-call (buses ks) = go (leb (length ks) limit) (leb→le (length ks) limit) (nleb→lt (length ks) limit)
     where
-      go : (b : Bool) → (T b → length ks ≤ limit) → (T (not b) → limit < length ks) → leaves (here .rec) (here .slice) (removable (here .rec) (here .slice) ks) ≡ laid (a .size) (eliminate (stateOf a) (cond b (taken (stateOf a) ks) []))
+      go : (b : Bool) → (T b → length ks ≤ limit) → (T (not b) → limit < length ks)
+          → leaves (here .rec) (here .slice) (removable (here .rec) (here .slice) ks) ≡ laid (a .size) (a .numbers) (eliminate (stateOf a) (cond b (taken (stateOf a) (rowsIn (a .numbers) ks)) []))
       go true f g = within ks (f tt)
       go false f g = ap (leaves (here .rec) (here .slice)) (removable-long (here .rec) (here .slice) ks (g tt)) ∙ unfold leaves eliminate in refl
 
 -- ---- all calls
 
-left-from : (a : Account) (calls : List Call) → a .size ≤ limit → leftFrom (laid (a .size) (stateOf a)) calls ≡ laid (a .size) (stateOf (accountFrom a calls))
+left-from : (a : Account) (calls : List Call) → a .size ≤ limit → length (a .numbers) ≡ a .size → repeats (a .numbers) ≡ false
+    → leftFrom (laidOf a) calls ≡ laid (a .size) (a .numbers) (stateOf (accountFrom a calls))
 unfolding leftFrom accountFrom step
-left-from a [] small = refl
-left-from a (c ∷ cs) small =
-    ap (λ (h : Held). leftFrom h cs) (one-call a small c ∙ ap (laid (a .size)) (sym (state-step a c)))
-    ∙ left-from (step a c) cs small
+left-from a [] small many distinct = refl
+left-from a (c ∷ cs) small many distinct =
+    ap (λ (h : Held). leftFrom h cs) (one-call a small many distinct c ∙ ap (laid (a .size) (a .numbers)) (sym (state-step a c)))
+    ∙ left-from (step a c) cs small many distinct
 
-fresh-is : (M : Making) → Made M → held (afterNew M .rec) (M .given) ≡ laid (M .size) (stateOf (fresh M))
+fresh-is : (M : Making) → Made M → held (afterNew M .rec) (M .given) ≡ laidOf (fresh M)
 unfolding afterNew laid stateOf fresh eliminate
 fresh-is M made = rw (is-true (eqb (makingRefusal M) 0) made, laidOut-all (M .size) (M .given) (made-length M made))
 
-pub left-is : (M : Making) (calls : List Call) → Made M → left M calls ≡ laid (M .size) (stateOf (account M calls))
+pub left-is : (M : Making) (calls : List Call) → Made M → left M calls ≡ laid (M .size) (M .numbers) (stateOf (account M calls))
 unfolding left
-left-is M calls made = ap (λ (h : Held). leftFrom h calls) (fresh-is M made) ∙ unfold fresh in left-from (fresh M) calls (made-small M made)
+left-is M calls made =
+    let h = made-has M made in
+    ap (λ (x : Held). leftFrom x calls) (fresh-is M made) ∙ unfold fresh in left-from (fresh M) calls (h .size) (h .many) (h .distinct)
 
 -- ---- the buses removed
 
 removes-accepted : (a : Account) (c : Call) → Accepted (stateOf a) (removes a c)
 unfolding removes
-removes-accepted a (bus k) = taken-accepted (stateOf a) (k ∷ [])
+removes-accepted a (bus k) = taken-accepted (stateOf a) (rowsIn (a .numbers) (k ∷ []))
 removes-accepted a (buses ks) = go (leb (length ks) limit)
   where
-    go : (b : Bool) → Accepted (stateOf a) (cond b (taken (stateOf a) ks) [])
-    go true = taken-accepted (stateOf a) ks
+    go : (b : Bool) → Accepted (stateOf a) (cond b (taken (stateOf a) (rowsIn (a .numbers) ks)) [])
+    go true = taken-accepted (stateOf a) (rowsIn (a .numbers) ks)
     go false = tt
 
 -- each bus removed was accepted when its turn came
@@ -127,7 +134,7 @@ all-accepted M calls = accepted-from (fresh M) calls (unfold fresh in tt)
 -- the active list is the other buses in their old order, and the present size is their number
 pub kept-is : (M : Making) (calls : List Call) → Made M → activeOf (left M calls .rec) ≡ kept (account M calls)
 unfolding laid
-kept-is M calls made = rw (left-is M calls made) (active-recordOf (M .size) (stateOf (account M calls) .active) ∙ kept-state (account M calls))
+kept-is M calls made = rw (left-is M calls made) (active-recordOf (M .size) (M .numbers) (stateOf (account M calls) .active) ∙ kept-state (account M calls))
 
 pub size-is : (M : Making) (calls : List Call) → Made M → left M calls .rec .«n_buses» ≡ length (kept (account M calls))
 unfolding laid
@@ -135,7 +142,7 @@ size-is M calls made = rw (left-is M calls made) (ap length (kept-state (account
 
 -- the slice's entry in row p and column q is the formula's between the kept buses of that row and column
 pub entry-is : (M : Making) (calls : List Call) → Made M → (p q : ℕ) → p < length (kept (account M calls)) → q < length (kept (account M calls))
-    → entry (left M calls) p q ≡ stateOf (account M calls) .entries (busAt (account M calls) p) (busAt (account M calls) q)
+    → entry (left M calls) p q ≡ stateOf (account M calls) .entries (rowAt (account M calls) p) (rowAt (account M calls) q)
 unfolding laid
 entry-is M calls made p q x y =
     let s = stateOf (account M calls) in
@@ -162,8 +169,15 @@ module _ (M : Making) (calls : List Call) (made : Made M) where
   abbrev present : State
   present = stateOf (account M calls)
 
+  -- the rows of the buses numbered ks
+  abbrev rows : List ℕ → List ℕ
+  rows ks = rowsIn (M .numbers) ks
+
+  same-numbers : account M calls .numbers ≡ M .numbers
+  same-numbers = account-numbers (fresh M) calls ∙ unfold fresh in refl
+
   -- what holds of the account's record and layout holds of what is left
-  by-layout : (P : Held → Type 0) → P (laid (M .size) present) → P (left M calls)
+  by-layout : (P : Held → Type 0) → P (laid (M .size) (M .numbers) present) → P (left M calls)
   by-layout P = subst P (sym (left-is M calls made))
 
   regular-present : Regular (M .size) present
@@ -171,31 +185,36 @@ module _ (M : Making) (calls : List Call) (made : Made M) where
 
   -- the input refusals of record and slice, 1, 2 and 9, never come: a list within the limit is not refused from the input
   pub no-input-refusal : (l : ℕ) → l ≤ limit → inputRefusal rec slice l ≡ 0
-  no-input-refusal l h = by-layout (λ (g : Held). inputRefusal (g .rec) (g .slice) l ≡ 0) (input-laid (M .size) present (made-small M made) regular-present l h)
+  no-input-refusal l h = let h′ = made-has M made in by-layout (λ (g : Held). inputRefusal (g .rec) (g .slice) l ≡ 0) (input-laid (M .size) (M .numbers) present (h′ .size) (h′ .many) (h′ .distinct) regular-present l h)
 
   -- so a call answers what the account's state tells
-  pub refusal-is : (ks : List ℕ) → length ks ≤ limit → refusalOf rec slice ks ≡ stop present ks
-  refusal-is ks h = by-layout (λ (g : Held). refusalOf (g .rec) (g .slice) ks ≡ stop present ks) (refusal-laid (M .size) present (made-small M made) regular-present ks h)
+  pub refusal-is : (ks : List ℕ) → length ks ≤ limit → refusalOf rec slice ks ≡ stop present (rows ks)
+  refusal-is ks h =
+      let h′ = made-has M made in
+      by-layout (λ (g : Held). refusalOf (g .rec) (g .slice) ks ≡ stop present (rows ks)) (refusal-laid (M .size) (M .numbers) present (h′ .size) (h′ .many) (h′ .distinct) regular-present ks h)
+
+  removed-rows : (ks : List ℕ) → removable rec slice ks ≡ cond (leb (length ks) limit) (taken present (rows ks)) []
+  removed-rows ks = go (leb (length ks) limit) (leb→le (length ks) limit) (nleb→lt (length ks) limit)
+    where
+      go : (b : Bool) → (T b → length ks ≤ limit) → (T (not b) → limit < length ks) → removable rec slice ks ≡ cond b (taken present (rows ks)) []
+      go true f g = let h′ = made-has M made in by-layout (λ (g : Held). removable (g .rec) (g .slice) ks ≡ taken present (rows ks)) (removable-laid (M .size) (M .numbers) present (h′ .size) (h′ .many) (h′ .distinct) regular-present ks (f tt))
+      go false f g = removable-long rec slice ks (g tt)
 
   -- and it removes the buses that the account says
   pub removed-is : (ks : List ℕ) → removable rec slice ks ≡ removes (account M calls) (buses ks)
   unfolding removes
-  removed-is ks = go (leb (length ks) limit) (leb→le (length ks) limit) (nleb→lt (length ks) limit)
-    where
-      go : (b : Bool) → (T b → length ks ≤ limit) → (T (not b) → limit < length ks) → removable rec slice ks ≡ cond b (taken present ks) []
-      go true f g = by-layout (λ (g : Held). removable (g .rec) (g .slice) ks ≡ taken present ks) (removable-laid (M .size) present (made-small M made) regular-present ks (f tt))
-      go false f g = removable-long rec slice ks (g tt)
+  removed-is ks = removed-rows ks ∙ ap (λ (ns : List ℕ). cond (leb (length ks) limit) (taken present (rowsIn ns ks)) []) (sym same-numbers)
 
   -- the answers of the two calls, by the account
-  pub answer-bus : (k : ℕ) → afterBus rec slice k .out .answer ≡ outcome (refusal present k)
-  unfolding afterBus
-  answer-bus k = ap outcome (refusal-is (k ∷ []) (lit≤ tt) ∙ stop-one present k)
+  pub answer-bus : (k : ℕ) → afterBus rec slice k .out .answer ≡ outcome (refusal present (place k (M .numbers)))
+  unfolding afterBus rowsIn
+  answer-bus k = ap outcome (refusal-is (k ∷ []) (lit≤ tt) ∙ stop-one present (place k (M .numbers)))
 
-  pub answer-buses : (ks : List ℕ) → afterBuses rec slice ks .out .removals .answer ≡ outcome (cond (leb (length ks) limit) (stop present ks) tooMany)
+  pub answer-buses : (ks : List ℕ) → afterBuses rec slice ks .out .removals .answer ≡ outcome (cond (leb (length ks) limit) (stop present (rows ks)) tooMany)
   unfolding afterBuses refusalOf
   answer-buses ks = ap outcome (go (leb (length ks) limit) (leb→le (length ks) limit) (nleb→lt (length ks) limit))
     where
-      go : (b : Bool) → (T b → length ks ≤ limit) → (T (not b) → limit < length ks) → refusalOf rec slice ks ≡ cond b (stop present ks) tooMany
+      go : (b : Bool) → (T b → length ks ≤ limit) → (T (not b) → limit < length ks) → refusalOf rec slice ks ≡ cond b (stop present (rows ks)) tooMany
       go true f g = refusal-is ks (f tt)
       go false f g = rw (input-long rec slice (length ks) (g tt))
 

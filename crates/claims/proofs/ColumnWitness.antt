@@ -1,4 +1,4 @@
--- Demand 3 by columns: bus 0 has an entry to bus 1, which is removed, and bus 1 none to bus 0, in two matrices with other entries at bus 1.
+-- Demand 3 by columns: bus 0 has an entry to bus 1, which is removed, and bus 1 none to bus 0, in two matrices with other entries at bus 1. Buses are told by row, in the calls by number.
 -- Assumes nothing.
 use mathlib.Core.Path.{_≡_, refl, sym, ap, _∙_}
 use mathlib.Core.Logic.{inr}
@@ -14,7 +14,7 @@ use Rattle.complex.specs.Values.{_≈_, allFinite}
 use Rattle.buses.specs.Buses.{_isOneOf_, others}
 use Rattle.kron_rows.specs.Kron.{kron, tooSmall, refusal, eliminate, taken, ofRow, ofRows, ofRemovals}
 use Rattle.kron_core.specs.Reducer.{Making, makingOf, makingRefusal}
-use Rattle.claims.specs.Accounts.{bus, left, entry, fresh, stateOf, removes, step, accountFrom, Account, account, kept}
+use Rattle.claims.specs.Accounts.{Call, bus, left, entry, fresh, stateOf, removes, step, accountFrom, Account, account, kept}
 use Rattle.claims.specs.Chains.{Linked, Steps, Within, Into, SameOutside}
 use Rattle.claims.specs.Finite.{ofAccount, Finite, words}
 use Rattle.claims.specs.Removals.{Alike, NoOut}
@@ -26,24 +26,30 @@ one-way : ℕ → ℕ → List ℕ
 one-way towards own = LL ∷ 0 ∷ towards ∷ 0 ∷ 0 ∷ 0 ∷ own ∷ 0 ∷ []
 
 abbrev here : Making
-here = makingOf 2 (words (one-way L LL))
+here = makingOf 2 (words (one-way L LL)) (1 ∷ 0 ∷ [])
+
+abbrev here-calls : List Call
+here-calls = bus 0 ∷ []
 
 abbrev there : Making
-there = makingOf 2 (words (one-way -L L))
+there = makingOf 2 (words (one-way -L L)) (0 ∷ 4294967295 ∷ [])
 
-here-finite : Finite here (bus 1 ∷ [])
+abbrev there-calls : List Call
+there-calls = bus 4294967295 ∷ []
+
+here-finite : Finite here here-calls
 unfolding one-way words csub cmul cdiv upTo others entryOf entryAt kron tooSmall refusal eliminate taken fresh stateOf removes step accountFrom sub mul div lt ofBits makingRefusal allFinite ofAccount ofRemovals ofRow ofRows
 here-finite = record { made = search tt; given = search tt; computed = tt }
 
-there-finite : Finite there (bus 1 ∷ [])
+there-finite : Finite there there-calls
 unfolding one-way words csub cmul cdiv upTo others entryOf entryAt kron tooSmall refusal eliminate taken fresh stateOf removes step accountFrom sub mul div lt ofBits makingRefusal allFinite ofAccount ofRemovals ofRow ofRows
 there-finite = record { made = search tt; given = search tt; computed = tt }
 
 abbrev h : Account
-h = account here (bus 1 ∷ [])
+h = account here here-calls
 
 abbrev t : Account
-t = account there (bus 1 ∷ [])
+t = account there there-calls
 
 here-removed : h .removed ≡ 1 ∷ []
 unfolding one-way words sqmag upTo others entryOf entryAt tooSmall refusal eliminate taken fresh stateOf removes step accountFrom sub mul lt ofBits
@@ -73,6 +79,7 @@ grouped : (k : ℕ) → k isOneOf 1 ∷ [] → k isOneOf 1 ∷ []
 grouped k m = m
 
 alike-away : Alike h t (1 ∷ [])
+unfolding fresh step accountFrom
 alike-away = record { size = same-size; removed = there-removed ∙ sym here-removed; group = rw here-removed (search grouped); outside = search away }
 
 -- where no removed bus has an entry to bus j, no chain leads to it
@@ -99,7 +106,7 @@ an-into : Into (h .old) (h .removed) (1 ∷ []) 0
 unfolding one-way words entryOf entryAt fresh step accountFrom ofBits eq
 an-into = (1, [], tt, tt, tt)
 
-column-same : entry (left here (bus 1 ∷ [])) 0 0 ≈ entry (left there (bus 1 ∷ [])) 0 0
+column-same : entry (left here here-calls) 0 0 ≈ entry (left there there-calls) 0 0
 column-same =
-    (rw here-kept at (demand3 .removals .independent here there (bus 1 ∷ []) (bus 1 ∷ []) (words-f64s (one-way L LL)) (words-f64s (one-way -L L)) (search here-finite) (search there-finite) (1 ∷ []) alike-away 0 0))
+    (rw here-kept at (demand3 .removals .independent here there here-calls there-calls (words-f64s (one-way L LL)) (words-f64s (one-way -L L)) (search here-finite) (search there-finite) (1 ∷ []) alike-away 0 0))
     (lit< tt) (lit< tt) (inr none-out)

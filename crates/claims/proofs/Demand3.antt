@@ -20,7 +20,7 @@ use Rattle.kron_rows.specs.Kron.{start}
 use Rattle.kron_core.specs.Reducer.{Making, Made}
 use Rattle.buses.proofs.Buses.{getD-in}
 use Rattle.kron_rows.proofs.States.{eliminate-active}
-use Rattle.claims.specs.Accounts.{Call, left, entry, Account, fresh, stateOf, account, kept, busAt}
+use Rattle.claims.specs.Accounts.{Call, left, entry, Account, fresh, stateOf, account, kept, rowAt}
 use Rattle.claims.specs.Chains.{Chain, Into, Out, SameOutside}
 use Rattle.claims.specs.Finite.{ofAccount, Finite}
 use Rattle.claims.specs.Removals.{Unchanged, Alike, Independent, RemovalClaims}
@@ -71,12 +71,12 @@ active-at n Y R p x = subst (λ (l : List ℕ). getD (others R (upTo n)) p 0 isO
 module _ (M : Making) (calls : List Call) (f : F64s (M .given)) (h : Finite M calls) where
   -- an entry has its old value, or a chain joins row bus to column bus
   pub unchanged-or-chain : (p q : ℕ) → p < length (kept (account M calls)) → q < length (kept (account M calls))
-      → (entry (left M calls) p q ≈ account M calls .old (busAt (account M calls) p) (busAt (account M calls) q))
-      ⊎ Chain (account M calls .old) (account M calls .removed) (busAt (account M calls) p) (busAt (account M calls) q)
+      → (entry (left M calls) p q ≈ account M calls .old (rowAt (account M calls) p) (rowAt (account M calls) q))
+      ⊎ Chain (account M calls .old) (account M calls .removed) (rowAt (account M calls) p) (rowAt (account M calls) q)
   unchanged-or-chain p q x y =
       let a = account M calls in
-      let i = busAt a p in
-      let j = busAt a q in
+      let i = rowAt a p in
+      let j = rowAt a q in
       subst (λ (c : Complex). (c ≈ a .old i j) ⊎ Chain (a .old) (a .removed) i j) (sym (entry-is M calls (is-made M calls h) p q x y))
       (unfold stateOf in old-or-chain (a .size) (a .old) (a .removed) (carried M calls f h) i j (active-at (a .size) (a .old) (a .removed) p x) (active-at (a .size) (a .old) (a .removed) q y))
 
@@ -104,7 +104,7 @@ module _ (M M' : Making) (calls calls' : List Call) (f : F64s (M .given)) (f' : 
   -- an entry has one value in both, or in one its row bus has a chain into the group, and in one its column bus has one out of it
   pub same-or-joined : (p q : ℕ) → p < length (kept a) → q < length (kept a)
       → (entry (left M calls) p q ≈ entry (left M' calls') p q)
-      ⊎ ((Into (a .old) (a .removed) G (busAt a p) ⊎ Into (a' .old) (a' .removed) G (busAt a p)) × (Out (a .old) (a .removed) G (busAt a q) ⊎ Out (a' .old) (a' .removed) G (busAt a q)))
+      ⊎ ((Into (a .old) (a .removed) G (rowAt a p) ⊎ Into (a' .old) (a' .removed) G (rowAt a p)) × (Out (a .old) (a .removed) G (rowAt a q) ⊎ Out (a' .old) (a' .removed) G (rowAt a q)))
   same-or-joined p q x y = subst (Either (entry (left M calls) p q) (entry (left M' calls') p q)) (sym (alike .removed))
       (subst₂ (λ (c d : Complex). Either c d (a .removed)) (sym (entry-at M calls (is-made M calls h) (a .size) (a .removed) refl refl p q x y)) (sym (entry-at M' calls' (is-made M' calls' h') (a .size) (a .removed) (alike .size) (alike .removed) p q x y))
       (same-or-chains (a .size) (a .old) (a' .old) (a .removed) G (carried M calls f h)
@@ -112,10 +112,10 @@ module _ (M M' : Making) (calls calls' : List Call) (f : F64s (M .given)) (f' : 
       (group-removed a a' G alike) (same-outside a a' G alike) i j (active-at (a .size) (a .old) (a .removed) p x) (active-at (a .size) (a .old) (a .removed) q y)))
     where
       i : ℕ
-      i = busAt a p
+      i = rowAt a p
 
       j : ℕ
-      j = busAt a q
+      j = rowAt a q
 
       Either : Complex → Complex → List ℕ → Type 0
       Either c d S = (c ≈ d) ⊎ ((Into (a .old) (a .removed) G i ⊎ Into (a' .old) S G i) × (Out (a .old) (a .removed) G j ⊎ Out (a' .old) S G j))

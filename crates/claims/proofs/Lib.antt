@@ -5,6 +5,7 @@ pub mod Walks
 pub mod Computed
 pub mod Locality
 pub mod Bridge
+pub mod ByNumber
 pub mod Demand3
 pub mod BitPatterns
 pub mod Witnesses

@@ -25,10 +25,11 @@ use Rattle.complex.proofs.Finite.{all-left, all-right, all-at, zero-times}
 use Rattle.complex.proofs.SameValue.{Finite, ≋-refl, ≋→≈}
 use Rattle.buses.specs.Buses.{_isOneOf_}
 use Rattle.ward_products.specs.WardArithmetic.{injectedP, injectedQ}
-use Rattle.ward_studies.specs.Ward.{Study, Room, Accepted, retained, listed, externals, externalAt, admittance, response, rowTimes, equivalent, driven, transferred, injectionP, injectionQ, filled, afterWard}
+use Rattle.ward_studies.specs.Ward.{Study, Room, retained, listed, externals, externalAt, admittance, response, rowTimes, equivalent, driven, transferred, injectionP, injectionQ, filled}
 use Rattle.ward_studies.specs.WardComputed.{ofEach, ofRowTimes, ofResponse, ofEntry, ofCurrents, ofDriven, ofInjection, ofReduction, ofEquivalent, ofInjections, ofStudy}
 use Rattle.buses.proofs.Buses.{getD-in, in-append, below-all}
-use Rattle.ward_studies.proofs.WardLaws.{Sound, sound, left-accepted}
+use Rattle.ward_core.specs.WardNumbers.{Numbered, inRows, AcceptedStudy, afterCompute}
+use Rattle.ward_core.proofs.WardLaws.{Sound, sound, left-accepted}
 use Rattle.ward_products.proofs.WardPlaces.{getD-map}
 use Rattle.ward_studies.proofs.WardSums.{Null, plus0-zero, products-null, each-at}
 use Rattle.claims.specs.WardRows.{givenOf, FiniteStudy, old, rowBuses, busOfRow, ZeroRow, KeepsValues, ZeroAt, KeepsRow}
@@ -162,8 +163,10 @@ given-finite S f = search f
 computed-finite : (S : Study) → FiniteStudy S → T (allFinite (ofStudy S))
 computed-finite S f = search f
 
-pub zero-row : (S : Study) (o : Room) → F64s (S .given) → Accepted S o → FiniteStudy S → (p : ℕ) → p < length (rowBuses S) → ZeroRow S p → KeepsRow S (afterWard S o .room) p
-unfolding givenOf
-zero-row S o f64s h f p at none =
-    subst (λ (room : Room). KeepsRow S room p) (sym (left-accepted S o h))
-    (keeps-row S (sound S o h) f64s (all-left (S .given) (S .base ∷ (S .p-ext ++ S .q-ext)) (given-finite S f)) (computed-finite S f) p at none (zeros (length (o .work))))
+pub zero-row : (N : Numbered) (o : Room) → F64s (N .study .given) → AcceptedStudy N o → FiniteStudy (inRows N)
+    → (p : ℕ) → p < length (rowBuses (inRows N)) → ZeroRow (inRows N) p → KeepsRow (inRows N) (afterCompute N o .room) p
+unfolding givenOf inRows
+zero-row N o f64s h f p at none =
+    let S = inRows N in
+    subst (λ (room : Room). KeepsRow S room p) (sym (left-accepted N o h))
+    (keeps-row S (sound N o h) f64s (all-left (S .given) (S .base ∷ (S .p-ext ++ S .q-ext)) (given-finite S f)) (computed-finite S f) p at none (zeros (length (o .work))))

@@ -19,11 +19,12 @@ use Rattle.binary64.proofs.Floats as F
 use Rattle.complex.proofs.Finite.{all-left, all-right, all-at, zero-times}
 use Rattle.buses.specs.Buses.{_isOneOf_}
 use Rattle.ward_studies.specs.Ward.{Room, retained, externals, admittance}
-use Rattle.ward_studies.specs.WardExtended.{Extended, ExtendedRoom, AcceptedX, deviation, tie, weight, weightSum, voltageCorrection, reactive, qCompensation, afterExtended}
+use Rattle.ward_studies.specs.WardExtended.{Extended, ExtendedRoom, deviation, tie, weight, weightSum, voltageCorrection, reactive, qCompensation}
 use Rattle.ward_studies.specs.WardComputed.{ofEach, ofStudy, ofTies, ofSums, ofCorrection, ofExtended}
-use Rattle.ward_studies.proofs.WardLaws.{soundX, left-acceptedX, correction-accepted, compensation-accepted}
+use Rattle.ward_core.proofs.WardLaws.{soundX, left-acceptedX, correction-accepted, compensation-accepted}
 use Rattle.ward_products.proofs.WardPlaces.{getD-map}
 use Rattle.ward_studies.proofs.WardSums.{Null, plus0-zero, sum-zero, magnitude-zero, weak-above, each-at}
+use Rattle.ward_core.specs.WardNumbers.{NumberedX, inRows, inRowsX, AcceptedStudyX, afterComputeExtended}
 use Rattle.claims.specs.WardRows.{givenOf, FiniteExtended, old, rowBuses, busOfRow, ZeroRow, ZeroAt, KeepsRow, KeepsRowX, WardRows}
 use Rattle.claims.proofs.WardKeeps.{row-null, bus-at, keeps-row, zero-row}
 
@@ -117,18 +118,23 @@ given-finite S f = search f
 computed-finite : (S : Extended) → FiniteExtended S → T (allFinite (ofExtended S))
 computed-finite S f = search f
 
-pub zero-rowX : (S : Extended) (o : ExtendedRoom) → F64s (S .study .given) → AcceptedX S o → FiniteExtended S → (p : ℕ) → p < length (rowBuses (S .study)) → ZeroRow (S .study) p → KeepsRowX S (afterExtended S o .room) p
-unfolding givenOf ofExtended
-zero-rowX S o f64s h f p at none =
-    let T = S .study in
-    let given = all-left (T .given) (T .base ∷ (T .p-ext ++ T .q-ext)) (all-left (T .given ++ (T .base ∷ (T .p-ext ++ T .q-ext))) (S .v-ext) (given-finite S f)) in
-    let computed = computed-finite S f in
-    let study = all-left (ofStudy T) (ofEach (ofCorrection S) (T .boundary)) computed in
+pub zero-rowX : (X : NumberedX) (o : ExtendedRoom) → F64s (X .study .study .given) → AcceptedStudyX X o → FiniteExtended (inRowsX X)
+    → (p : ℕ) → p < length (rowBuses (inRows (X .study))) → ZeroRow (inRows (X .study)) p → KeepsRowX (inRowsX X) (afterComputeExtended X o .room) p
+unfolding givenOf ofExtended inRows inRowsX
+zero-rowX X o f64s h f p at none =
+    let S = inRows (X .study) in
+    let E = inRowsX X in
+    let given = all-left (S .given) (S .base ∷ (S .p-ext ++ S .q-ext)) (all-left (S .given ++ (S .base ∷ (S .p-ext ++ S .q-ext))) (X .v-ext) (given-finite E f)) in
+    let computed = computed-finite E f in
+    let study = all-left (ofStudy S) (ofEach (ofCorrection E) (S .boundary)) computed in
     record {
-      row = subst (λ (room : Room). KeepsRow T room p) (sym (left-acceptedX S o h)) (keeps-row T (soundX S o h) f64s given study p at none (zeros (length (o .room .work))));
-      correction = subst (ZeroAt T p) (sym (correction-accepted S o h)) (correction-zero S computed p none);
-      compensation = subst (ZeroAt T p) (sym (compensation-accepted S o h)) (compensation-zero S computed p none);
+      row = subst (λ (room : Room). KeepsRow S room p) (sym (left-acceptedX X o h)) (keeps-row S (soundX X o h) f64s given study p at none (zeros (length (o .room .work))));
+      correction = subst (ZeroAt S p) (sym (correction-accepted X o h)) (correction-zero E computed p none);
+      compensation = subst (ZeroAt S p) (sym (compensation-accepted X o h)) (compensation-zero E computed p none);
     }
 
 pub wardRows : WardRows
-wardRows = record { study = zero-row; extended = zero-rowX }
+wardRows = record {
+  study = λ N o f64s h. zero-row N o f64s (search h);
+  extended = λ N o f64s h. zero-rowX N o f64s (search h);
+}

@@ -1,5 +1,5 @@
 -- Studies that meet the premises of `wardRows`, one of each kind: the row of bus 3 has zeros towards both external buses and keeps its values,
--- the row of bus 2 changes and gets an injection. Assumes nothing.
+-- the row of bus 2 changes and gets an injection. A bus is told by its row in the matrix, in the study's lists by number. Assumes nothing.
 use mathlib.Core.Bool.{not}
 use mathlib.Core.List.{List, [], _∷_, _++_}
 use Prim.Native.Nat.{ℕ}
@@ -18,9 +18,10 @@ use Rattle.gauss_jordan.specs.GaussJordan.{solution, singularSystem}
 use Rattle.gauss_jordan.specs.Solving.{skipped}
 use Rattle.gauss_jordan.specs.Computed.{ofSearch, ofScaling, ofReducing, ofReductions, ofRunFrom, ofRun, ofSolve}
 use Rattle.buses.specs.Buses.{allBelow}
-use Rattle.ward_studies.specs.Ward.{Study, Room, Accepted, afterWard}
+use Rattle.ward_studies.specs.Ward.{Study, Room}
 use Rattle.ward_studies.specs.WardComputed.{ofStudy, ofEach, ofCorrection, ofExtended}
-use Rattle.ward_studies.specs.WardExtended.{Extended, ExtendedRoom, AcceptedX, afterExtended}
+use Rattle.ward_studies.specs.WardExtended.{Extended, ExtendedRoom}
+use Rattle.ward_core.specs.WardNumbers.{Numbered, NumberedX, numberedXOf, inRows, inRowsX, AcceptedStudy, AcceptedStudyX, afterCompute, afterComputeExtended}
 use Rattle.claims.specs.Finite.{words}
 use Rattle.claims.specs.WardRows.{givenOf, FiniteStudy, FiniteExtended, old, rowBuses, ZeroRow, KeepsRow, KeepsRowX}
 use Rattle.claims.proofs.Demand3.{demand3}
@@ -53,61 +54,70 @@ line =
     ∷ 0 ∷ 0 ∷ 0 ∷ 0 ∷ -L ∷ 0 ∷ LL ∷ 0 ∷ -L ∷ 0
     ∷ 0 ∷ 0 ∷ 0 ∷ 0 ∷ 0 ∷ 0 ∷ -L ∷ 0 ∷ L ∷ 0 ∷ []
 
+-- the internal bus is 4, the external ones 1 and 0, the boundary's 3 and 2; no number is that of its own row
+abbrev N : Numbered
+N = study 5 line (2 ∷ 0 ∷ 4294967295 ∷ 1 ∷ 3 ∷ []) (3 ∷ []) (0 ∷ 2 ∷ []) (1 ∷ 4294967295 ∷ []) II (I ∷ I ∷ []) (I ∷ I ∷ [])
+
+-- the study by rows
 abbrev S : Study
-S = study 5 line (4 ∷ []) (1 ∷ 0 ∷ []) (3 ∷ 2 ∷ []) II (I ∷ I ∷ []) (I ∷ I ∷ [])
+S = inRows N
 
 abbrev o : Room
 o = record { y-ward = zeros 18; p-ward = zeros 2; q-ward = zeros 2; work = zeros 24 }
 
-accepted : Accepted S o
-unfolding words afterWard allBelow singularSystem skipped csub cmul cdiv complexInv entry entryAt ofBits sub mul div lt
+accepted : AcceptedStudy N o
+unfolding inRows words afterCompute allBelow singularSystem skipped csub cmul cdiv complexInv entry entryAt ofBits sub mul div lt
 accepted = tt
 
 -- the same study, extended: the external buses at 2 per unit
+abbrev NX : NumberedX
+NX = numberedXOf N (words (II ∷ II ∷ []))
+
 abbrev X : Extended
-X = record { study = S; v-ext = words (II ∷ II ∷ []) }
+X = inRowsX NX
 
 given-x : T (allFinite (givenOf S ++ X .v-ext))
-unfolding words givenOf allFinite ofBits
+unfolding inRowsX words givenOf allFinite ofBits
 given-x = tt
 
 computed-x : T (allFinite (ofExtended X))
-unfolding words solution cadd csub cmul cdiv complexInv entry upTo entryAt ofBits sub mul div lt ofInt magnitude root skipped ofSearch ofScaling ofReducing ofReductions ofRunFrom ofRun ofSolve ofExtended allFinite
+unfolding inRowsX words solution cadd csub cmul cdiv complexInv entry upTo entryAt ofBits sub mul div lt ofInt magnitude root skipped ofSearch ofScaling ofReducing ofReductions ofRunFrom ofRun ofSolve ofExtended allFinite
 computed-x = tt
 
 -- its numbers begin with those of the study itself
 given : T (allFinite (givenOf S))
+unfolding inRowsX
 given = all-left (givenOf S) (X .v-ext) given-x
 
 computed : T (allFinite (ofStudy S))
-unfolding ofExtended
+unfolding inRowsX ofExtended
 computed = all-left (ofStudy S) (ofEach (ofCorrection X) (S .boundary)) computed-x
 
 finite-study : FiniteStudy S
-unfolding words ofBits lt
+unfolding inRows words ofBits lt
 finite-study = record { given = search given; computed = search computed }
 
 zero-towards : ZeroRow S 1
-unfolding words ZeroRow old entryAt entry ofBits eq
+unfolding inRows words ZeroRow old entryAt entry ofBits eq
 zero-towards = of-each (λ (e : ℕ). Zero (old S 3 e)) (S .external) (tt, (tt, tt))
 
 -- row 1, of bus 3, is the boundary's first
-keeps : KeepsRow S (afterWard S o .room) 1
-unfolding rowBuses
-keeps = demand3 .ward .study S o (words-f64s line) accepted finite-study 1 (lit< tt) zero-towards
+keeps : KeepsRow S (afterCompute N o .room) 1
+unfolding inRows rowBuses
+keeps = demand3 .ward .study N o (words-f64s line) (search accepted) finite-study 1 (lit< tt) zero-towards
 
 -- and so row 0, of bus 4, which is internal
 inside : ZeroRow S 0
-unfolding words ZeroRow old entryAt entry ofBits eq
+unfolding inRows words ZeroRow old entryAt entry ofBits eq
 inside = of-each (λ (e : ℕ). Zero (old S 4 e)) (S .external) (tt, (tt, tt))
 
-keeps-inside : KeepsRow S (afterWard S o .room) 0
-unfolding rowBuses
-keeps-inside = demand3 .ward .study S o (words-f64s line) accepted finite-study 0 (lit< tt) inside
+keeps-inside : KeepsRow S (afterCompute N o .room) 0
+unfolding inRows rowBuses
+keeps-inside = demand3 .ward .study N o (words-f64s line) (search accepted) finite-study 0 (lit< tt) inside
 
 -- row 2, of bus 2: its own entry was 2^501 and is about two thirds of it, and P was 0 and is 1
-changes : T (not (eq (entryAt 3 (afterWard S o .room .y-ward) 2 2 .re) (old S 2 2 .re))) × T (not (isZero (getD (afterWard S o .room .p-ward) 1 nan)))
-unfolding words old afterWard allBelow solution singularSystem skipped cadd csub cmul cdiv complexInv entry entryAt ofBits sub mul div lt eq
+changes : T (not (eq (entryAt 3 (afterCompute N o .room .y-ward) 2 2 .re) (old S 2 2 .re))) × T (not (isZero (getD (afterCompute N o .room .p-ward) 1 nan)))
+unfolding inRows words old afterCompute allBelow solution singularSystem skipped cadd csub cmul cdiv complexInv entry entryAt ofBits sub mul div lt eq
 changes = (tt, tt)
 
 -- ---- extended
@@ -115,19 +125,19 @@ changes = (tt, tt)
 abbrev wide : ExtendedRoom
 wide = record { room = o; correction = zeros 2; compensation = zeros 2 }
 
-accepted-x : AcceptedX X wide
-unfolding words allBelow singularSystem skipped csub cmul cdiv complexInv entry entryAt ofBits sub mul div lt afterExtended
+accepted-x : AcceptedStudyX NX wide
+unfolding inRows words allBelow singularSystem skipped csub cmul cdiv complexInv entry entryAt ofBits sub mul div lt afterComputeExtended
 accepted-x = tt
 
 finite-extended : FiniteExtended X
-unfolding words one ofBits lt eq
+unfolding inRowsX words one ofBits lt eq
 finite-extended = record { given = search given-x; computed = search computed-x }
 
-keeps-x : KeepsRowX X (afterExtended X wide .room) 1
-unfolding rowBuses
-keeps-x = demand3 .ward .extended X wide (words-f64s line) accepted-x finite-extended 1 (lit< tt) zero-towards
+keeps-x : KeepsRowX X (afterComputeExtended NX wide .room) 1
+unfolding inRowsX rowBuses
+keeps-x = demand3 .ward .extended NX wide (words-f64s line) (search accepted-x) finite-extended 1 (lit< tt) zero-towards
 
 -- row 2, of bus 2, gets a correction
-changes-x : T (not (isZero (getD (afterExtended X wide .room .correction) 1 nan)))
-unfolding words allBelow singularSystem skipped csub cmul cdiv complexInv entry entryAt ofBits sub mul div lt eq magnitude root afterExtended
+changes-x : T (not (isZero (getD (afterComputeExtended NX wide .room .correction) 1 nan)))
+unfolding inRows words allBelow singularSystem skipped csub cmul cdiv complexInv entry entryAt ofBits sub mul div lt eq magnitude root afterComputeExtended
 changes-x = tt

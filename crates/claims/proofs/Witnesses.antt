@@ -13,23 +13,25 @@ use Rattle.complex.specs.Entries.{entry as entryOf}
 use Rattle.complex.specs.Matrices.{Matrix, upTo, entryAt}
 use Rattle.complex.specs.Values.{_≈_, allFinite}
 use Rattle.refusals.specs.Refusals.{limit}
-use Rattle.buses.specs.Buses.{_isOneOf_, others, place, rising, allBelow, allZero}
+use Rattle.buses.specs.Buses.{_isOneOf_, others, place, rising, allBelow, allZero, rowsIn}
 use Rattle.buses.proofs.Buses.{in-cases}
 use Rattle.kron_rows.specs.Kron.{kron, tooSmall, refusal, eliminate, taken, ofRow, ofRows, ofRemovals}
-use Rattle.kron_core.specs.Reducer.{Making, makingOf, makingRefusal, afterNew, sound, inputRefusal, view, laid, leaves, removable, afterBus, afterBuses}
+use Rattle.kron_core.specs.Reducer.{Making, makingOf, makingRefusal, Made, afterNew, soundRows, soundNumbers, inputRefusal, view, laid, leaves, removable, afterBus, afterBuses}
 use Rattle.claims.specs.Accounts.{Call, bus, buses, stepHeld, leftFrom, left, entry, fresh, stateOf, removes, step, accountFrom, Account, account, kept}
 use Rattle.claims.specs.Chains.{Linked, Steps, Within, Chain, Into, Out, SameOutside}
 use Rattle.claims.specs.Finite.{ofAccount, Finite, words}
 use Rattle.claims.specs.Removals.{Alike, NoInto}
+use Rattle.claims.specs.ByNumber.{oldBetween, AlikeByNumber}
 use Rattle.claims.proofs.Demand3.{demand3}
 use Rattle.claims.proofs.BitPatterns.{words-f64s}
+use Rattle.claims.proofs.ByNumber.{alike-by-number}
 
 -- M of the two-bus book: 1, -1 / -1, 2
 unfoldable pub book-words : List ℕ
 book-words = 0x3ff0000000000000 ∷ 0 ∷ 0xbff0000000000000 ∷ 0 ∷ 0xbff0000000000000 ∷ 0 ∷ 0x4000000000000000 ∷ 0 ∷ []
 
 abbrev pub book : Making
-book = makingOf 2 (words book-words)
+book = makingOf 2 (words book-words) (0 ∷ 1 ∷ [])
 
 -- a bus that is not there, a list too long, a list that is refused at its second bus, and a bus that is gone: one bus is removed
 book-calls : List Call
@@ -43,7 +45,8 @@ book-finite : Finite book book-calls
 unfolding book-words book-calls words csub cmul cdiv upTo others entryOf entryAt kron tooSmall refusal eliminate taken makingRefusal fresh stateOf removes step accountFrom allFinite ofAccount ofRemovals ofRow ofRows sub mul div lt ofBits
 book-finite = record { made = search tt; given = search tt; computed = tt }
 
--- ---- claim 1: buses 0 - 1 - 2 - 3 - 4 in a row, with no entry from bus 1 to bus 2, and one from bus 0 to bus 4; the three in the middle are removed
+-- ---- claim 1: the buses of the rows 0 - 1 - 2 - 3 - 4 stand in a line, with no entry from bus 1 to bus 2, and one from bus 0 to bus 4; the three in the middle are removed
+-- In what follows a bus is told by its row, but for the calls, which tell it by number: no number is that of its own row.
 
 -- the bit patterns of 2^340, -2^340 and 2^341: a removal multiplies three entries, and with much larger ones the product is not finite
 abbrev pub L : ℕ
@@ -67,12 +70,15 @@ first-words =
     ∷ 0 ∷ 0 ∷ 0 ∷ 0 ∷ -L ∷ 0 ∷ LL ∷ 0 ∷ -L ∷ 0
     ∷ 0 ∷ 0 ∷ 0 ∷ 0 ∷ 0 ∷ 0 ∷ -L ∷ 0 ∷ LL ∷ 0 ∷ []
 
-abbrev first : Making
-first = makingOf 5 (words first-words)
+abbrev numbers : List ℕ
+numbers = 3 ∷ 4294967295 ∷ 0 ∷ 7 ∷ 1 ∷ []
 
--- between removals a bus that is not there, and after them one that is gone, so that bus 4 stays
+abbrev first : Making
+first = makingOf 5 (words first-words) numbers
+
+-- bus 2; then a number that is a row's and no bus's; then buses 1 and 3 and again 2, which is gone, so that bus 4 stays
 first-calls : List Call
-first-calls = bus 2 ∷ bus 7 ∷ buses (1 ∷ 3 ∷ 2 ∷ 4 ∷ []) ∷ []
+first-calls = bus 0 ∷ bus 2 ∷ buses (4294967295 ∷ 7 ∷ 0 ∷ 1 ∷ []) ∷ []
 
 abbrev a : Account
 a = account first first-calls
@@ -142,10 +148,10 @@ unfolding first-words first-calls words csub cmul cdiv upTo others entryOf entry
 long-chain = (3, 2 ∷ 1 ∷ [], (tt, (tt, (tt, tt))), (tt, (tt, (tt, tt))))
 
 fills-in : entry (left first first-calls) 1 0 ≈ a .old 4 0 → ⊥
-unfolding first-words first-calls words csub cmul cdiv upTo others place entryOf entryAt kron tooSmall refusal eliminate taken fresh step accountFrom sub mul div lt ofBits laid makingRefusal afterNew rising allBelow allZero sound inputRefusal view leaves removable afterBus afterBuses stepHeld leftFrom left eq
+unfolding first-words first-calls words csub cmul cdiv upTo others place entryOf entryAt kron tooSmall refusal eliminate taken fresh step accountFrom sub mul div lt ofBits laid makingRefusal afterNew rising allBelow allZero soundRows soundNumbers inputRefusal view leaves removable afterBus afterBuses stepHeld leftFrom left eq
 fills-in e = e .0
 
--- ---- claim 2: another matrix, with other entries at buses 2 and 3, and other calls that remove the same three
+-- ---- claim 2: another matrix, with other entries at buses 2 and 3, under other numbers, and other calls that remove the same three
 
 second-words : List ℕ
 second-words =
@@ -156,10 +162,11 @@ second-words =
     ∷ 0 ∷ 0 ∷ 0 ∷ 0 ∷ L ∷ 0 ∷ 0 ∷ L ∷ LL ∷ 0 ∷ []
 
 abbrev second : Making
-second = makingOf 5 (words second-words)
+second = makingOf 5 (words second-words) (8 ∷ 0 ∷ 4294967295 ∷ 2 ∷ 3 ∷ [])
 
+-- buses 2 and 1 and again 2; a number that is no bus's; bus 3, twice
 second-calls : List Call
-second-calls = buses (2 ∷ 1 ∷ 2 ∷ 0 ∷ []) ∷ bus 9 ∷ bus 3 ∷ bus 3 ∷ []
+second-calls = buses (4294967295 ∷ 0 ∷ 4294967295 ∷ 8 ∷ []) ∷ bus 1 ∷ bus 2 ∷ bus 2 ∷ []
 
 abbrev a' : Account
 a' = account second second-calls
@@ -207,6 +214,7 @@ sizes = refl
 
 -- the matrices agree but in the rows and columns of the group
 alike : Alike a a' G
+unfolding first-calls second-calls fresh step accountFrom
 alike = record { size = sizes; removed = second-removed ∙ sym first-removed; group = rw first-removed (search among-removed); outside = search outside }
 
 abbrev Differ : ℕ → ℕ → Type 0
@@ -239,5 +247,57 @@ row-same q h =
     (lit< tt) h (inl none-into)
 
 entries-differ : entry (left first first-calls) 1 1 ≈ entry (left second second-calls) 1 1 → ⊥
-unfolding first-words first-calls second-words second-calls words csub cmul cdiv upTo others place entryOf entryAt kron tooSmall refusal eliminate taken sub mul div lt ofBits laid makingRefusal afterNew rising allBelow allZero sound inputRefusal view leaves removable afterBus afterBuses stepHeld leftFrom left eq
+unfolding first-words first-calls second-words second-calls words csub cmul cdiv upTo others place entryOf entryAt kron tooSmall refusal eliminate taken sub mul div lt ofBits laid makingRefusal afterNew rising allBelow allZero soundRows soundNumbers inputRefusal view leaves removable afterBus afterBuses stepHeld leftFrom left eq
 entries-differ e = e .0
+
+-- ---- by number: the second matrix under the first one's numbers
+
+abbrev twin : Making
+twin = makingOf 5 (words second-words) numbers
+
+twin-calls : List Call
+twin-calls = buses (0 ∷ 4294967295 ∷ 2 ∷ []) ∷ bus 7 ∷ []
+
+abbrev t : Account
+t = account twin twin-calls
+
+both-made : Made first × Made twin
+unfolding first-words second-words words makingRefusal
+both-made = (tt, tt)
+
+twin-removed : t .removed ≡ gone
+unfolding second-words twin-calls words csub cmul cdiv upTo others entryOf entryAt kron tooSmall refusal eliminate taken fresh stateOf removes step accountFrom sub mul div lt ofBits
+twin-removed = refl
+
+-- the numbers of buses 3 and 2
+abbrev GN : List ℕ
+GN = 7 ∷ 0 ∷ []
+
+others-named : (P : ℕ → Type 0) → P 3 → P 4294967295 → P 1 → (k : ℕ) → k isOneOf numbers → (k isOneOf GN → ⊥) → P k
+others-named P x y z = of-each (λ (k : ℕ). (k isOneOf GN → ⊥) → P k) numbers (λ o. x, (λ o. y, (λ o. absurd (o tt), (λ o. absurd (o tt), (λ o. z, tt)))))
+
+named-outside : (b c : ℕ) → b isOneOf numbers → c isOneOf numbers → (b isOneOf GN → ⊥) → (c isOneOf GN → ⊥) → oldBetween a b c ≈ oldBetween t b c
+unfolding first-words first-calls second-words twin-calls words place entryOf entryAt fresh step accountFrom ofBits eq oldBetween
+named-outside b c m l o o' = others-named (λ (b : ℕ). Same b c) (along 3 (tt, tt) (tt, tt) (tt, tt)) (along 4294967295 (tt, tt) (tt, tt) (tt, tt)) (along 1 (tt, tt) (tt, tt) (tt, tt)) b m o
+  where
+    Same : ℕ → ℕ → Type 0
+    Same b c = oldBetween a b c ≈ oldBetween t b c
+
+    along : (b : ℕ) → Same b 3 → Same b 4294967295 → Same b 1 → Same b c
+    along b p q r = others-named (Same b) p q r c l o'
+
+by-number : AlikeByNumber a t GN
+unfolding first-calls twin-calls fresh step accountFrom
+by-number = record {
+  numbers = refl;
+  removed = rw (twin-removed, first-removed) refl;
+  group = rw first-removed (of-each (λ (k : ℕ). k isOneOf 0 ∷ 4294967295 ∷ 7 ∷ []) GN (tt, (tt, tt)));
+  outside = named-outside;
+}
+
+-- so the two are alike, with the same group
+twin-alike : Alike a t G
+unfolding first-calls twin-calls fresh step accountFrom rowsIn place
+twin-alike =
+    let (size, removed, among, outside) = alike-by-number first twin first-calls twin-calls (both-made .0) (both-made .1) GN by-number in
+    record { size = size; removed = removed; group = search among; outside = search outside }

@@ -1,12 +1,13 @@
 -- A list of removal calls on a reducer freshly made: what the calls leave, and, from the making and the calls alone, which buses they remove.
+-- A call names buses by number; the account tells each bus by its row in the matrix at making.
 use Prim.Native.Nat.{ℕ}
 use mathlib.Core.Bool.{cond}
-use mathlib.Core.List.{List, [], _∷_, _++_}
+use mathlib.Core.List.{List, [], _∷_, _++_, map}
 use lib.Dec.{leb}
 use lib.ListN.{length, getD}
 use Rattle.complex.specs.Matrices.{Matrix, upTo, entryAt}
 use Rattle.refusals.specs.Refusals.{limit}
-use Rattle.buses.specs.Buses.{others}
+use Rattle.buses.specs.Buses.{others, rowsIn}
 use Rattle.kron_rows.specs.Kron.{State, start, eliminate, taken}
 use Rattle.kron_core.specs.Reducer.{Making, afterNew, Held, held, afterBus, afterBuses}
 
@@ -34,15 +35,16 @@ left M calls = leftFrom (held (afterNew M .rec) (M .given)) calls
 abbrev pub entry : Held → Matrix
 entry h p q = entryAt (h .rec .«n_buses») (h .slice) p q
 
--- ---- the account: the size and the entries at making ("old"), and the buses removed since, in the order of the calls
+-- ---- the account: the size, the numbers and the entries at making ("old"), and the buses removed since, each by its row, in the order of the calls
 
 pub record Account : Type 0 where
   pub size : ℕ
+  pub numbers : List ℕ
   pub old : Matrix
   pub removed : List ℕ
 
 unfoldable pub fresh : Making → Account
-fresh M = record { size = M .size; old = entryAt (M .size) (M .given); removed = [] }
+fresh M = record { size = M .size; numbers = M .numbers; old = entryAt (M .size) (M .given); removed = [] }
 
 -- the old matrix after the removals, by Kron's formula
 unfoldable pub stateOf : Account → State
@@ -50,11 +52,12 @@ stateOf a = eliminate (start (a .size) (a .old)) (a .removed)
 
 -- the buses that a call removes: those before the first refused one; none where the list is longer than the limit
 unfoldable pub removes : Account → Call → List ℕ
-removes a (bus k) = taken (stateOf a) (k ∷ [])
-removes a (buses ks) = cond (leb (length ks) limit) (taken (stateOf a) ks) []
+unfolding rowsIn
+removes a (bus k) = taken (stateOf a) (rowsIn (a .numbers) (k ∷ []))
+removes a (buses ks) = cond (leb (length ks) limit) (taken (stateOf a) (rowsIn (a .numbers) ks)) []
 
 unfoldable pub step : Account → Call → Account
-step a c = record { size = a .size; old = a .old; removed = a .removed ++ removes a c }
+step a c = record { size = a .size; numbers = a .numbers; old = a .old; removed = a .removed ++ removes a c }
 
 unfoldable pub accountFrom : Account → List Call → Account
 accountFrom a [] = a
@@ -67,6 +70,13 @@ account M calls = accountFrom (fresh M) calls
 abbrev pub kept : Account → List ℕ
 kept a = others (a .removed) (upTo (a .size))
 
--- the kept bus of row and column p
+-- the old row of the kept bus of row and column p, and its number
+abbrev pub rowAt : Account → ℕ → ℕ
+rowAt a p = getD (kept a) p 0
+
 abbrev pub busAt : Account → ℕ → ℕ
-busAt a p = getD (kept a) p 0
+busAt a p = getD (a .numbers) (rowAt a p) 0
+
+-- the numbers of the buses in these rows
+abbrev pub numbersAt : Account → List ℕ → List ℕ
+numbersAt a is = map (λ (i : ℕ). getD (a .numbers) i 0) is

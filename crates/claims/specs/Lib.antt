@@ -2,5 +2,6 @@ pub mod Accounts
 pub mod Chains
 pub mod Finite
 pub mod Removals
+pub mod ByNumber
 pub mod Demand3
 pub mod WardRows

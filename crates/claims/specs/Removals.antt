@@ -7,15 +7,15 @@ use lib.ListN.{length}
 use Rattle.complex.specs.Values.{_≈_, F64s}
 use Rattle.buses.specs.Buses.{_isOneOf_}
 use Rattle.kron_core.specs.Reducer.{Making, Held}
-use Rattle.claims.specs.Accounts.{Call, left, entry, Account, account, kept, busAt}
+use Rattle.claims.specs.Accounts.{Call, left, entry, Account, account, kept, rowAt}
 use Rattle.claims.specs.Chains.{Chain, Into, Out, SameOutside}
 use Rattle.claims.specs.Finite.{Finite}
 
 -- an entry between two kept buses has its old value unless a chain joins row bus to column bus through removed buses
 abbrev pub Unchanged : Account → Held → Type 0
-Unchanged a h = (p q : ℕ) → p < length (kept a) → q < length (kept a) → (Chain (a .old) (a .removed) (busAt a p) (busAt a q) → ⊥) → entry h p q ≈ a .old (busAt a p) (busAt a q)
+Unchanged a h = (p q : ℕ) → p < length (kept a) → q < length (kept a) → (Chain (a .old) (a .removed) (rowAt a p) (rowAt a q) → ⊥) → entry h p q ≈ a .old (rowAt a p) (rowAt a q)
 
--- two accounts of the same buses, with the same removed in the same order, whose old entries agree but in the rows and columns of G, a "group" of removed buses
+-- two accounts of the same buses, row by row and under whatever numbers, with the same removed in the same order, whose old entries agree but in the rows and columns of G, a "group" of removed buses
 pub record Alike (a a' : Account) (G : List ℕ) : Type 0 where
   pub size : a' .size ≡ a .size
   pub removed : a' .removed ≡ a .removed
@@ -32,7 +32,7 @@ NoOut a a' G j = (Out (a .old) (a .removed) G j → ⊥) × (Out (a' .old) (a' .
 -- whatever the rows and columns of the group hold, no entry differs whose row bus has no chain into it, nor one whose column bus has none out of it
 abbrev pub Independent : Account → Held → Account → Held → Type 0
 Independent a h a' h' = (G : List ℕ) → Alike a a' G → (p q : ℕ) → p < length (kept a) → q < length (kept a)
-    → NoInto a a' G (busAt a p) ⊎ NoOut a a' G (busAt a q) → entry h p q ≈ entry h' p q
+    → NoInto a a' G (rowAt a p) ⊎ NoOut a a' G (rowAt a q) → entry h p q ≈ entry h' p q
 
 -- both, for every making and list of calls; a slice of f64 holds numbers of binary64 (F64s), which is how the logic writes an f64 and no restriction
 pub record RemovalClaims : Type 0 where

@@ -1,4 +1,5 @@
 -- Demand 3 of Ward's study: a retained row with zeros towards all external buses keeps its values and gets zero injection.
+-- A study's lists name buses by number; here each is told by its row in the given matrix (`inRows`).
 use Prim.Native.Nat.{ℕ, _+_, _<_}
 use mathlib.Core.Path.{_≡_}
 use mathlib.Core.List.{List, _∷_, _++_}
@@ -8,8 +9,9 @@ use lib.Ieee.{Float, nan}
 use Rattle.complex.specs.Matrices.{Matrix, entryAt}
 use Rattle.complex.specs.Values.{_≈_, isZero, Zero, allFinite, F64s}
 use Rattle.buses.specs.Buses.{_isOneOf_}
-use Rattle.ward_studies.specs.Ward.{Study, Room, Accepted, afterWard}
-use Rattle.ward_studies.specs.WardExtended.{Extended, ExtendedRoom, AcceptedX, afterExtended}
+use Rattle.ward_studies.specs.Ward.{Study, Room}
+use Rattle.ward_studies.specs.WardExtended.{Extended, ExtendedRoom}
+use Rattle.ward_core.specs.WardNumbers.{Numbered, NumberedX, inRows, inRowsX, AcceptedStudy, AcceptedStudyX, afterCompute, afterComputeExtended}
 use Rattle.ward_studies.specs.WardComputed.{ofStudy, ofExtended}
 
 -- ---- the premise
@@ -71,7 +73,7 @@ pub record KeepsRowX (S : Extended) (o : ExtendedRoom) (p : ℕ) : Type 0 where
 
 -- for every accepted study, of either kind; the matrix is a slice of f64 (F64s), which is no restriction
 pub record WardRows : Type 0 where
-  pub study : (S : Study) (o : Room) → F64s (S .given) → Accepted S o → FiniteStudy S
-      → (p : ℕ) → p < length (rowBuses S) → ZeroRow S p → KeepsRow S (afterWard S o .room) p
-  pub extended : (S : Extended) (o : ExtendedRoom) → F64s (S .study .given) → AcceptedX S o → FiniteExtended S
-      → (p : ℕ) → p < length (rowBuses (S .study)) → ZeroRow (S .study) p → KeepsRowX S (afterExtended S o .room) p
+  pub study : (N : Numbered) (o : Room) → F64s (N .study .given) → AcceptedStudy N o → FiniteStudy (inRows N)
+      → (p : ℕ) → p < length (rowBuses (inRows N)) → ZeroRow (inRows N) p → KeepsRow (inRows N) (afterCompute N o .room) p
+  pub extended : (N : NumberedX) (o : ExtendedRoom) → F64s (N .study .study .given) → AcceptedStudyX N o → FiniteExtended (inRowsX N)
+      → (p : ℕ) → p < length (rowBuses (inRows (N .study))) → ZeroRow (inRows (N .study)) p → KeepsRowX (inRowsX N) (afterComputeExtended N o .room) p

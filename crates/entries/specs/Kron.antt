@@ -18,20 +18,20 @@ use Rattle.entries.specs.Answers.{answerAfter, valueAfter}
 abbrev pub whereFits : {A : Type 0} → List ℕ → A → A → A
 whereFits rec new held = cond (eqb (length rec) recordBytes) new held
 
--- the library's refusal f of a call that itself gives a size or list of l buses; where the bytes are no record, 1 for more than the limit, else 2
-unfoldable pub fitting : List ℕ → ℕ → ℕ → ℕ
-fitting rec l f = whereFits rec f (refuse (ltb limit l) tooMany wrongLength)
+-- the library's refusal f of a call that itself gives a size of n buses and a list of l; where the bytes are no record, 1 for more than the limit, else 2
+unfoldable pub fitting : List ℕ → ℕ → ℕ → ℕ → ℕ
+fitting rec n l f = whereFits rec f (refuse (ltb limit n || ltb limit l) tooMany wrongLength)
 
 -- ---- new
 
-pub record Fresh (n : ℕ) (ys : List Float) (rec : List ℕ) (f : ℕ) (rec′ : List ℕ) : Type 0 where
-  pub told : f ≡ fitting rec n (number (afterNew (makingOf n ys) .answer))
-  pub stored : rec′ ≡ storedRecord f (afterNew (makingOf n ys) .rec) rec
+pub record Fresh (n : ℕ) (ys : List Float) (ns rec : List ℕ) (f : ℕ) (rec′ : List ℕ) : Type 0 where
+  pub told : f ≡ fitting rec n (length ns) (number (afterNew (makingOf n ys ns) .answer))
+  pub stored : rec′ ≡ storedRecord f (afterNew (makingOf n ys ns) .rec) rec
 
 -- ---- one bus
 
 pub record RemovedBy (left : AfterBus) (rec : List ℕ) (ys : List Float) (f : ℕ) (rec′ : List ℕ) (ys′ : List Float) : Type 0 where
-  pub told : f ≡ fitting rec 1 (number (left .out .answer))
+  pub told : f ≡ fitting rec 0 1 (number (left .out .answer))
   pub stored : rec′ ≡ storedRecord f (left .out .rec) rec
   pub matrix : ys′ ≡ whereFits rec (left .slice) ys
 
@@ -50,7 +50,7 @@ unfoldable pub noneRemoved : ℕ → ℕ → ℕ
 noneRemoved f count = cond (eqb count 0) f 0
 
 pub record ListedBy (left : AfterBuses) (rec : List ℕ) (ys : List Float) (l removed f : ℕ) (rec′ : List ℕ) (ys′ : List Float) (removed′ : ℕ) : Type 0 where
-  pub told : f ≡ fitting rec l (number (left .out .removals .answer))
+  pub told : f ≡ fitting rec 0 l (number (left .out .removals .answer))
   pub stored : rec′ ≡ storedRecord (noneRemoved f (left .out .removals .removed)) (left .out .rec) rec
   pub matrix : ys′ ≡ whereFits rec (left .slice) ys
   pub counted : removed′ ≡ answerAfter (fromInput f) (left .out .removals .removed) removed
@@ -61,15 +61,15 @@ Listed rec ys ks = ListedBy (afterBuses (recordIn rec) ys ks) rec ys (length ks)
 -- ---- reading
 
 pub record ShownBy (left : reading.AfterMatrix) (rec : List ℕ) (out : List Float) (f : ℕ) (out′ : List Float) : Type 0 where
-  pub told : f ≡ fitting rec 0 (number (left .answer))
+  pub told : f ≡ fitting rec 0 0 (number (left .answer))
   pub matrix : out′ ≡ whereFits rec (left .out) out
 
 abbrev pub Shown : List ℕ → List Float → List Float → ℕ → List Float → Type 0
 Shown rec ys out = ShownBy (reading.afterMatrix (recordIn rec) ys out) rec out
 
 pub record ActiveBy (left : reading.AfterActive) (rec buses : List ℕ) (count f : ℕ) (buses′ : List ℕ) (count′ : ℕ) : Type 0 where
-  pub told : f ≡ fitting rec 0 (number (left .answer))
-  pub rows : buses′ ≡ whereFits rec (left .buses) buses
+  pub told : f ≡ fitting rec 0 0 (number (left .answer))
+  pub numbers : buses′ ≡ whereFits rec (left .buses) buses
   pub counted : count′ ≡ answerAfter f (recordIn rec .«n_buses») count
 
 abbrev pub Active : List ℕ → List ℕ → ℕ → ℕ → List ℕ → ℕ → Type 0
@@ -77,7 +77,7 @@ Active rec buses = ActiveBy (reading.afterActive (recordIn rec) buses) rec buses
 
 -- z is what the two pointers hold
 pub record SeenBy (left : reading.AfterImpedance) (rec : List ℕ) (work : List Float) (z : Complex) (f : ℕ) (work′ : List Float) (z′ : Complex) : Type 0 where
-  pub told : f ≡ fitting rec 0 (reading.number (left .answer))
+  pub told : f ≡ fitting rec 0 0 (reading.number (left .answer))
   pub cleared : work′ ≡ whereFits rec (left .work) work
   pub value : z′ ≡ whereFits rec (valueAfter (left .answer) z) z
 

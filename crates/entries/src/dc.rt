@@ -1,4 +1,4 @@
-// The DC parts. Buses are counted from 0, branches by the from list.
+// The DC parts. Buses are rows, counted from 0, branches by the from list.
 use crate::answers::give_retained;
 use refusals::number;
 ghost use mathlib.Core.Path.{_≡_};

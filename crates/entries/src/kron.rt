@@ -1,5 +1,5 @@
 // Kron reduction. The record is a byte slice of exactly RECORD bytes; where it has another length the call is refused and nothing is touched.
-// Admittances are in per unit; buses keep the numbers of their rows at making, counted from 0.
+// Admittances are in per unit; buses are named by the numbers given at making.
 use crate::answers::give_count;
 use crate::answers::give_value;
 use equivalents::kron::KronReducer;
@@ -12,27 +12,31 @@ use record_entries::store_record;
 use refusals::LIMIT;
 use refusals::number;
 ghost use mathlib.Core.Path.{_≡_};
+ghost use mathlib.Core.Bool.{_||_};
 ghost use Rattle.refusals.specs.Refusals.{limit, tooMany, wrongLength, refuse};
 ghost use lib.Dec.{ltb};
 ghost use Rattle.entries.specs.Answers as answers;
 ghost use Rattle.entries.specs.Kron as spec;
 
-// The refusal where the record is not of its length: 1 for more than the limit, else 2.
-fn unfit(l: usize) -> u32
-    ensures { λ r. ⌜ r ≡ refuse (ltb limit l) tooMany wrongLength ⌝ }
+// The refusal where the record is not of its length: 1 for a size or a list above the limit, else 2.
+fn unfit(n: usize, l: usize) -> u32
+    ensures { λ r. ⌜ r ≡ refuse (ltb limit n || ltb limit l) tooMany wrongLength ⌝ }
 {
+    if n > LIMIT {
+        return 1;
+    }
     if l > LIMIT { 1 } else { 2 }
 }
 
-// Makes a reducer of n buses: y is its matrix (2 n n numbers, in per unit), rec its record.
+// Makes a reducer of n buses: y is its matrix (2 n n numbers, in per unit), numbers the number of each row's bus, rec its record.
 #[no_mangle]
-pub extern "C" fn jeturipe_kron_new(n: usize, y: &[f64], rec: &mut [u8]) -> u32
-    ensures { λ f. ⌜ spec.Fresh n (now (y .entry)) (now (rec .entry)) f (now (rec .exit)) ⌝ }
+pub extern "C" fn jeturipe_kron_new(n: usize, y: &[f64], numbers: &[u32], rec: &mut [u8]) -> u32
+    ensures { λ f. ⌜ spec.Fresh n (now (y .entry)) (now (numbers .entry)) (now (rec .entry)) f (now (rec .exit)) ⌝ }
 {
     if rec.len() != RECORD {
-        return unfit(n);
+        return unfit(n, numbers.len());
     }
-    let fresh = KronReducer::new(n, y);
+    let fresh = KronReducer::new(n, y, numbers);
     let answer = fresh.answer;
     let record = fresh.rec;
     let refusal = number(answer);
@@ -42,7 +46,7 @@ pub extern "C" fn jeturipe_kron_new(n: usize, y: &[f64], rec: &mut [u8]) -> u32
 
 // Removes one bus: y (in per unit) and rec are then those of the buses left.
 #[no_mangle]
-pub extern "C" fn jeturipe_eliminate_bus(rec: &mut [u8], y: &mut [f64], bus: usize) -> u32
+pub extern "C" fn jeturipe_eliminate_bus(rec: &mut [u8], y: &mut [f64], bus: u32) -> u32
     ensures { λ f. ⌜ spec.Removed (now (rec .entry)) (now (y .entry)) bus f (now (rec .exit)) (now (y .exit)) ⌝ }
 {
     if rec.len() != RECORD {
@@ -78,13 +82,13 @@ fn none_removed(refusal: u32, count: usize) -> u32
 pub extern "C" fn jeturipe_eliminate_buses(
     rec: &mut [u8],
     y: &mut [f64],
-    buses: &[usize],
+    buses: &[u32],
     removed: &mut usize,
 ) -> u32
     ensures { λ f. ⌜ spec.Listed (now (rec .entry)) (now (y .entry)) (now (buses .entry)) (now (removed .entry)) f (now (rec .exit)) (now (y .exit)) (now (removed .exit)) ⌝ }
 {
     if rec.len() != RECORD {
-        return unfit(buses.len());
+        return unfit(0, buses.len());
     }
     let taken = eliminated_buses(record_in(rec), y, buses);
     let removals = taken.removals;
@@ -97,9 +101,9 @@ pub extern "C" fn jeturipe_eliminate_buses(
     refusal
 }
 
-// The bus of each present row, in order, at the front of buses (one place for each row at making), 0 behind; count is how many.
+// The number of each present row's bus, in order, at the front of buses (one place for each row at making), 0 behind; count is how many.
 #[no_mangle]
-pub extern "C" fn jeturipe_active_buses(rec: &[u8], buses: &mut [usize], count: &mut usize) -> u32
+pub extern "C" fn jeturipe_active_buses(rec: &[u8], buses: &mut [u32], count: &mut usize) -> u32
     ensures { λ f. ⌜ spec.Active (now (rec .entry)) (now (buses .entry)) (now (count .entry)) f (now (buses .exit)) (now (count .exit)) ⌝ }
 {
     if rec.len() != RECORD {
@@ -128,8 +132,8 @@ pub extern "C" fn jeturipe_reduced_matrix(rec: &[u8], y: &[f64], out: &mut [f64]
 pub extern "C" fn jeturipe_thevenin_impedance(
     rec: &[u8],
     y: &[f64],
-    bus_i: usize,
-    bus_j: usize,
+    bus_i: u32,
+    bus_j: u32,
     work: &mut [f64],
     z_re: &mut f64,
     z_im: &mut f64,

@@ -1,10 +1,10 @@
-// The REI equivalent. Bus numbers are the caller's own.
+// The REI equivalent. What the lists call the buses is the caller's own.
 use crate::answers::give_equivalent;
 ghost use Rattle.entries.specs.Answers as answers;
 ghost use Rattle.entries.specs.Studies as spec;
 
 // The REI equivalent of generators and loads: rows of y_sub (per unit) and injections (MW, MVAr) are the generators, then the loads; so are the
-// spokes (per unit). A tie is two bus numbers and one admittance in per unit.
+// spokes (per unit). A tie is two buses, as the lists call them, and one admittance in per unit.
 #[no_mangle]
 pub extern "C" fn jeturipe_rei_compute(
     generator_buses: &[usize],

@@ -1,9 +1,8 @@
-// Ward and extended Ward equivalents. Buses are rows of y, counted from 0.
+// Ward and extended Ward equivalents. Buses are named by number: numbers holds those of the rows of y.
 use crate::answers::give_summary;
 use equivalents::ward::number_of;
-ghost use Rattle.ward_studies.specs.Ward as ward;
 ghost use Rattle.ward_studies.specs.WardCalls as calls;
-ghost use Rattle.ward_studies.specs.WardExtended as extended;
+ghost use Rattle.ward_core.specs.WardNumbers as ward;
 ghost use Rattle.entries.specs.Answers as answers;
 ghost use Rattle.entries.specs.Studies as spec;
 
@@ -13,9 +12,10 @@ ghost use Rattle.entries.specs.Studies as spec;
 pub extern "C" fn jeturipe_ward_compute(
     n: usize,
     y: &[f64],
-    internal: &[usize],
-    external: &[usize],
-    boundary: &[usize],
+    numbers: &[u32],
+    internal: &[u32],
+    external: &[u32],
+    boundary: &[u32],
     base_mva: f64,
     p_ext: &[f64],
     q_ext: &[f64],
@@ -28,7 +28,7 @@ pub extern "C" fn jeturipe_ward_compute(
     reduction_ratio: &mut f64,
 ) -> u32
     ensures { λ f. ⌜ spec.Studied
-        (ward.afterWard (calls.studyOf n (now (y .entry)) (now (internal .entry)) (now (external .entry)) (now (boundary .entry)) «base_mva» (now («p_ext» .entry)) (now («q_ext» .entry)))
+        (ward.afterCompute (ward.numberedOf (now (numbers .entry)) (calls.studyOf n (now (y .entry)) (now (internal .entry)) (now (external .entry)) (now (boundary .entry)) «base_mva» (now («p_ext» .entry)) (now («q_ext» .entry))))
         (calls.roomOf (now («y_ward» .entry)) (now («p_ward» .entry)) (now («q_ward» .entry)) (now (work .entry))))
         f
         (calls.roomOf (now («y_ward» .exit)) (now («p_ward» .exit)) (now («q_ward» .exit)) (now (work .exit)))
@@ -38,6 +38,7 @@ pub extern "C" fn jeturipe_ward_compute(
     let answer = equivalents::ward::compute(
         n,
         y,
+        numbers,
         internal,
         external,
         boundary,
@@ -58,9 +59,10 @@ pub extern "C" fn jeturipe_ward_compute(
 pub extern "C" fn jeturipe_ward_compute_extended(
     n: usize,
     y: &[f64],
-    internal: &[usize],
-    external: &[usize],
-    boundary: &[usize],
+    numbers: &[u32],
+    internal: &[u32],
+    external: &[u32],
+    boundary: &[u32],
     base_mva: f64,
     p_ext: &[f64],
     q_ext: &[f64],
@@ -76,7 +78,7 @@ pub extern "C" fn jeturipe_ward_compute_extended(
     reduction_ratio: &mut f64,
 ) -> u32
     ensures { λ f. ⌜ spec.Corrected
-        (extended.afterExtended (calls.extendedOf (calls.studyOf n (now (y .entry)) (now (internal .entry)) (now (external .entry)) (now (boundary .entry)) «base_mva» (now («p_ext» .entry)) (now («q_ext» .entry))) (now («v_ext» .entry)))
+        (ward.afterComputeExtended (ward.numberedXOf (ward.numberedOf (now (numbers .entry)) (calls.studyOf n (now (y .entry)) (now (internal .entry)) (now (external .entry)) (now (boundary .entry)) «base_mva» (now («p_ext» .entry)) (now («q_ext» .entry)))) (now («v_ext» .entry)))
         (calls.extendedRoomOf (calls.roomOf (now («y_ward» .entry)) (now («p_ward» .entry)) (now («q_ward» .entry)) (now (work .entry))) (now («voltage_correction» .entry)) (now («q_compensation» .entry))))
         f
         (calls.extendedRoomOf (calls.roomOf (now («y_ward» .exit)) (now («p_ward» .exit)) (now («q_ward» .exit)) (now (work .exit))) (now («voltage_correction» .exit)) (now («q_compensation» .exit)))
@@ -86,6 +88,7 @@ pub extern "C" fn jeturipe_ward_compute_extended(
     let answer = equivalents::ward::compute_extended(
         n,
         y,
+        numbers,
         internal,
         external,
         boundary,

@@ -1,12 +1,12 @@
 -- Laws of numbers read and written: one more of them, how many there are, and a number in its place.
 -- Assumes nothing.
-use mathlib.Core.Path.{_≡_, refl, sym, ap, _∙_}
+use mathlib.Core.Path.{_≡_, refl, sym, ap, ap₂, _∙_}
 use mathlib.Core.List.{List, [], _∷_, _++_, map, append-assoc, append-nil}
 use Prim.Native.Nat.{ℕ, zero, suc, _+_, _*_, _/_, _%_, _≤_, _<_}
 use native.Mathlib.Numerals.{add-one, towards-suc, unary-clauses}
 use native.Mathlib.Omega.{arith}
 use lib.ListN.{length, take, drop, getD, set, length-append, length-map}
-use lib.Seq.{sets, sets-eq, length-sets, take-all, take-at, take-suc, take-suc-set, length-take-le}
+use lib.Seq.{sets, sets-eq, length-sets, take-all, take-at, take-suc, take-suc-set, getD-take, length-take-le}
 use lib.Ieee.{binary64, ofBits}
 use Rattle.complex.specs.Matrices.{upTo}
 use Rattle.complex.proofs.Matrices.{length-upTo}
@@ -28,6 +28,23 @@ filled seq out out₀ i l h all e = let at : i ≡ length out₀ = omega (arith,
 pub words-suc : (k n : ℕ) (bs : List ℕ) → words k (n + 1) bs ≡ words k n bs ++ (word k bs (k * n) ∷ [])
 unfolding words upTo
 words-suc k n bs = rw add-one (map-append (λ (i : ℕ). word k bs (k * i)) (upTo n) (n ∷ []))
+
+word-take : (k m : ℕ) (bs : List ℕ) (a : ℕ) → a + k ≤ m → word k (take m bs) a ≡ word k bs a
+unfolding word
+word-take zero m bs a h = refl
+word-take (suc k) m bs a h = ap₂ (λ (x v : ℕ). x + 256 * v) (getD-take m bs a 0 (omega (arith, h))) (word-take k m bs (suc a) (omega (arith, h)))
+
+-- what stands behind the numbers is not read
+pub words-take : (k n m : ℕ) (bs : List ℕ) → k * n ≤ m → words k n (take m bs) ≡ words k n bs
+unfolding words upTo
+words-take k zero m bs h = refl
+words-take k (suc n) m bs h =
+    let far : k * suc n ≡ k * n + k = simp unary-clauses (omega arith) in
+    ap (λ (j : ℕ). words k j (take m bs)) (sym (add-one n))
+    ∙ words-suc k n (take m bs)
+    ∙ ap₂ (λ (ws : List ℕ) (w : ℕ). ws ++ (w ∷ [])) (words-take k n m bs (omega (arith, h, far))) (word-take k m bs (k * n) (omega (arith, h, far)))
+    ∙ sym (words-suc k n bs)
+    ∙ ap (λ (j : ℕ). words k j bs) (add-one n)
 
 pub floats-suc : (n : ℕ) (bs : List ℕ) → floats (n + 1) bs ≡ floats n bs ++ (ofBits binary64 (word 8 bs (8 * n)) ∷ [])
 unfolding floats

@@ -74,7 +74,7 @@ words-back k ws s =
     ext-getD 0 (words k (length ws) (ofWords k ws)) ws long λ (i : ℕ) (h : i < length (words k (length ws) (ofWords k ws))).
     let l : i < length ws = omega (arith, h, long) in getD-words k (length ws) (ofWords k ws) i l ∙ word-of k ws i s l
 
-front : (k n : ℕ) (bs : List ℕ) → Below 256 bs → k * n ≤ length bs → ofWords k (words k n bs) ≡ take (k * n) bs
+pub front : (k n : ℕ) (bs : List ℕ) → Below 256 bs → k * n ≤ length bs → ofWords k (words k n bs) ≡ take (k * n) bs
 unfolding words upTo ofWords
 front k zero bs s h = simp unary-clauses refl
 front k (suc n) bs s h =

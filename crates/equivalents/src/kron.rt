@@ -14,7 +14,7 @@ ghost use mathlib.Core.Path.{_≡_};
 ghost use Rattle.kron_core.specs.Reducer.{afterBus, afterBuses};
 
 // Removes one bus.
-pub fn eliminate_bus(r: &mut KronReducer, y: &mut [f64], bus: usize) -> Outcome
+pub fn eliminate_bus(r: &mut KronReducer, y: &mut [f64], bus: u32) -> Outcome
     ensures { λ a. ⌜ (a ≡ afterBus (now (r .entry)) (now (y .entry)) bus .out .answer)
         × (now (r .exit) ≡ afterBus (now (r .entry)) (now (y .entry)) bus .out .rec)
         × (now (y .exit) ≡ afterBus (now (r .entry)) (now (y .entry)) bus .slice) ⌝ }
@@ -25,7 +25,7 @@ pub fn eliminate_bus(r: &mut KronReducer, y: &mut [f64], bus: usize) -> Outcome
 }
 
 // Removes the buses of a list, in order, up to the first refused one.
-pub fn eliminate_buses(r: &mut KronReducer, y: &mut [f64], buses: &[usize]) -> Removals
+pub fn eliminate_buses(r: &mut KronReducer, y: &mut [f64], buses: &[u32]) -> Removals
     ensures { λ a. ⌜ (a ≡ afterBuses (now (r .entry)) (now (y .entry)) (now (buses .entry)) .out .removals)
         × (now (r .exit) ≡ afterBuses (now (r .entry)) (now (y .entry)) (now (buses .entry)) .out .rec)
         × (now (y .exit) ≡ afterBuses (now (r .entry)) (now (y .entry)) (now (buses .entry)) .slice) ⌝ }
@@ -36,7 +36,7 @@ pub fn eliminate_buses(r: &mut KronReducer, y: &mut [f64], buses: &[usize]) -> R
 }
 
 // `eliminate_bus` on a record of one's own, for callers that hold it by value.
-pub fn eliminated_bus(r: KronReducer, y: &mut [f64], bus: usize) -> Taken
+pub fn eliminated_bus(r: KronReducer, y: &mut [f64], bus: u32) -> Taken
     ensures { λ o. ⌜ (o ≡ afterBus r (now (y .entry)) bus .out) × (now (y .exit) ≡ afterBus r (now (y .entry)) bus .slice) ⌝ }
 {
     let mut rec = r;
@@ -48,7 +48,7 @@ pub fn eliminated_bus(r: KronReducer, y: &mut [f64], bus: usize) -> Taken
 }
 
 // `eliminate_buses` likewise.
-pub fn eliminated_buses(r: KronReducer, y: &mut [f64], buses: &[usize]) -> TakenAll
+pub fn eliminated_buses(r: KronReducer, y: &mut [f64], buses: &[u32]) -> TakenAll
     ensures { λ o. ⌜ (o ≡ afterBuses r (now (y .entry)) (now (buses .entry)) .out) × (now (y .exit) ≡ afterBuses r (now (y .entry)) (now (buses .entry)) .slice) ⌝ }
 {
     let mut rec = r;

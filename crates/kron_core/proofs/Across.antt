@@ -8,7 +8,7 @@ use Prim.Native.Nat.{ℕ, zero, suc, _+_, _*_, _≤_, _<_}
 use native.Mathlib.Nat.{mul-le-mul, mul-add}
 use native.Mathlib.Omega.{arith}
 use borrow.Author.Tests.{le-ltb, ne-eqb}
-use lib.Dec.{eqb, ltb}
+use lib.Dec.{T, eqb, ltb}
 use lib.ListN.{length}
 use lib.Ieee.{Float}
 use lib.Ieee.Bits.{is-true}
@@ -22,13 +22,13 @@ use Rattle.gauss_jordan.proofs.GaussJordan.{run-same, singular-system, beside-s
 use Rattle.kron_core.specs.declared.KronReducer.{KronReducer}
 use Rattle.kron_core.specs.declared.Impedance.{Impedance}
 use Rattle.kron_core.specs.declared.Impedance.the-variants.{Refused}
-use Rattle.kron_rows.specs.declared.Found.the-variants.{At, Nothing}
-use Rattle.buses.specs.Buses.{mem, place}
-use Rattle.kron_core.specs.Reducer.{activeOf, sound, inputRefusal}
-use Rattle.kron_rows.specs.Removal.{foundIn, Holds}
+use Rattle.buses.specs.declared.Found.the-variants.{At, Nothing}
+use Rattle.buses.specs.Buses.{mem, place, foundIn}
+use Rattle.kron_core.specs.Reducer.{activeOf, rowOf, sound, inputRefusal}
+use Rattle.kron_rows.specs.Removal.{Holds}
 use Rattle.kron_core.specs.Reading.{readingRefusal, across, impedance, impedanceRefusal, afterImpedance}
 use Rattle.kron_rows.proofs.Positions.{lt-or-ge}
-use Rattle.kron_rows.proofs.Taking.{found-at, found-not}
+use Rattle.buses.proofs.Lookups.{found-at, found-not}
 use Rattle.kron_core.proofs.Calls.{accepts-has, accepted-holds}
 use Rattle.kron_core.proofs.Reading.{reading-accepted}
 
@@ -88,8 +88,15 @@ pivot-or-none : (b : Bool) → (eqb (refuse b smallPivot 0) 0 || eqb (refuse b s
 pivot-or-none true = refl
 pivot-or-none false = refl
 
-module _ (r : KronReducer) (ys : List Float) (i j : ℕ) (ws : List Float) where
-  pub impedance-refused : (f : ℕ) → (f ≡ 0 → ⊥) → f ≡ readingRefusal 4 r ys (length ws) → (Refused f ≡ afterImpedance r ys i j ws .answer) × (ws ≡ afterImpedance r ys i j ws .work)
+-- between the buses numbered a and b
+module _ (r : KronReducer) (ys : List Float) (a b : ℕ) (ws : List Float) where
+  abbrev i : ℕ
+  i = rowOf r a
+
+  abbrev j : ℕ
+  j = rowOf r b
+
+  pub impedance-refused : (f : ℕ) → (f ≡ 0 → ⊥) → f ≡ readingRefusal 4 r ys (length ws) → (Refused f ≡ afterImpedance r ys a b ws .answer) × (ws ≡ afterImpedance r ys a b ws .work)
   unfolding afterImpedance
   impedance-refused f n e =
       let p : eqb f smallPivot ≡ false = ap (λ (k : ℕ). eqb k smallPivot) e ∙ not-pivot 4 r ys (length ws) in
@@ -97,24 +104,27 @@ module _ (r : KronReducer) (ys : List Float) (i j : ℕ) (ws : List Float) where
 
   -- where the input is accepted
   module _ (ok : readingRefusal 4 r ys (length ws) ≡ 0) where
-    pub impedance-first : foundIn i (activeOf r) ≡ Nothing → (Refused 11 ≡ afterImpedance r ys i j ws .answer) × (ws ≡ afterImpedance r ys i j ws .work)
+    pub impedance-first : foundIn i (activeOf r) ≡ Nothing → (Refused 11 ≡ afterImpedance r ys a b ws .answer) × (ws ≡ afterImpedance r ys a b ws .work)
     unfolding afterImpedance impedanceRefusal impedance
     impedance-first e = rw (ok, found-not i (activeOf r) e) (refl, refl)
 
     module _ (p : ℕ) (at-i : foundIn i (activeOf r) ≡ At p) where
-      pub impedance-second : foundIn j (activeOf r) ≡ Nothing → (Refused 11 ≡ afterImpedance r ys i j ws .answer) × (ws ≡ afterImpedance r ys i j ws .work)
+      pub impedance-second : foundIn j (activeOf r) ≡ Nothing → (Refused 11 ≡ afterImpedance r ys a b ws .answer) × (ws ≡ afterImpedance r ys a b ws .work)
       unfolding afterImpedance impedanceRefusal impedance
       impedance-second e = rw (ok, is-true (mem i (activeOf r)) (found-at i (activeOf r) p at-i .0), found-not j (activeOf r) e) (refl, refl)
 
       module _ (q : ℕ) (at-j : foundIn j (activeOf r) ≡ At q) where
         pub impedance-found : (o : Impedance) (zs : List Float)
             → (o ≡ impedance (refuse (singular (r .«n_buses») (entryAt (r .«n_buses») ys)) smallPivot 0) (across (inverse (r .«n_buses») (entryAt (r .«n_buses») ys)) p q)) × (zs ≡ zeros (length ws))
-            → (o ≡ afterImpedance r ys i j ws .answer) × (zs ≡ afterImpedance r ys i j ws .work)
+            → (o ≡ afterImpedance r ys a b ws .answer) × (zs ≡ afterImpedance r ys a b ws .work)
         unfolding afterImpedance impedanceRefusal
         impedance-found o zs h =
-            let a = found-at i (activeOf r) p at-i in
-            let b = found-at j (activeOf r) q at-j in
-            rw (ok, is-true (mem i (activeOf r)) (a .0), is-true (mem j (activeOf r)) (b .0), pivot-or-none (singular (r .«n_buses») (entryAt (r .«n_buses») ys)), a .1, b .1) h
+            let u = found-at i (activeOf r) p at-i in
+            let v = found-at j (activeOf r) q at-j in
+            rw (ok, is-true (mem i (activeOf r)) (u .0), is-true (mem j (activeOf r)) (v .0), pivot-or-none (singular (r .«n_buses») (entryAt (r .«n_buses») ys)), u .1, v .1) h
+
+    pub impedance-sound : (r .made ≤ limit) × T (sound r)
+    impedance-sound = let h = accepts-has r ys 0 (reading-accepted 4 r ys (length ws) ok .1) in (h .size, h .record')
 
     -- what the elimination may use
     pub impedance-holds : length (r .«active_buses») ≡ limit → Holds (r .«n_buses») (r .«active_buses») ys

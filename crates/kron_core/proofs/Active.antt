@@ -1,21 +1,26 @@
--- What `active_buses` answers and leaves, from the tests that the code makes.
+-- What `active_buses` answers and leaves, from the tests that the code makes, and what the numbers of a sound record have.
 -- Assumes nothing.
-use mathlib.Core.Path.{_≡_, refl, sym, ap, ap₂, subst, _∙_}
-use mathlib.Core.Bool.{Bool, true, false, not}
+use mathlib.Core.Path.{_≡_, refl, sym, ap, subst, _∙_}
+use mathlib.Core.Bool.{Bool, true, false, not, cond}
 use mathlib.Core.List.{List, _∷_, _++_}
 use Prim.Native.Nat.{ℕ, zero, suc, _+_, _-_, _≤_, _<_}
+use native.Mathlib.Nat.{lt-irrefl}
 use native.Mathlib.Omega.{arith}
 use borrow.Author.Tests.{lt-ltb, le-ltb, eq-eqb, ne-eqb, ltb-false, eqb-true}
 use lib.Dec.{T, eqb, ltb}
-use lib.ListN.{length, take, replicate}
-use lib.Seq.{length-take-le, take-append-add}
+use lib.ListN.{length, getD, take, replicate, length-map}
+use lib.Seq.{length-take-le, take-append-add, getD-take}
 use Rattle.refusals.specs.declared.Outcome.the-variants.{Done}
 use Rattle.refusals.specs.Refusals.{limit, tooMany, wrongLength, badRecord, refuse, outcome}
-use Rattle.buses.proofs.Buses.{rising-length}
+use Rattle.buses.specs.declared.Found.the-variants.{At, Nothing}
+use Rattle.buses.specs.Buses.{mem, _isOneOf_, place, foundIn}
+use Rattle.buses.proofs.Buses.{getD-in, below-all, place-none, rising-length}
+use Rattle.buses.proofs.Lookups.{getD-map, found-not}
+use Rattle.kron_rows.specs.Removal.{padded}
 use Rattle.kron_core.specs.declared.KronReducer.{KronReducer}
-use Rattle.kron_core.specs.Reducer.{activeOf, sound}
-use Rattle.kron_core.specs.Reading.{activeRefusal, afterActive}
-use Rattle.kron_core.proofs.Reducer.{sound-has, sound-is}
+use Rattle.kron_core.specs.Reducer.{activeOf, numbersOf, sound, rowOf}
+use Rattle.kron_core.specs.Reading.{activeNumbers, activeRefusal, afterActive}
+use Rattle.kron_core.proofs.Reducer.{sound-has}
 
 -- ---- the input refusals
 
@@ -54,6 +59,42 @@ module _ (r : KronReducer) (m : ℕ) where
       go false true false f g h e = absurd (omega (arith, e))
       go false true true f g h e = record { room = ltb-false limit (r .made) f; long = eqb-true m (r .made) g; good = subst T (sym h) tt }
 
+-- ---- the numbers of the active buses
+
+module _ (r : KronReducer) (full : length (r .«active_buses») ≡ limit) (good : T (sound r)) where
+  pub count-active : length (activeOf r) ≡ r .«n_buses»
+  count-active = length-take-le (r .«n_buses») (r .«active_buses») (rw full (sound-has r good .room))
+
+  pub count-numbers : length (activeNumbers r) ≡ r .«n_buses»
+  count-numbers = length-map (activeOf r) (λ (i : ℕ). getD (r .numbers) i 0) ∙ count-active
+
+  module _ (i : ℕ) (h : i < r .«n_buses») where
+    active-at : getD (activeOf r) i 0 ≡ getD (r .«active_buses») i 0
+    active-at = getD-take (r .«n_buses») (r .«active_buses») i 0 h
+
+    within : i < length (activeOf r)
+    within = omega (arith, count-active, h)
+
+    pub number-at : getD (activeNumbers r) i 0 ≡ getD (r .numbers) (getD (r .«active_buses») i 0) 0
+    number-at = getD-map (λ (i : ℕ). getD (r .numbers) i 0) (activeOf r) i within ∙ ap (λ (j : ℕ). getD (r .numbers) j 0) active-at
+
+    pub row-below : getD (r .«active_buses») i 0 < r .made
+    row-below = rw (← active-at) (below-all (r .made) (activeOf r) (sound-has r good .below) (getD (activeOf r) i 0) (getD-in (activeOf r) i within))
+
+-- a bus whose number no row has is not active
+pub unlisted : (r : KronReducer) (k : ℕ) → r .made ≤ limit → length (r .numbers) ≡ limit → T (sound r)
+    → foundIn k (numbersOf r) ≡ Nothing → Nothing ≡ foundIn (rowOf r k) (activeOf r)
+unfolding foundIn
+unlisted r k room all good e =
+    let count : length (numbersOf r) ≡ r .made = length-take-le (r .made) (r .numbers) (rw all room) in
+    let row : rowOf r k ≡ r .made = place-none k (numbersOf r) (λ (m : k isOneOf numbersOf r). subst T (unfold foundIn in found-not k (numbersOf r) e) m) ∙ count in
+    sym (ap (λ (b : Bool). cond b (At (place (rowOf r k) (activeOf r))) Nothing)
+    (not-in (mem (rowOf r k) (activeOf r)) (λ (m : rowOf r k isOneOf activeOf r). lt-irrefl (r .made) (subst (λ (n : ℕ). n < r .made) row (below-all (r .made) (activeOf r) (sound-has r good .below) (rowOf r k) m)))))
+  where
+    not-in : (b : Bool) → (T b → ⊥) → b ≡ false
+    not-in true f = absurd (f tt)
+    not-in false f = refl
+
 -- ---- the answer
 
 take-zeros : (m k : ℕ) → m ≤ k → take m (replicate {A = ℕ} k 0) ≡ replicate m 0
@@ -66,7 +107,7 @@ module _ (r : KronReducer) (os : List ℕ) where
   unfolding afterActive
   active-refused f n e = rw (← e, ne-eqb f 0 n) (refl, refl)
 
-  pub active-done : activeRefusal r (length os) ≡ 0 → length (r .«active_buses») ≡ limit → (zs : List ℕ) → zs ≡ take (length os) (r .«active_buses»)
+  pub active-done : activeRefusal r (length os) ≡ 0 → length (r .«active_buses») ≡ limit → (zs : List ℕ) → zs ≡ take (length os) (padded (activeNumbers r))
       → (Done ≡ afterActive r os .answer) × (zs ≡ afterActive r os .buses)
   unfolding afterActive outcome
   active-done e full zs filled = rw e (refl, filled ∙ places)
@@ -74,18 +115,15 @@ module _ (r : KronReducer) (os : List ℕ) where
       h : Accepted r (length os)
       h = active-accepted r (length os) e
 
-      n : ℕ
-      n = r .«n_buses»
+      count : length (activeNumbers r) ≡ r .«n_buses»
+      count = count-numbers r full (h .good)
 
-      count : length (activeOf r) ≡ n
-      count = length-take-le n (r .«active_buses») (rw full (sound-has r (h .good) .room))
+      few : r .«n_buses» ≤ r .made
+      few = let s = sound-has r (h .good) in rw (← count-active r full (h .good)) (rising-length (r .made) (activeOf r) (s .rises) (s .below))
 
-      few : n ≤ r .made
-      few = let s = sound-has r (h .good) in rw (← count) (rising-length (r .made) (activeOf r) (s .rises) (s .below))
-
-      places : take (length os) (r .«active_buses») ≡ activeOf r ++ replicate (r .made - n) 0
+      places : take (length os) (padded (activeNumbers r)) ≡ activeNumbers r ++ replicate (r .made - r .«n_buses») 0
       places =
-          let both : length os ≡ length (activeOf r) + (r .made - n) = omega (arith, h .long, few, count) in
-          ap₂ take both (ap (λ (t : KronReducer). t .«active_buses») (sound-is r full (h .good)))
-          ∙ take-append-add (activeOf r) (replicate (limit - length (activeOf r)) 0) (r .made - n)
-          ∙ ap (λ (l : List ℕ). activeOf r ++ l) (take-zeros (r .made - n) (limit - length (activeOf r)) (omega (arith, h .room, count)))
+          let both : length os ≡ length (activeNumbers r) + (r .made - r .«n_buses») = omega (arith, h .long, few, count) in
+          ap (λ (m : ℕ). take m (padded (activeNumbers r))) both
+          ∙ take-append-add (activeNumbers r) (replicate (limit - length (activeNumbers r)) 0) (r .made - r .«n_buses»)
+          ∙ ap (λ (l : List ℕ). activeNumbers r ++ l) (take-zeros (r .made - r .«n_buses») (limit - length (activeNumbers r)) (omega (arith, h .room, count)))

@@ -5,7 +5,7 @@ use mathlib.Core.Bool.{Bool, true, false, not, _||_}
 use mathlib.Core.Logic.{_⊎_, inl, inr}
 use mathlib.Core.List.{List, [], _∷_, _++_, append-nil}
 use Prim.Native.Nat.{ℕ, zero, suc, _+_, _*_, _-_, _≤_, _<_}
-use native.Mathlib.Nat.{zero-add, le-trans, mul-le-mul, mul-le-mul-left}
+use native.Mathlib.Nat.{zero-add, sub-zero, le-trans, mul-le-mul, mul-le-mul-left}
 use native.Mathlib.Omega.{arith}
 use borrow.Author.Tests.{lt-ltb, le-ltb, eq-eqb, ne-eqb, ltb-false, eqb-true}
 use lib.Dec.{T, eqb, ltb}
@@ -16,18 +16,17 @@ use Rattle.complex.specs.Matrices.{entryAt, zeros, rows}
 use Rattle.complex.proofs.Parts.{back}
 use Rattle.complex.proofs.Entries.{entry-take}
 use Rattle.complex.proofs.Matrices.{rows-ext, entry-within}
-use Rattle.refusals.specs.Refusals.{limit, tooMany, wrongLength, badRecord, refuse, outcome}
-use Rattle.refusals.specs.declared.Outcome.{Outcome}
+use Rattle.refusals.specs.Refusals.{limit, tooMany, wrongLength, badRecord, refuse}
 use Rattle.kron_core.specs.declared.KronReducer.{KronReducer}
 use Rattle.kron_core.specs.declared.TakenAll.{TakenAll}
 use Rattle.kron_rows.specs.declared.Ran.{Ran}
 use Rattle.buses.specs.Buses.{rising}
 use Rattle.kron_rows.specs.Kron.{State, eliminate, taken, stop}
-use Rattle.kron_core.specs.Reducer.{recordOf, activeOf, sound, inputRefusal, view, held, laidOut, laid, leaves, removable, refusalOf, Held, AfterBuses, afterBuses}
+use Rattle.kron_core.specs.Reducer.{ofParts, recordOf, activeOf, numbersOf, sound, inputRefusal, view, held, laidOut, laid, leaves, rowsOf, removable, refusalOf, takenOf, Held, AfterBuses, afterBuses}
 use Rattle.kron_rows.specs.Removal.{padded, Shows, Holds, TookAll}
 use Rattle.buses.proofs.Buses.{rising-length}
 use Rattle.kron_rows.proofs.States.{Accepted, taken-accepted}
-use Rattle.kron_core.proofs.Reducer.{Sound, sound-has, sound-is}
+use Rattle.kron_core.proofs.Reducer.{Sound, sound-has, filled-places}
 use Rattle.kron_rows.proofs.Taking.{holds-long, length-eliminate}
 
 -- ---- the input refusals
@@ -82,7 +81,7 @@ accepts-has r ys l e =
 pub accepted-holds : (r : KronReducer) (ys : List Float) (l : ℕ) → length (r .«active_buses») ≡ limit → inputRefusal r ys l ≡ 0 → Holds (r .«n_buses») (r .«active_buses») ys
 accepted-holds r ys l long e = record {
   room = has .room;
-  places = ap (λ (r : KronReducer). r .«active_buses») (sound-is r long (ok .record'));
+  places = filled-places (r .«n_buses») (r .«active_buses») (has .room) long (has .behind);
   rises = has .rises;
   fits = rw (ok .slice) (mul-le-mul-left 2 (mul-le-mul fewer fewer));
 }
@@ -134,15 +133,15 @@ nothing : (ts : List ℕ) → length ts ≡ 0 → ts ≡ []
 nothing [] e = refl
 nothing (t ∷ ts) e = absurd (omega arith)
 
-laid-rec : (n : ℕ) (s : State) → laid n s .rec ≡ recordOf n (s .active)
+laid-rec : (n : ℕ) (ns : List ℕ) (s : State) → laid n ns s .rec ≡ recordOf n ns (s .active)
 unfolding laid
-laid-rec n s = refl
+laid-rec n ns s = refl
 
-laid-slice : (n : ℕ) (s : State) → laid n s .slice ≡ laidOut (2 * (n * n)) (s .active) (s .entries)
+laid-slice : (n : ℕ) (ns : List ℕ) (s : State) → laid n ns s .slice ≡ laidOut (2 * (n * n)) (s .active) (s .entries)
 unfolding laid
-laid-slice n s = refl
+laid-slice n ns s = refl
 
-leaves-cons : (r : KronReducer) (ys : List Float) (t : ℕ) (ts : List ℕ) → leaves r ys (t ∷ ts) ≡ laid (r .made) (eliminate (view r ys) (t ∷ ts))
+leaves-cons : (r : KronReducer) (ys : List Float) (t : ℕ) (ts : List ℕ) → leaves r ys (t ∷ ts) ≡ laid (r .made) (numbersOf r) (eliminate (view r ys) (t ∷ ts))
 unfolding leaves
 leaves-cons r ys t ts = refl
 
@@ -152,61 +151,83 @@ leaves-none r ys = refl
 
 module _ (r : KronReducer) (ys : List Float) (ks : List ℕ) where
   pub buses-refused : (f : ℕ) → (f ≡ 0 → ⊥) → inputRefusal r ys (length ks) ≡ f
-      → (record { removals = record { answer = outcome f; removed = 0 }; rec = r } ≡ afterBuses r ys ks .out) × (ys ≡ afterBuses r ys ks .slice)
+      → (takenOf f 0 r ≡ afterBuses r ys ks .out) × (ys ≡ afterBuses r ys ks .slice)
   unfolding removable refusalOf leaves afterBuses
   buses-refused f n e = rw (e, ne-eqb f 0 n) (refl, refl)
 
   -- where the input is accepted
-  module _ (ok : inputRefusal r ys (length ks) ≡ 0) (long : length (r .«active_buses») ≡ limit) where
+  module _ (ok : inputRefusal r ys (length ks) ≡ 0) (long : length (r .«active_buses») ≡ limit) (full : length (r .numbers) ≡ limit) where
     abbrev s : State
     s = view r ys
 
-    abbrev outOf : Outcome → ℕ → KronReducer → TakenAll
-    outOf a d r = record { removals = record { answer = a; removed = d }; rec = r }
+    -- the rows of the listed buses
+    abbrev rs : List ℕ
+    rs = rowsOf r ks
 
-    after : afterBuses r ys ks ≡ record { out = outOf (outcome (stop s ks)) (length (taken s ks)) (leaves r ys (taken s ks) .rec); slice = leaves r ys (taken s ks) .slice }
+    after : afterBuses r ys ks ≡ record { out = takenOf (stop s rs) (length (taken s rs)) (leaves r ys (taken s rs) .rec); slice = leaves r ys (taken s rs) .slice }
     unfolding removable refusalOf afterBuses
     after = rw ok
 
-    module _ (ran : Ran) (a : Outcome) (bs : List ℕ) (zs : List Float) (says : a ≡ outcome (ran .stopped)) (t : TookAll (r .«n_buses») (r .«active_buses») ys ks ran bs zs) where
-      answer-is : a ≡ outcome (stop s ks)
-      unfolding view
-      answer-is = says ∙ ap outcome (t .says)
+    same-places : padded (eliminate s [] .active) ≡ r .«active_buses»
+    unfolding eliminate view
+    same-places = sym (accepted-holds r ys (length ks) long ok .places)
 
-      count-is : ran .done ≡ length (taken s ks)
+    module _ (ran : Ran) (bs : List ℕ) (zs : List Float) (t : TookAll (r .«n_buses») (r .«active_buses») ys rs ran bs zs) where
+      stopped-is : ran .stopped ≡ stop s rs
+      unfolding view
+      stopped-is = t .says
+
+      count-is : ran .done ≡ length (taken s rs)
       unfolding view
       count-is = t .count
 
-      places-are : bs ≡ padded (eliminate s (taken s ks) .active)
+      places-are : bs ≡ padded (eliminate s (taken s rs) .active)
       unfolding view
       places-are = t .places
 
-      shows-are : Shows (eliminate s (taken s ks)) zs
+      shows-are : Shows (eliminate s (taken s rs)) zs
       unfolding view
       shows-are = t .shows
 
-      pub buses-none : ran .done ≡ 0 → (outOf a (ran .done) r ≡ afterBuses r ys ks .out) × (zs ≡ afterBuses r ys ks .slice)
+      -- the record that the call leaves, by its parts
+      abbrev left : KronReducer
+      left = ofParts (r .made) (r .«n_buses» - ran .done) bs (r .numbers)
+
+      answered : left ≡ leaves r ys (taken s rs) .rec → takenOf (ran .stopped) (ran .done) left ≡ afterBuses r ys ks .out
+      answered e =
+          ap₂ (λ (f d : ℕ). takenOf f d left) stopped-is count-is
+          ∙ ap (takenOf (stop s rs) (length (taken s rs))) e
+          ∙ ap (λ (x : AfterBuses). x .out) (sym after)
+
+      pub buses-none : ran .done ≡ 0 → (takenOf (ran .stopped) (ran .done) left ≡ afterBuses r ys ks .out) × (zs ≡ afterBuses r ys ks .slice)
       buses-none z =
-          let none : taken s ks ≡ [] = nothing (taken s ks) (sym count-is ∙ z) in
-          let kept : leaves r ys (taken s ks) ≡ held r ys = ap (leaves r ys) none ∙ leaves-none r ys in (
-            ap₂ (λ (x : Outcome) (d : ℕ). outOf x d r) answer-is count-is
-                ∙ ap (λ (h : Held). outOf (outcome (stop s ks)) (length (taken s ks)) (h .rec)) (sym kept)
-                ∙ ap (λ (x : AfterBuses). x .out) (sym after),
+          let none : taken s rs ≡ [] = nothing (taken s rs) (sym count-is ∙ z) in
+          let kept : leaves r ys (taken s rs) ≡ held r ys = ap (leaves r ys) none ∙ leaves-none r ys in
+          let places : bs ≡ r .«active_buses» = places-are ∙ ap (λ (ts : List ℕ). padded (eliminate s ts .active)) none ∙ same-places in
+          let all : left ≡ r = ap₂ (λ (n : ℕ) (xs : List ℕ). ofParts (r .made) n xs (r .numbers)) (ap (λ (d : ℕ). r .«n_buses» - d) z ∙ sub-zero (r .«n_buses»)) places in (
+            answered (all ∙ ap (λ (h : Held). h .rec) (sym kept)),
             t .none z ∙ ap (λ (h : Held). h .slice) (sym kept) ∙ ap (λ (x : AfterBuses). x .slice) (sym after),
           )
 
       -- the state that is left
       abbrev end : State
-      end = eliminate s (taken s ks)
+      end = eliminate s (taken s rs)
 
       pub buses-fewer : ran .done ≤ r .«n_buses»
       buses-fewer = t .within
+
+      -- the numbers are as they were
+      places-kept : r .numbers ≡ padded (numbersOf r)
+      places-kept =
+          let ok′ = accepts-has r ys (length ks) ok in
+          let has = sound-has r (ok′ .record') in
+          filled-places (r .made) (r .numbers) (ok′ .size) full (has .spare)
 
       buses-left : length (end .active) ≡ r .«n_buses» - ran .done
       unfolding view
       buses-left =
           let h = accepted-holds r ys (length ks) long ok in
-          let e = length-eliminate s (taken s ks) (h .rises) (taken-accepted s ks) in
+          let e = length-eliminate s (taken s rs) (h .rises) (taken-accepted s rs) in
           let l : length (activeOf r) ≡ r .«n_buses» = holds-long (r .«n_buses») (r .«active_buses») ys h in
           omega (arith, e, l, count-is)
 
@@ -214,25 +235,23 @@ module _ (r : KronReducer) (ys : List Float) (ks : List ℕ) where
       buses-room = le-trans (mul-le-mul-left 2 (mul-le-mul (omega arith) (omega arith))) (accepted-holds r ys (length ks) long ok .fits)
 
       pub buses-some : (ran .done ≡ 0 → ⊥) → length zs ≡ length ys → (cs : List Float) → cs ≡ zeros (length ys - 2 * ((r .«n_buses» - ran .done) * (r .«n_buses» - ran .done)))
-          → (outOf a (ran .done) (record { made = r .made; «n_buses» = r .«n_buses» - ran .done; «active_buses» = bs }) ≡ afterBuses r ys ks .out)
+          → (takenOf (ran .stopped) (ran .done) left ≡ afterBuses r ys ks .out)
           × (back (2 * ((r .«n_buses» - ran .done) * (r .«n_buses» - ran .done))) (length ys - 2 * ((r .«n_buses» - ran .done) * (r .«n_buses» - ran .done))) zs cs ≡ afterBuses r ys ks .slice)
       buses-some n same cs cleared =
           let m = r .«n_buses» - ran .done in
-          let kept : leaves r ys (taken s ks) ≡ laid (r .made) end = something (taken s ks) (λ (z : length (taken s ks) ≡ 0). n (count-is ∙ z)) in
-          let rec : record { made = r .made; «n_buses» = m; «active_buses» = bs } ≡ recordOf (r .made) (end .active) =
-          ap₂ (λ (n : ℕ) (xs : List ℕ). record { made = r .made; «n_buses» = n; «active_buses» = xs }) (sym buses-left) places-are in (
-            ap₂ (λ (x : Outcome) (d : ℕ). outOf x d (record { made = r .made; «n_buses» = m; «active_buses» = bs })) answer-is count-is
-                ∙ ap (outOf (outcome (stop s ks)) (length (taken s ks))) (rec ∙ sym (laid-rec (r .made) end))
-                ∙ ap (λ (h : Held). outOf (outcome (stop s ks)) (length (taken s ks)) (h .rec)) (sym kept)
-                ∙ ap (λ (x : AfterBuses). x .out) (sym after),
+          let kept : leaves r ys (taken s rs) ≡ laid (r .made) (numbersOf r) end = something (taken s rs) (λ (z : length (taken s rs) ≡ 0). n (count-is ∙ z)) in
+          let rec : left ≡ recordOf (r .made) (numbersOf r) (end .active) =
+          ap₂ (λ (n : ℕ) (xs : List ℕ). ofParts (r .made) n xs (r .numbers)) (sym buses-left) places-are
+          ∙ ap (ofParts (r .made) (length (end .active)) (padded (end .active))) places-kept in (
+            answered (rec ∙ sym (laid-rec (r .made) (numbersOf r) end) ∙ ap (λ (h : Held). h .rec) (sym kept)),
             laid-out end m (length ys) zs cs buses-left shows-are same buses-room cleared
                 ∙ ap (λ (len : ℕ). laidOut len (end .active) (end .entries)) (accepts-has r ys (length ks) ok .slice)
-                ∙ sym (laid-slice (r .made) end)
+                ∙ sym (laid-slice (r .made) (numbersOf r) end)
                 ∙ ap (λ (h : Held). h .slice) (sym kept)
                 ∙ ap (λ (x : AfterBuses). x .slice) (sym after),
           )
         where
-          something : (ts : List ℕ) → (length ts ≡ 0 → ⊥) → leaves r ys ts ≡ laid (r .made) (eliminate s ts)
+          something : (ts : List ℕ) → (length ts ≡ 0 → ⊥) → leaves r ys ts ≡ laid (r .made) (numbersOf r) (eliminate s ts)
           something [] h = absurd (h refl)
           something (t ∷ ts) h = leaves-cons r ys t ts
 
@@ -255,9 +274,9 @@ pub none-removed : (r : KronReducer) (ys : List Float) (ks : List ℕ) → (inpu
 none-removed r ys ks n = sym (ap (λ (t : TakenAll). t .removals .removed) (buses-refused r ys ks (inputRefusal r ys (length ks)) n refl .0))
 
 -- their number and the present size at exit are the present size at entry, accepted or refused; a record has as many places as the limit
-pub removed-count : (r : KronReducer) (ys : List Float) (ks : List ℕ) → length (r .«active_buses») ≡ limit
+pub removed-count : (r : KronReducer) (ys : List Float) (ks : List ℕ) → length (r .«active_buses») ≡ limit → length (r .numbers) ≡ limit
     → afterBuses r ys ks .out .removals .removed + afterBuses r ys ks .out .rec .«n_buses» ≡ r .«n_buses»
-removed-count r ys ks long = elim (zero-or (inputRefusal r ys (length ks))) [ inl ok ↦ counted ok | inr n ↦ as-it-was n ]
+removed-count r ys ks long full = elim (zero-or (inputRefusal r ys (length ks))) [ inl ok ↦ counted ok | inr n ↦ as-it-was n ]
   where
     as-it-was : (inputRefusal r ys (length ks) ≡ 0 → ⊥) → afterBuses r ys ks .out .removals .removed + afterBuses r ys ks .out .rec .«n_buses» ≡ r .«n_buses»
     as-it-was n =
@@ -265,7 +284,7 @@ removed-count r ys ks long = elim (zero-or (inputRefusal r ys (length ks))) [ in
         sym (ap (λ (t : TakenAll). t .removals .removed + t .rec .«n_buses») e) ∙ zero-add (r .«n_buses»)
 
     counted : inputRefusal r ys (length ks) ≡ 0 → afterBuses r ys ks .out .removals .removed + afterBuses r ys ks .out .rec .«n_buses» ≡ r .«n_buses»
-    counted ok = ap (λ (x : AfterBuses). x .out .removals .removed + x .out .rec .«n_buses») (after r ys ks ok long) ∙ sum (taken (view r ys) ks) (taken-accepted (view r ys) ks)
+    counted ok = ap (λ (x : AfterBuses). x .out .removals .removed + x .out .rec .«n_buses») (after r ys ks ok long full) ∙ sum (taken (view r ys) (rowsOf r ks)) (taken-accepted (view r ys) (rowsOf r ks))
       where
         h : Holds (r .«n_buses») (r .«active_buses») ys
         h = accepted-holds r ys (length ks) long ok
@@ -278,5 +297,5 @@ removed-count r ys ks long = elim (zero-or (inputRefusal r ys (length ks))) [ in
         sum (t ∷ ts) a =
             let e = length-eliminate (view r ys) (t ∷ ts) (view-rises r ys (h .rises)) a in
             ap (λ (x : Held). length (t ∷ ts) + x .rec .«n_buses») (leaves-cons r ys t ts)
-            ∙ ap (λ (x : KronReducer). length (t ∷ ts) + x .«n_buses») (laid-rec (r .made) (eliminate (view r ys) (t ∷ ts)))
+            ∙ ap (λ (x : KronReducer). length (t ∷ ts) + x .«n_buses») (laid-rec (r .made) (numbersOf r) (eliminate (view r ys) (t ∷ ts)))
             ∙ omega (arith, e, whole)

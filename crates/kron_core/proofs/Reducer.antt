@@ -1,13 +1,13 @@
 -- Laws about records and slices: the record and layout of a state are sound, are read back as that state, and a call on them does what Kron's formula says.
 -- Assumes nothing.
 use mathlib.Core.Path.{_≡_, refl, sym, ap, ap₂, _∙_}
-use mathlib.Core.Bool.{Bool, true, false, _&&_, _||_}
+use mathlib.Core.Bool.{Bool, true, false, not, _&&_, _||_}
 use mathlib.Core.List.{List, [], _∷_, _++_, append-nil}
 use Prim.Native.Nat.{ℕ, zero, suc, _+_, _*_, _-_, _≤_, _<_}
 use native.Mathlib.Nat.{mul-le-mul, mul-le-mul-left, le-trans, sub-self}
 use native.Mathlib.Omega.{arith}
 use lib.Dec.{T, eqb, leb, ltb, eqb→eq, leb→le, le→leb}
-use lib.ListN.{length, getD, drop, replicate, length-append, length-drop, take-append-drop}
+use lib.ListN.{length, getD, take, drop, replicate, length-append, length-drop, take-append-drop}
 use lib.Seq.{length-take-le, take-append-seam, drop-append-seam}
 use lib.Ieee.{Float}
 use lib.Ieee.Fits.{and-i, and-l, and-r}
@@ -18,16 +18,23 @@ use Rattle.complex.proofs.Entries.{entry-append-left}
 use Rattle.complex.proofs.Matrices.{length-upTo, length-zeros, length-rows, entry-rows, grid-ext, entry-within}
 use Rattle.refusals.specs.Refusals.{limit, tooMany}
 use Rattle.kron_core.specs.declared.KronReducer.{KronReducer}
-use Rattle.buses.specs.Buses.{rising, allBelow, allZero, place}
+use Rattle.buses.specs.Buses.{rising, allBelow, allZero, place, repeats, rowsIn}
 use Rattle.kron_rows.specs.Kron.{State, eliminate, taken, stop}
-use Rattle.kron_core.specs.Reducer.{recordOf, activeOf, sound, inputRefusal, view, laidOut, laid, leaves, removable, refusalOf}
+use Rattle.kron_rows.specs.Removal.{padded}
+use Rattle.kron_core.specs.Reducer.{recordOf, activeOf, numbersOf, soundRows, soundNumbers, sound, inputRefusal, view, laidOut, laid, leaves, rowsOf, removable, refusalOf}
 use Rattle.buses.proofs.Buses.{getD-place, place-lt, rising-length}
 use Rattle.kron_rows.proofs.States.{Accepted, Regular, Agree, agree-taken, agree-stop, agree-eliminate, rows-same}
 
--- ---- the record with the buses xs active
+-- ---- the record of rows with the numbers ns, the rows xs active
 
-pub active-recordOf : (n : ℕ) (xs : List ℕ) → activeOf (recordOf n xs) ≡ xs
-active-recordOf n xs = take-append-seam xs (replicate (limit - length xs) 0)
+pub active-recordOf : (n : ℕ) (ns xs : List ℕ) → activeOf (recordOf n ns xs) ≡ xs
+active-recordOf n ns xs = take-append-seam xs (replicate (limit - length xs) 0)
+
+pub numbers-recordOf : (n : ℕ) (ns xs : List ℕ) → length ns ≡ n → numbersOf (recordOf n ns xs) ≡ ns
+numbers-recordOf n ns xs e = ap (λ (m : ℕ). take m (padded ns)) (sym e) ∙ take-append-seam ns (replicate (limit - length ns) 0)
+
+behind-recordOf : (n : ℕ) (ns : List ℕ) → length ns ≡ n → drop n (padded ns) ≡ replicate (limit - length ns) 0
+behind-recordOf n ns e = ap (λ (m : ℕ). drop m (padded ns)) (sym e) ∙ drop-append-seam ns (replicate (limit - length ns) 0)
 
 pub all-zero-replicate : (n : ℕ) → T (allZero (replicate n 0))
 unfolding allZero
@@ -42,13 +49,20 @@ all-zero-is (x ∷ xs) h =
     let f = all-zero-is xs (and-r (eqb x 0) (allZero xs) h) in
     cc
 
-pub sound-recordOf : (n : ℕ) (xs : List ℕ) → length xs ≤ limit → T (rising xs) → T (allBelow n xs) → T (sound (recordOf n xs))
-unfolding sound
-sound-recordOf n xs h r b =
+sound-rows : (n : ℕ) (ns xs : List ℕ) → length xs ≤ limit → T (rising xs) → T (allBelow n xs) → T (soundRows (recordOf n ns xs))
+unfolding soundRows
+sound-rows n ns xs h r b =
     rw (take-append-seam xs (replicate (limit - length xs) 0), drop-append-seam xs (replicate (limit - length xs) 0))
     (and-i (leb (length xs) limit && rising xs && allBelow n xs) (allZero (replicate (limit - length xs) 0))
     (and-i (leb (length xs) limit && rising xs) (allBelow n xs) (and-i (leb (length xs) limit) (rising xs) (le→leb (length xs) limit h) r) b)
     (all-zero-replicate (limit - length xs)))
+
+sound-numbers : (n : ℕ) (ns xs : List ℕ) → length ns ≡ n → repeats ns ≡ false → T (soundNumbers (recordOf n ns xs))
+unfolding soundNumbers
+sound-numbers n ns xs e d = rw (numbers-recordOf n ns xs e, behind-recordOf n ns e, d) (all-zero-replicate (limit - length ns))
+
+pub sound-recordOf : (n : ℕ) (ns xs : List ℕ) → length xs ≤ limit → T (rising xs) → T (allBelow n xs) → length ns ≡ n → repeats ns ≡ false → T (sound (recordOf n ns xs))
+sound-recordOf n ns xs h r b e d = and-i (soundRows (recordOf n ns xs)) (soundNumbers (recordOf n ns xs)) (sound-rows n ns xs h r b) (sound-numbers n ns xs e d)
 
 -- what a sound record has
 pub record Sound (r : KronReducer) : Type 0 where
@@ -56,32 +70,41 @@ pub record Sound (r : KronReducer) : Type 0 where
   pub rises : T (rising (activeOf r))
   pub below : T (allBelow (r .made) (activeOf r))
   pub behind : T (allZero (drop (r .«n_buses») (r .«active_buses»)))
+  pub distinct : repeats (numbersOf r) ≡ false
+  pub spare : T (allZero (drop (r .made) (r .numbers)))
 
 pub sound-has : (r : KronReducer) → T (sound r) → Sound r
-unfolding sound
+unfolding soundRows soundNumbers
 sound-has r h =
     let a = leb (r .«n_buses») limit in
     let b = rising (activeOf r) in
     let c = allBelow (r .made) (activeOf r) in
     let d = allZero (drop (r .«n_buses») (r .«active_buses»)) in
-    let abc = and-l (a && b && c) d h in
+    let e = not (repeats (numbersOf r)) in
+    let f = allZero (drop (r .made) (r .numbers)) in
+    let rows = and-l (a && b && c && d) (e && f) h in
+    let numbers = and-r (a && b && c && d) (e && f) h in
+    let abc = and-l (a && b && c) d rows in
     let ab = and-l (a && b) c abc in
-    record { room = leb→le (r .«n_buses») limit (and-l a b ab); rises = and-r a b ab; below = and-r (a && b) c abc; behind = and-r (a && b && c) d h }
-
--- and it is the record of its active buses
-pub sound-is : (r : KronReducer) → length (r .«active_buses») ≡ limit → T (sound r) → r ≡ recordOf (r .made) (activeOf r)
-sound-is r e h = λ i. record { made = r .made; «n_buses» = count i; «active_buses» = places i }
+    record {
+      room = leb→le (r .«n_buses») limit (and-l a b ab);
+      rises = and-r a b ab;
+      below = and-r (a && b) c abc;
+      behind = and-r (a && b && c) d rows;
+      distinct = not-true (repeats (numbersOf r)) (is-true e (and-l e f numbers));
+      spare = and-r e f numbers;
+    }
   where
-    count : r .«n_buses» ≡ length (activeOf r)
-    count = sym (length-take-le (r .«n_buses») (r .«active_buses») (rw e (sound-has r h .room)))
+    not-true : (b : Bool) → not b ≡ true → b ≡ false
+    not-true true h = sym h
+    not-true false h = refl
 
-    rest : length (drop (r .«n_buses») (r .«active_buses»)) ≡ limit - length (activeOf r)
-    rest = length-drop (r .«n_buses») (r .«active_buses») ∙ ap₂ (λ (a b : ℕ). a - b) e count
-
-    places : r .«active_buses» ≡ activeOf r ++ replicate (limit - length (activeOf r)) 0
-    places =
-        sym (take-append-drop (r .«n_buses») (r .«active_buses»))
-        ∙ ap (λ (l : List ℕ). activeOf r ++ l) (all-zero-is (drop (r .«n_buses») (r .«active_buses»)) (sound-has r h .behind) ∙ ap (λ (m : ℕ). replicate m 0) rest)
+-- its places are those of its active rows, and of its numbers
+pub filled-places : (n : ℕ) (xs : List ℕ) → n ≤ limit → length xs ≡ limit → T (allZero (drop n xs)) → xs ≡ padded (take n xs)
+filled-places n xs h e z =
+    let count : n ≡ length (take n xs) = sym (length-take-le n xs (rw e h)) in
+    sym (take-append-drop n xs)
+    ∙ ap (λ (l : List ℕ). take n xs ++ l) (all-zero-is (drop n xs) z ∙ ap (λ (m : ℕ). replicate m 0) (length-drop n xs ∙ ap₂ (λ (a b : ℕ). a - b) e count))
 
 -- ---- the layout of a matrix
 
@@ -105,49 +128,59 @@ laidOut-all n ys e =
     rw (none, append-nil, ← front)
 
 -- states that agree have one layout
-pub agree-laid : (n : ℕ) {s t : State} → Agree s t → laid n s ≡ laid n t
+pub agree-laid : (n : ℕ) (ns : List ℕ) {s t : State} → Agree s t → laid n ns s ≡ laid n ns t
 unfolding laid laidOut
-agree-laid n {s} {t} h = rw (← h .active, rows-same (s .entries) (t .entries) (s .active) (s .active) (h .entries))
+agree-laid n ns {s} {t} h = rw (← h .active, rows-same (s .entries) (t .entries) (s .active) (s .active) (h .entries))
 
 -- ---- a state as record and slice, given to a call
 
-module _ (n : ℕ) (s : State) (small : n ≤ limit) (regular : Regular n s) where
+module _ (n : ℕ) (ns : List ℕ) (s : State) (small : n ≤ limit) (many : length ns ≡ n) (distinct : repeats ns ≡ false) (regular : Regular n s) where
   pub active-room : length (s .active) ≤ n
   active-room = rising-length n (s .active) (regular .rises) (regular .below)
 
-  pub length-laid : length (laid n s .slice) ≡ 2 * (n * n)
+  pub length-laid : length (laid n ns s .slice) ≡ 2 * (n * n)
   unfolding laid
   length-laid = length-laidOut (2 * (n * n)) (s .active) (s .entries) (mul-le-mul-left 2 (mul-le-mul active-room active-room))
 
+  pub numbers-laid : numbersOf (laid n ns s .rec) ≡ ns
+  unfolding laid
+  numbers-laid = numbers-recordOf n ns (s .active) many
+
   -- no input refusal comes, with a list within the limit
-  pub input-laid : (l : ℕ) → l ≤ limit → inputRefusal (laid n s .rec) (laid n s .slice) l ≡ 0
+  pub input-laid : (l : ℕ) → l ≤ limit → inputRefusal (laid n ns s .rec) (laid n ns s .slice) l ≡ 0
   unfolding inputRefusal laid
   input-laid l h =
-      rw (le-ltb limit n small, le-ltb limit l h, eq-eqb (length (laid n s .slice)) (2 * (n * n)) length-laid, is-true (sound (recordOf n (s .active))) (sound-recordOf n (s .active) (le-trans active-room small) (regular .rises) (regular .below)))
+      rw (le-ltb limit n small, le-ltb limit l h, eq-eqb (length (laid n ns s .slice)) (2 * (n * n)) length-laid, is-true (sound (recordOf n ns (s .active))) (sound-recordOf n ns (s .active) (le-trans active-room small) (regular .rises) (regular .below) many distinct))
 
   -- it is read back as that state, as far as its buses are active
-  pub view-laid : Agree s (view (laid n s .rec) (laid n s .slice))
+  pub view-laid : Agree s (view (laid n ns s .rec) (laid n ns s .slice))
   unfolding view laid
   view-laid = record {
-    active = sym (active-recordOf n (s .active));
+    active = sym (active-recordOf n ns (s .active));
     entries = λ (i j : ℕ). λ x y.
         sym (rw active-recordOf
         (entry-laidOut (2 * (n * n)) (s .active) (s .entries) (place i (s .active)) (place j (s .active)) (place-lt i (s .active) x) (place-lt j (s .active) y)
         ∙ ap₂ (s .entries) (getD-place i (s .active) x) (getD-place j (s .active) y)));
   }
 
-  pub removable-laid : (ks : List ℕ) → length ks ≤ limit → removable (laid n s .rec) (laid n s .slice) ks ≡ taken s ks
+  pub removable-laid : (ks : List ℕ) → length ks ≤ limit → removable (laid n ns s .rec) (laid n ns s .slice) ks ≡ taken s (rowsIn ns ks)
   unfolding removable
-  removable-laid ks h = rw (input-laid (length ks) h) (sym (agree-taken s (view (laid n s .rec) (laid n s .slice)) ks view-laid))
+  removable-laid ks h =
+      rw (input-laid (length ks) h)
+      (sym (agree-taken s (view (laid n ns s .rec) (laid n ns s .slice)) (rowsOf (laid n ns s .rec) ks) view-laid) ∙ ap (λ (ms : List ℕ). taken s (rowsIn ms ks)) numbers-laid)
 
-  pub refusal-laid : (ks : List ℕ) → length ks ≤ limit → refusalOf (laid n s .rec) (laid n s .slice) ks ≡ stop s ks
+  pub refusal-laid : (ks : List ℕ) → length ks ≤ limit → refusalOf (laid n ns s .rec) (laid n ns s .slice) ks ≡ stop s (rowsIn ns ks)
   unfolding refusalOf
-  refusal-laid ks h = rw (input-laid (length ks) h) (sym (agree-stop s (view (laid n s .rec) (laid n s .slice)) ks view-laid))
+  refusal-laid ks h =
+      rw (input-laid (length ks) h)
+      (sym (agree-stop s (view (laid n ns s .rec) (laid n ns s .slice)) (rowsOf (laid n ns s .rec) ks) view-laid) ∙ ap (λ (ms : List ℕ). stop s (rowsIn ms ks)) numbers-laid)
 
-  pub leaves-laid : (ks : List ℕ) → Accepted s ks → leaves (laid n s .rec) (laid n s .slice) ks ≡ laid n (eliminate s ks)
+  pub leaves-laid : (ks : List ℕ) → Accepted s ks → leaves (laid n ns s .rec) (laid n ns s .slice) ks ≡ laid n ns (eliminate s ks)
   unfolding leaves laid
   leaves-laid [] ok = unfold eliminate in refl
-  leaves-laid (k ∷ ks) ok = sym (agree-laid n (agree-eliminate s (view (laid n s .rec) (laid n s .slice)) (k ∷ ks) view-laid ok))
+  leaves-laid (k ∷ ks) ok =
+      ap (λ (ms : List ℕ). laid n ms (eliminate (view (laid n ns s .rec) (laid n ns s .slice)) (k ∷ ks))) (numbers-recordOf n ns (s .active) many)
+      ∙ sym (agree-laid n ns (agree-eliminate s (view (laid n ns s .rec) (laid n ns s .slice)) (k ∷ ks) view-laid ok))
 
 or-true : (b : Bool) → (b || true) ≡ true
 or-true true = refl

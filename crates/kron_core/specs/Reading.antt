@@ -1,9 +1,9 @@
 -- What `reduced_matrix`, `active_buses` and `thevenin_impedance` answer and leave, for every record and slice.
 use Prim.Native.Nat.{ℕ, zero, suc, _*_, _-_}
 use mathlib.Core.Bool.{not, _||_, cond}
-use mathlib.Core.List.{List, _++_}
+use mathlib.Core.List.{List, _++_, map}
 use lib.Dec.{eqb, ltb}
-use lib.ListN.{length, replicate}
+use lib.ListN.{length, getD, replicate}
 use lib.Ieee.{Float, binary64, ofBits}
 use Rattle.complex.specs.declared.Complex.{Complex}
 use Rattle.complex.specs.Constants.{plus0}
@@ -16,7 +16,7 @@ use Rattle.kron_core.specs.declared.KronReducer.{KronReducer}
 use Rattle.kron_core.specs.declared.Impedance.{Impedance}
 use Rattle.kron_core.specs.declared.Impedance.the-variants.{Value, Refused}
 use Rattle.buses.specs.Buses.{mem, place}
-use Rattle.kron_core.specs.Reducer.{activeOf, sound, inputRefusal, view, laidOut}
+use Rattle.kron_core.specs.Reducer.{activeOf, rowOf, sound, inputRefusal, view, laidOut}
 
 -- 1, 2 (also of a second slice, of m numbers, that must have `per` for each entry at making), 9 or 0
 unfoldable pub readingRefusal : ℕ → KronReducer → List Float → ℕ → ℕ
@@ -39,6 +39,10 @@ afterMatrix r ys os =
 
 -- ---- the active buses
 
+-- their numbers, in the order of their rows
+abbrev pub activeNumbers : KronReducer → List ℕ
+activeNumbers r = map (λ (i : ℕ). getD (r .numbers) i 0) (activeOf r)
+
 -- 1, 2 of an output of m numbers, which must have one for each row at making, 9 or 0
 unfoldable pub activeRefusal : KronReducer → ℕ → ℕ
 activeRefusal r m =
@@ -50,11 +54,11 @@ pub record AfterActive : Type 0 where
   pub answer : Outcome
   pub buses : List ℕ
 
--- the bus of each present row, 0 behind; where refused the output as it was
+-- the number of each present row's bus, 0 behind; where refused the output as it was
 unfoldable pub afterActive : KronReducer → List ℕ → AfterActive
 afterActive r os =
     let f = activeRefusal r (length os) in
-    record { answer = outcome f; buses = cond (eqb f 0) (activeOf r ++ replicate (r .made - r .«n_buses») 0) os }
+    record { answer = outcome f; buses = cond (eqb f 0) (activeNumbers r ++ replicate (r .made - r .«n_buses») 0) os }
 
 -- ---- Thevenin impedance
 
@@ -77,7 +81,7 @@ unfoldable pub number : Impedance → ℕ
 number (Value z) = 0
 number (Refused k) = k
 
--- after an accepted input: 11 (the first bus, then the second), 13 or 0
+-- after an accepted input, of the rows i and j: 11 (the first bus, then the second), 13 or 0
 unfoldable pub impedanceRefusal : ℕ → List ℕ → Matrix → ℕ → ℕ → ℕ
 impedanceRefusal n xs Y i j =
     refuse (not (mem i xs)) notActive
@@ -88,9 +92,11 @@ pub record AfterImpedance : Type 0 where
   pub answer : Impedance
   pub work : List Float
 
--- the work slice is +0 after acceptance or 13, else as it was
+-- between the buses numbered a and b; the work slice is +0 after acceptance or 13, else as it was
 unfoldable pub afterImpedance : KronReducer → List Float → ℕ → ℕ → List Float → AfterImpedance
-afterImpedance r ys i j ws =
+afterImpedance r ys a b ws =
+    let i = rowOf r a in
+    let j = rowOf r b in
     let xs = activeOf r in
     let n = r .«n_buses» in
     let Y = entryAt n ys in

@@ -6,55 +6,76 @@ use lib.Dec.{T, eqb, leb, ltb}
 use lib.ListN.{length, take, drop, replicate}
 use lib.Ieee.{Float}
 use Rattle.complex.specs.Matrices.{Matrix, upTo, entryAt, rows, zeros}
-use Rattle.refusals.specs.Refusals.{limit, tooMany, wrongLength, badRecord, refuse, outcome}
+use Rattle.refusals.specs.Refusals.{limit, tooMany, wrongLength, busTwice, badRecord, refuse, outcome}
 use Rattle.kron_core.specs.declared.KronReducer.{KronReducer}
 use Rattle.kron_core.specs.declared.NewReducer.{NewReducer}
 use Rattle.kron_core.specs.declared.Taken.{Taken}
 use Rattle.kron_core.specs.declared.TakenAll.{TakenAll}
-use Rattle.buses.specs.Buses.{rising, allBelow, allZero, place}
+use Rattle.buses.specs.Buses.{rising, allBelow, allZero, place, repeats, rowsIn}
 use Rattle.kron_rows.specs.Kron.{State, eliminate, taken, stop}
+use Rattle.kron_rows.specs.Removal.{padded}
 
 -- ---- making
 
 pub record Making : Type 0 where
   pub size : ℕ
   pub given : List Float
+  -- the number of each row's bus
+  pub numbers : List ℕ
 
-abbrev pub makingOf : ℕ → List Float → Making
-makingOf n ys = record { size = n; given = ys }
+abbrev pub makingOf : ℕ → List Float → List ℕ → Making
+makingOf n ys ns = record { size = n; given = ys; numbers = ns }
 
--- 1, 2 or 0
+-- 1, 2, 8 or 0
 unfoldable pub makingRefusal : Making → ℕ
+unfolding repeats
 makingRefusal M =
-    refuse (ltb limit (M .size)) tooMany
-    (refuse (not (eqb (length (M .given)) (2 * (M .size * M .size)))) wrongLength 0)
+    refuse (ltb limit (M .size) || ltb limit (length (M .numbers))) tooMany
+    (refuse (not (eqb (length (M .given)) (2 * (M .size * M .size))) || not (eqb (length (M .numbers)) (M .size))) wrongLength
+    (refuse (repeats (M .numbers)) busTwice 0))
 
 -- an accepted making
 abbrev pub Made : Making → Type 0
 Made M = T (eqb (makingRefusal M) 0)
 
--- the record of a making of size n with these buses active
-abbrev pub recordOf : ℕ → List ℕ → KronReducer
-recordOf n xs = record { made = n; «n_buses» = length xs; «active_buses» = xs ++ replicate (limit - length xs) 0 }
+-- a record of these parts: the size at making, the present size, the places of the active rows and of the numbers
+abbrev pub ofParts : ℕ → ℕ → List ℕ → List ℕ → KronReducer
+ofParts m n xs ns = record { made = m; «n_buses» = n; «active_buses» = xs; numbers = ns }
+
+-- the record of a making of size n whose rows have the numbers ns, with the rows xs active, both 0 in the places behind
+abbrev pub recordOf : ℕ → List ℕ → List ℕ → KronReducer
+recordOf n ns xs = ofParts n (length xs) (padded xs) (padded ns)
 
 unfoldable pub afterNew : Making → NewReducer
 afterNew M =
     let f = makingRefusal M in
-    record { answer = outcome f; rec = cond (eqb f 0) (recordOf (M .size) (upTo (M .size))) (recordOf 0 []) }
+    record { answer = outcome f; rec = cond (eqb f 0) (recordOf (M .size) (M .numbers) (upTo (M .size))) (recordOf 0 [] []) }
 
 -- ---- a record and its slice
 
--- the buses that a record has active
+-- the rows that a record has active
 abbrev pub activeOf : KronReducer → List ℕ
 activeOf r = take (r .«n_buses») (r .«active_buses»)
 
--- rising, below the size at making and as many as the present size, and 0 in the places behind
-unfoldable pub sound : KronReducer → Bool
-sound r =
+-- the numbers of its rows at making
+abbrev pub numbersOf : KronReducer → List ℕ
+numbersOf r = take (r .made) (r .numbers)
+
+-- the active rows are rising, below the size at making and as many as the present size, and 0 in the places behind
+unfoldable pub soundRows : KronReducer → Bool
+soundRows r =
     leb (r .«n_buses») limit
     && rising (activeOf r)
     && allBelow (r .made) (activeOf r)
     && allZero (drop (r .«n_buses») (r .«active_buses»))
+
+-- no number stands twice, and 0 in the places behind
+unfoldable pub soundNumbers : KronReducer → Bool
+unfolding repeats
+soundNumbers r = not (repeats (numbersOf r)) && allZero (drop (r .made) (r .numbers))
+
+abbrev pub sound : KronReducer → Bool
+sound r = soundRows r && soundNumbers r
 
 -- the input refusals of a call with a list of l buses: 1, 2, 9 or 0
 unfoldable pub inputRefusal : KronReducer → List Float → ℕ → ℕ
@@ -63,7 +84,7 @@ inputRefusal r ys l =
     (refuse (not (eqb (length ys) (2 * (r .made * r .made)))) wrongLength
     (refuse (not (sound r)) badRecord 0))
 
--- the active buses and the matrix between them, by bus
+-- the active buses and the matrix between them, each bus by its row at making
 unfoldable pub view : KronReducer → List Float → State
 view r ys =
     let xs = activeOf r in
@@ -82,23 +103,37 @@ unfolding rows zeros
 laidOut len xs Y = rows Y xs xs ++ zeros (len - 2 * (length xs * length xs))
 
 -- a state as record and slice
-unfoldable pub laid : ℕ → State → Held
+unfoldable pub laid : ℕ → List ℕ → State → Held
 unfolding laidOut
-laid n s = held (recordOf n (s .active)) (laidOut (2 * (n * n)) (s .active) (s .entries))
+laid n ns s = held (recordOf n ns (s .active)) (laidOut (2 * (n * n)) (s .active) (s .entries))
 
--- what the removal of ks leaves: where there is none, all as it was, and what stands behind the rows too
+-- what the removal of the rows ks leaves: where there is none, all as it was, and what stands behind the rows too
 unfoldable pub leaves : KronReducer → List Float → List ℕ → Held
 leaves r ys [] = held r ys
-leaves r ys (k ∷ ks) = laid (r .made) (eliminate (view r ys) (k ∷ ks))
+leaves r ys (k ∷ ks) = laid (r .made) (numbersOf r) (eliminate (view r ys) (k ∷ ks))
 
 -- ---- the calls
 
--- of ks those that are removed, and the refusal of the call
+-- the row of the bus numbered k; a number that no row has becomes the size at making, which is no active row
+abbrev pub rowOf : KronReducer → ℕ → ℕ
+rowOf r k = place k (numbersOf r)
+
+-- the rows of a list of buses, in its order
+abbrev pub rowsOf : KronReducer → List ℕ → List ℕ
+rowsOf r ks = rowsIn (numbersOf r) ks
+
+-- of the buses numbered ks the rows of those that are removed, and the refusal of the call
 unfoldable pub removable : KronReducer → List Float → List ℕ → List ℕ
-removable r ys ks = cond (eqb (inputRefusal r ys (length ks)) 0) (taken (view r ys) ks) []
+unfolding rowsIn
+removable r ys ks = cond (eqb (inputRefusal r ys (length ks)) 0) (taken (view r ys) (rowsOf r ks)) []
 
 unfoldable pub refusalOf : KronReducer → List Float → List ℕ → ℕ
-refusalOf r ys ks = let f = inputRefusal r ys (length ks) in cond (eqb f 0) (stop (view r ys) ks) f
+unfolding rowsIn
+refusalOf r ys ks = let f = inputRefusal r ys (length ks) in cond (eqb f 0) (stop (view r ys) (rowsOf r ks)) f
+
+-- what a list of removals answers, with refusal f or 0 and c buses removed
+abbrev pub takenOf : ℕ → ℕ → KronReducer → TakenAll
+takenOf f c r = record { removals = record { answer = outcome f; removed = c }; rec = r }
 
 pub record AfterBus : Type 0 where
   pub out : Taken
@@ -117,4 +152,4 @@ unfoldable pub afterBuses : KronReducer → List Float → List ℕ → AfterBus
 afterBuses r ys ks =
     let ts = removable r ys ks in
     let h = leaves r ys ts in
-    record { out = record { removals = record { answer = outcome (refusalOf r ys ks); removed = length ts }; rec = h .rec }; slice = h .slice }
+    record { out = takenOf (refusalOf r ys ks) (length ts) (h .rec); slice = h .slice }

@@ -1,9 +1,14 @@
 // Kron reduction of a bus matrix that stands in a lent slice.
 use crate::thevenin::between;
+use buses::Found;
+use buses::numbers::all_zero as all_zero_numbers;
+use buses::numbers::find;
+use buses::numbers::repeats;
+use buses::numbers::rows_of;
 use complex::Complex;
 use complex::slices::clear;
 use gauss_jordan::rows::copy;
-use kron_rows::Found;
+use kron_rows::Ran;
 use kron_rows::all_zero;
 use kron_rows::find_bus;
 use kron_rows::in_order;
@@ -11,27 +16,31 @@ use kron_rows::take_list;
 use refusals::LIMIT;
 use refusals::Outcome;
 ghost use mathlib.Core.Path.{_≡_};
-ghost use mathlib.Core.List.{List, _++_};
+ghost use mathlib.Core.List.{List, [], _++_};
 ghost use Prim.Native.Nat.{_*_, _-_, _≤_, _<_};
+ghost use lib.Dec.{T};
 ghost use lib.ListN.{length, take};
 ghost use lib.Ieee.{Float};
 ghost use Rattle.complex.specs.Values.{F64s};
 ghost use Rattle.complex.specs.Entries.{entry};
 ghost use Rattle.complex.specs.Matrices.{upTo, zeros};
 ghost use Rattle.refusals.specs.Refusals.{limit, outcome};
+ghost use Rattle.buses.specs.Buses.{foundIn};
 ghost use Rattle.kron_rows.specs.Removal.{padded};
-ghost use Rattle.kron_core.specs.Reading.{number, readingRefusal, afterMatrix, activeRefusal, afterActive, afterImpedance};
-ghost use Rattle.kron_core.specs.Reducer.{makingOf, recordOf, afterNew, sound, inputRefusal, afterBus, afterBuses};
+ghost use Rattle.kron_core.specs.Reading.{number, readingRefusal, afterMatrix, activeNumbers, activeRefusal, afterActive, afterImpedance};
+ghost use Rattle.kron_core.specs.Reducer.{makingOf, makingRefusal, recordOf, afterNew, ofParts, activeOf, soundRows, soundNumbers, sound, inputRefusal, rowOf, takenOf, afterBus, afterBuses};
 
 mod thevenin;
 
 const ROW: usize = 2 * LIMIT;
 
-// The size at making, the present size, and the active buses in order, with 0 in the places behind them.
+// The size at making, the present size, the active buses by their rows at making, rising, and the number of each of these rows;
+// 0 in the places behind both. Only here a bus is a row: the calls and their answers, `active_buses` too, name it by number.
 pub struct KronReducer {
     pub made: usize,
     pub n_buses: usize,
-    pub active_buses: [usize; LIMIT],
+    pub active_buses: [u8; LIMIT],
+    pub numbers: [u32; LIMIT],
 }
 
 pub struct NewReducer {
@@ -75,51 +84,84 @@ pub fn number_of(answer: Impedance) -> u32
 // ---- making
 
 // The buses 0, 1, .. n - 1, and 0 behind them.
-fn first_buses(n: usize) -> [usize; LIMIT]
+fn first_buses(n: usize) -> [u8; LIMIT]
     requires { ⌜ n ≤ limit ⌝ }
     ensures { λ r. ⌜ r ≡ padded (upTo n) ⌝ }
 {
     let mut active = [0; LIMIT];
     let mut i = 0;
     while i < n {
-        active[i] = i;
+        active[i] = i as u8;
         i += 1;
     }
     active
 }
 
-// The record of n buses of which the first `active` are active.
-fn record_of(n: usize, active: usize) -> KronReducer
-    requires { ⌜ active ≤ limit ⌝ }
-    ensures { λ r. ⌜ r ≡ recordOf n (upTo active) ⌝ }
+// The numbers, and 0 behind them.
+fn in_places(numbers: &[u32]) -> [u32; LIMIT]
+    requires { ⌜ length (now numbers) ≤ limit ⌝ }
+    ensures { λ r. ⌜ r ≡ padded (now (numbers .entry)) ⌝ }
 {
+    let mut places = [0; LIMIT];
+    let mut i = 0;
+    while i < numbers.len() {
+        places[i] = numbers[i];
+        i += 1;
+    }
+    places
+}
+
+// The record of buses with these numbers, all active.
+fn record_of(numbers: &[u32]) -> KronReducer
+    requires { ⌜ length (now numbers) ≤ limit ⌝ }
+    ensures { λ r. ⌜ r ≡ recordOf (length (now (numbers .entry))) (now (numbers .entry)) (upTo (length (now (numbers .entry)))) ⌝ }
+{
+    let n = numbers.len();
     KronReducer {
         made: n,
-        n_buses: active,
-        active_buses: first_buses(active),
+        n_buses: n,
+        active_buses: first_buses(n),
+        numbers: in_places(numbers),
     }
 }
 
+// The refusals of a making from a slice of `len` numbers: 1, 2 or 8, or 0.
+fn making_refusal(n: usize, len: usize, numbers: &[u32]) -> u32
+    ensures { λ f. ⌜ ((ys : List Float) → length ys ≡ len → f ≡ makingRefusal (makingOf n ys (now (numbers .entry)))) ⌝ }
+{
+    if n > LIMIT {
+        return 1;
+    }
+    if numbers.len() > LIMIT {
+        return 1;
+    }
+    if len != 2 * (n * n) {
+        return 2;
+    }
+    if numbers.len() != n {
+        return 2;
+    }
+    if repeats(numbers) {
+        return 8;
+    }
+    0
+}
+
 impl KronReducer {
-    // y holds n rows of n entries, real then imaginary. Refusals: 1 and 2.
-    pub fn new(n: usize, y: &[f64]) -> NewReducer
-        ensures { λ o. ⌜ (o ≡ afterNew (makingOf n (now (y .entry)))) × F64s (now (y .entry)) ⌝ }
+    // y holds n rows of n entries, real then imaginary, and `numbers` the number of each row's bus. Refusals: 1, 2, 8.
+    pub fn new(n: usize, y: &[f64], numbers: &[u32]) -> NewReducer
+        ensures { λ o. ⌜ (o ≡ afterNew (makingOf n (now (y .entry)) (now (numbers .entry)))) × F64s (now (y .entry)) ⌝ }
     {
-        if n > LIMIT {
+        let f = making_refusal(n, y.len(), numbers);
+        if f != 0 {
             return NewReducer {
-                answer: Outcome::Refused(1),
-                rec: record_of(0, 0),
-            };
-        }
-        if y.len() != 2 * (n * n) {
-            return NewReducer {
-                answer: Outcome::Refused(2),
-                rec: record_of(0, 0),
+                answer: Outcome::Refused(f),
+                rec: record_of(&numbers[0..0]),
             };
         }
         NewReducer {
             answer: Outcome::Done,
-            rec: record_of(n, n),
+            rec: record_of(numbers),
         }
     }
 }
@@ -135,26 +177,54 @@ fn answer_of(f: u32) -> Outcome
     Outcome::Refused(f)
 }
 
-// Whether the active buses rise below the size at making and are as many as the present size, with 0 in the places behind.
-fn is_sound(r: KronReducer) -> bool
-    ensures { λ b. ⌜ b ≡ sound r ⌝ }
+// Whether no number stands twice, with 0 in the places behind.
+fn numbers_sound(made: usize, numbers: &[u32]) -> bool
+    requires { ⌜ (made ≤ limit) × (length (now numbers) ≡ limit) ⌝ }
+    ensures { λ b. ⌜ b ≡ soundNumbers (ofParts made 0 [] (now (numbers .entry))) ⌝ }
 {
-    let n = r.n_buses;
-    let active = r.active_buses;
+    if repeats(&numbers[0..made]) {
+        return false;
+    }
+    all_zero_numbers(&numbers[made..LIMIT])
+}
+
+// Whether the active rows rise below the size at making and are as many as the present size, with 0 in the places behind.
+fn rows_sound(made: usize, n: usize, active: &[u8]) -> bool
+    requires { ⌜ length (now active) ≡ limit ⌝ }
+    ensures { λ b. ⌜ b ≡ soundRows (ofParts made n (now (active .entry)) []) ⌝ }
+{
     if n > LIMIT {
         return false;
     }
-    if !in_order(r.made, &active[0..n]) {
+    if !in_order(made, &active[0..n]) {
         return false;
     }
     all_zero(&active[n..LIMIT])
 }
 
-// The input refusals of a call with a slice of `len` numbers and a list of `count` buses: 1, 2 or 9, or 0.
-fn input_refusal(r: KronReducer, len: usize, count: usize) -> u32
-    ensures { λ f. ⌜ ((ys : List Float) → length ys ≡ len → f ≡ inputRefusal r ys count) ⌝ }
+// Whether a record made within the limit is sound, in its rows and in its numbers. Its parts are lent: to hand on a record copies all of it.
+fn is_sound(made: usize, n: usize, active: &[u8], numbers: &[u32]) -> bool
+    requires { ⌜ (made ≤ limit) × (length (now active) ≡ limit) × (length (now numbers) ≡ limit) ⌝ }
+    ensures { λ b. ⌜ b ≡ sound (ofParts made n (now (active .entry)) (now (numbers .entry))) ⌝ }
 {
-    let made = r.made;
+    if !rows_sound(made, n, active) {
+        return false;
+    }
+    numbers_sound(made, numbers)
+}
+
+// The input refusals of a call with a slice of `len` numbers and a list of `count` buses: 1, 2 or 9, or 0.
+fn input_refusal(
+    made: usize,
+    n: usize,
+    active: &[u8],
+    numbers: &[u32],
+    len: usize,
+    count: usize,
+) -> u32
+    requires { ⌜ (length (now active) ≡ limit) × (length (now numbers) ≡ limit) ⌝ }
+    ensures { λ f. ⌜ ((ys : List Float) → length ys ≡ len → f ≡ inputRefusal (ofParts made n (now (active .entry)) (now (numbers .entry))) ys count) ⌝ }
+{
     if made > LIMIT {
         return 1;
     }
@@ -164,54 +234,53 @@ fn input_refusal(r: KronReducer, len: usize, count: usize) -> u32
     if len != 2 * (made * made) {
         return 2;
     }
-    if !is_sound(r) {
+    if !is_sound(made, n, active, numbers) {
         return 9;
     }
     0
 }
 
-// A list of removals whose input is accepted.
-fn take_accepted(r: KronReducer, y: &mut [f64], buses: &[usize]) -> TakenAll
-    requires { ⌜ inputRefusal r (now y) (length (now buses)) ≡ 0 ⌝ }
-    ensures { λ o. ⌜ (o ≡ afterBuses r (now (y .entry)) (now (buses .entry)) .out)
-        × (now (y .exit) ≡ afterBuses r (now (y .entry)) (now (buses .entry)) .slice) ⌝ }
+// A list of removals whose input is accepted, on the record's parts.
+fn take_accepted(
+    made: usize,
+    n: usize,
+    active: &mut [u8],
+    numbers: &[u32],
+    y: &mut [f64],
+    buses: &[u32],
+) -> Ran
+    requires { ⌜ (length (now active) ≡ limit) × (length (now numbers) ≡ limit)
+        × (inputRefusal (ofParts made n (now active) (now numbers)) (now y) (length (now buses)) ≡ 0) ⌝ }
+    ensures { λ o. ⌜ (o .done ≤ n)
+        × (takenOf (o .stopped) (o .done) (ofParts made (n - o .done) (now (active .exit)) (now (numbers .entry))) ≡ afterBuses (ofParts made n (now (active .entry)) (now (numbers .entry))) (now (y .entry)) (now (buses .entry)) .out)
+        × (now (y .exit) ≡ afterBuses (ofParts made n (now (active .entry)) (now (numbers .entry))) (now (y .entry)) (now (buses .entry)) .slice) ⌝ }
 {
-    let n = r.n_buses;
-    let mut active = r.active_buses;
+    let count = buses.len();
+    let mut rows = [0; LIMIT];
+    rows_of(&numbers[0..made], buses, &mut rows[0..count]);
     let mut row = [0.0; ROW];
-    let ran = take_list(n, &mut active, y, &mut row, buses);
+    let ran = take_list(n, active, y, &mut row, &rows[0..count]);
     let done = ran.done;
-    let removals = Removals {
-        answer: answer_of(ran.stopped),
-        removed: done,
-    };
     if done == 0 {
-        return TakenAll {
-            removals: removals,
-            rec: r,
-        };
+        return ran;
     }
     let m = n - done;
     let a = 2 * (m * m);
     let e = y.len();
     clear(&mut y[a..e]);
-    let rec = KronReducer {
-        made: r.made,
-        n_buses: m,
-        active_buses: active,
-    };
-    TakenAll {
-        removals: removals,
-        rec: rec,
-    }
+    ran
 }
 
 // The buses of a list are removed in order, up to the first that is refused. Refusals: 1, 2, 9; then 11 or 12 as the list meets them.
-pub fn take_buses(r: KronReducer, y: &mut [f64], buses: &[usize]) -> TakenAll
+pub fn take_buses(r: KronReducer, y: &mut [f64], buses: &[u32]) -> TakenAll
     ensures { λ o. ⌜ (o ≡ afterBuses r (now (y .entry)) (now (buses .entry)) .out)
         × (now (y .exit) ≡ afterBuses r (now (y .entry)) (now (buses .entry)) .slice) ⌝ }
 {
-    let f = input_refusal(r, y.len(), buses.len());
+    let made = r.made;
+    let n = r.n_buses;
+    let mut active = r.active_buses;
+    let numbers = r.numbers;
+    let f = input_refusal(made, n, &active, &numbers, y.len(), buses.len());
     if f != 0 {
         let removals = Removals {
             answer: answer_of(f),
@@ -222,11 +291,26 @@ pub fn take_buses(r: KronReducer, y: &mut [f64], buses: &[usize]) -> TakenAll
             rec: r,
         };
     }
-    take_accepted(r, y, buses)
+    let ran = take_accepted(made, n, &mut active, &numbers, y, buses);
+    let done = ran.done;
+    let removals = Removals {
+        answer: answer_of(ran.stopped),
+        removed: done,
+    };
+    let rec = KronReducer {
+        made: made,
+        n_buses: n - done,
+        active_buses: active,
+        numbers: numbers,
+    };
+    TakenAll {
+        removals: removals,
+        rec: rec,
+    }
 }
 
 // One bus is removed. Refusals: 1, 2, 9; 11; 12.
-pub fn take_bus(r: KronReducer, y: &mut [f64], bus: usize) -> Taken
+pub fn take_bus(r: KronReducer, y: &mut [f64], bus: u32) -> Taken
     ensures { λ o. ⌜ (o ≡ afterBus r (now (y .entry)) bus .out) × (now (y .exit) ≡ afterBus r (now (y .entry)) bus .slice) ⌝ }
 {
     let list = [bus];
@@ -242,6 +326,21 @@ pub fn take_bus(r: KronReducer, y: &mut [f64], bus: usize) -> Taken
 
 // ---- reading
 
+// The present row of the bus with this number, or nothing.
+fn find_number(r: KronReducer, bus: u32) -> Found
+    requires { ⌜ (r .made ≤ limit) × T (sound r) ⌝ }
+    ensures { λ o. ⌜ o ≡ foundIn (rowOf r bus) (activeOf r) ⌝ }
+{
+    let made = r.made;
+    let numbers = r.numbers;
+    let n = r.n_buses;
+    let active = r.active_buses;
+    let Found::At(row) = find(&numbers[0..made], bus) else {
+        return Found::Nothing;
+    };
+    find_bus(&active[0..n], row)
+}
+
 // The input refusals of a call with a slice of `len` numbers and a second of m, which must have `per` for each entry at making.
 fn reading_refusal(r: KronReducer, len: usize, m: usize, per: usize) -> u32
     requires { ⌜ per ≤ 4 ⌝ }
@@ -254,7 +353,10 @@ fn reading_refusal(r: KronReducer, len: usize, m: usize, per: usize) -> u32
     if m != per * (made * made) {
         return 2;
     }
-    input_refusal(r, len, 0)
+    let n = r.n_buses;
+    let active = r.active_buses;
+    let numbers = r.numbers;
+    input_refusal(made, n, &active, &numbers, len, 0)
 }
 
 // n rows of n entries of y, and +0 behind them.
@@ -293,11 +395,36 @@ fn active_refusal(r: KronReducer, m: usize) -> u32
     if m != made {
         return 2;
     }
-    if is_sound(r) { 0 } else { 9 }
+    let n = r.n_buses;
+    let active = r.active_buses;
+    let numbers = r.numbers;
+    if is_sound(made, n, &active, &numbers) {
+        0
+    } else {
+        9
+    }
 }
 
-// The first places of a record, as many as `out` has.
-fn copy_places(places: &[usize], out: &mut [usize])
+// The numbers of the active buses, in the order of their rows, and 0 behind them.
+pub fn active_numbers(r: KronReducer) -> [u32; LIMIT]
+    requires { ⌜ (r .made ≤ limit) × T (sound r) ⌝ }
+    ensures { λ o. ⌜ o ≡ padded (activeNumbers r) ⌝ }
+{
+    let n = r.n_buses;
+    let active = r.active_buses;
+    let numbers = r.numbers;
+    let mut list = [0; LIMIT];
+    let mut i = 0;
+    while i < n {
+        let row = active[i] as usize;
+        list[i] = numbers[row];
+        i += 1;
+    }
+    list
+}
+
+// The first places of a list, as many as `out` has.
+fn copy_places(places: &[u32], out: &mut [u32])
     requires { ⌜ length (now out) ≤ length (now places) ⌝ }
     ensures { λ _. ⌜ now (out .exit) ≡ take (length (now (out .entry))) (now (places .entry)) ⌝ }
 {
@@ -308,16 +435,16 @@ fn copy_places(places: &[usize], out: &mut [usize])
     }
 }
 
-// The bus of each present row, in order, in `out`, 0 behind. Refusals: 1, 2, 9.
-pub fn active_buses(r: KronReducer, out: &mut [usize]) -> Outcome
+// The number of each present row's bus, in order, in `out`, 0 behind. Refusals: 1, 2, 9.
+pub fn active_buses(r: KronReducer, out: &mut [u32]) -> Outcome
     ensures { λ o. ⌜ (o ≡ afterActive r (now (out .entry)) .answer) × (now (out .exit) ≡ afterActive r (now (out .entry)) .buses) ⌝ }
 {
     let f = active_refusal(r, out.len());
     if f != 0 {
         return answer_of(f);
     }
-    let places = r.active_buses;
-    copy_places(&places, out);
+    let list = active_numbers(r);
+    copy_places(&list, out);
     Outcome::Done
 }
 
@@ -326,8 +453,8 @@ pub fn active_buses(r: KronReducer, out: &mut [usize]) -> Outcome
 pub fn thevenin_impedance(
     r: KronReducer,
     y: &[f64],
-    bus_i: usize,
-    bus_j: usize,
+    bus_i: u32,
+    bus_j: u32,
     work: &mut [f64],
 ) -> Impedance
     ensures { λ o. ⌜ (o ≡ afterImpedance r (now (y .entry)) «bus_i» «bus_j» (now (work .entry)) .answer)
@@ -338,11 +465,10 @@ pub fn thevenin_impedance(
         return Impedance::Refused(f);
     }
     let n = r.n_buses;
-    let active = r.active_buses;
-    let Found::At(i) = find_bus(&active[0..n], bus_i) else {
+    let Found::At(i) = find_number(r, bus_i) else {
         return Impedance::Refused(11);
     };
-    let Found::At(j) = find_bus(&active[0..n], bus_j) else {
+    let Found::At(j) = find_number(r, bus_j) else {
         return Impedance::Refused(11);
     };
     between(n, i, j, y, work)

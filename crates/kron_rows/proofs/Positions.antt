@@ -1,4 +1,4 @@
--- Laws of what removal by rows and columns cites: testing a record's buses, finding one, and which row stands where when one drops out.
+-- Laws of what removal by rows and columns cites: testing a record's buses, and which row stands where when one drops out.
 -- Assumes nothing.
 use mathlib.Core.Path.{_≡_, refl, sym, ap, _∙_}
 use mathlib.Core.Bool.{Bool, true, false, _&&_}
@@ -16,11 +16,11 @@ use Rattle.refusals.specs.Refusals.{limit}
 use native.Mathlib.Numerals.{add-one}
 use native.Mathlib.Omega.{arith}
 use borrow.Author.Count.{below-more}
-use borrow.Author.Tests.{lt-ltb, le-ltb, le-leb, lt-leb, eq-eqb, ne-eqb}
+use borrow.Author.Tests.{lt-ltb, le-ltb, le-leb, lt-leb}
 use lib.Dec.{leb, ltb, leb·zero}
 use lib.ListN.{length, length-drop, getD, take, drop, set}
 use lib.Seq.{length-take-le, drop-cons, getD-set-same, getD-set-other}
-use Rattle.buses.specs.Buses.{place, rising, allBelow, allZero}
+use Rattle.buses.specs.Buses.{rising, allBelow}
 use Rattle.kron_rows.specs.Removal.{kept}
 
 -- ---- the record's tests, a bus at a time
@@ -72,26 +72,6 @@ module _ (n low : ℕ) (xs : List ℕ) (i : ℕ) (h : i < length xs) where
 
   pub rises-high : low ≤ getD xs i 0 → n ≤ getD xs i 0 → risesFrom low n (drop i xs) ≡ false
   rises-high a b = at-i ∙ simp (le-leb _ _ a, le-ltb _ _ b)
-
-module _ (xs : List ℕ) (i : ℕ) (h : i < length xs) where
-  pub zero-on : getD xs i 0 ≡ 0 → allZero (drop i xs) ≡ allZero (drop (i + 1) xs)
-  unfolding allZero
-  zero-on e = rw (add-one i, drop-cons xs i 0) (simp (eq-eqb _ _ e))
-
-  pub zero-not : (getD xs i 0 ≡ 0 → ⊥) → allZero (drop i xs) ≡ false
-  unfolding allZero
-  zero-not e = rw (drop-cons xs i 0) (simp (ne-eqb _ _ e))
-
--- ---- where a bus is found
-
-module _ (k : ℕ) (xs : List ℕ) (i : ℕ) (h : i < length xs) where
-  pub place-here : getD xs i 0 ≡ k → place k (drop i xs) ≡ 0
-  unfolding place
-  place-here e = rw (drop-cons xs i 0) (simp (eq-eqb _ _ (sym e)))
-
-  pub place-on : (getD xs i 0 ≡ k → ⊥) → place k (drop i xs) ≡ suc (place k (drop (i + 1) xs))
-  unfolding place
-  place-on e = rw (add-one i, drop-cons xs i 0) (simp (ne-eqb k (getD xs i 0) (λ (q : k ≡ getD xs i 0). e (sym q))))
 
 -- below, or not
 pub lt-or-ge : (a b : ℕ) → (a < b) ⊎ (b ≤ a)

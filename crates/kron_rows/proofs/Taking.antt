@@ -15,31 +15,14 @@ use lib.Ieee.{Float}
 use lib.Ieee.Bits.{is-true}
 use Rattle.complex.specs.Matrices.{entryAt}
 use Rattle.refusals.specs.Refusals.{limit, notActive, smallEntry}
-use Rattle.kron_rows.specs.declared.Found.the-variants.{At, Nothing}
-use Rattle.buses.specs.Buses.{mem, _isOneOf_, place, rising}
+use Rattle.buses.specs.declared.Found.the-variants.{At, Nothing}
+use Rattle.buses.specs.Buses.{mem, _isOneOf_, place, rising, foundIn}
 use Rattle.kron_rows.specs.Kron.{kron, State, remove, tooSmall, refusal, accepts, eliminate, taken, stop}
-use Rattle.kron_rows.specs.Removal.{foundIn, kept, padded, shown, Shows, Holds, TookOne, TookAll}
+use Rattle.kron_rows.specs.Removal.{kept, padded, shown, Shows, Holds, TookOne, TookAll}
 use Rattle.buses.proofs.Buses.{place-lt, rising-others}
+use Rattle.buses.proofs.Lookups.{found-at, found-not}
 use Rattle.kron_rows.proofs.States.{Accepted, accepted-active, eliminate-append, eliminate-active, Agree, agree-remove, agree-refusal}
 use Rattle.kron_rows.proofs.Showing.{length-padded, length-others-one, places-closed, shows-removed, shown-shows, shows-agree, agree-shows}
-
--- ---- a bus that was found, or not
-
-pub found-at : (k : ℕ) (xs : List ℕ) (p : ℕ) → foundIn k xs ≡ At p → (k isOneOf xs) × (place k xs ≡ p)
-unfolding foundIn
-found-at k xs p e = go (mem k xs) e
-  where
-    go : (b : Bool) → cond b (At (place k xs)) Nothing ≡ At p → T b × (place k xs ≡ p)
-    go true e = (tt, cc)
-    go false e = let z : _≡_ {A = ℕ} 0 1 = cc in absurd (omega arith)
-
-pub found-not : (k : ℕ) (xs : List ℕ) → foundIn k xs ≡ Nothing → mem k xs ≡ false
-unfolding foundIn
-found-not k xs e = go (mem k xs) e
-  where
-    go : (b : Bool) → cond b (At (place k xs)) Nothing ≡ Nothing → b ≡ false
-    go true e = let z : _≡_ {A = ℕ} 0 1 = cc in absurd (omega arith)
-    go false e = refl
 
 -- ---- one removal
 

@@ -1,4 +1,4 @@
--- Kron's formula, and the removal of buses by it. A bus is its row in the matrix at making, and keeps that number.
+-- Kron's formula, and the removal of buses by it. A bus is its row in the matrix at making, here and below every call.
 use Prim.Native.Nat.{ℕ}
 use mathlib.Core.Bool.{Bool, cond}
 use mathlib.Core.List.{List, [], _∷_, _++_}

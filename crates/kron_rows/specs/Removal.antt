@@ -8,21 +8,15 @@ use lib.ListN.{length, getD, take, replicate}
 use lib.Ieee.{Float}
 use Rattle.complex.specs.Matrices.{entryAt}
 use Rattle.refusals.specs.Refusals.{limit}
-use Rattle.kron_rows.specs.declared.Found.{Found}
-use Rattle.kron_rows.specs.declared.Found.the-variants.{At, Nothing}
 use Rattle.kron_rows.specs.declared.Ran.{Ran}
-use Rattle.buses.specs.Buses.{mem, place, rising}
+use Rattle.buses.specs.Buses.{place, rising}
 use Rattle.kron_rows.specs.Kron.{State, remove, refusal, eliminate, taken, stop}
-
--- the row of bus k, or nothing
-unfoldable pub foundIn : ℕ → List ℕ → Found
-foundIn k xs = cond (mem k xs) (At (place k xs)) Nothing
 
 -- when row k drops out: the old row of what is now row p
 unfoldable pub kept : ℕ → ℕ → ℕ
 kept k p = cond (ltb p k) p (suc p)
 
--- the list of active buses as the record holds it, 0 in the places behind
+-- a list as the record holds it, 0 in the places behind
 abbrev pub padded : List ℕ → List ℕ
 padded xs = xs ++ replicate (limit - length xs) 0
 

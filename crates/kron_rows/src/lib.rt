@@ -1,4 +1,5 @@
 // The removal of buses from a matrix in a lent slice. What each function requires, the calls of `kron_core` have tested.
+use buses::Found;
 use complex::Complex;
 use complex::cdiv;
 use complex::cmul;
@@ -15,15 +16,9 @@ ghost use lib.ListN.{length, getD};
 ghost use Rattle.complex.specs.Entries.{entry};
 ghost use Rattle.complex.specs.Matrices.{entryAt};
 ghost use Rattle.refusals.specs.Refusals.{limit};
-ghost use Rattle.buses.specs.Buses.{rising, allBelow, allZero};
+ghost use Rattle.buses.specs.Buses.{foundIn, rising, allBelow, allZero};
 ghost use Rattle.kron_rows.specs.Kron.{newEntry, kron, tooSmall};
-ghost use Rattle.kron_rows.specs.Removal.{kept, foundIn, Holds, TookOne, TookAll};
-
-// The row of a bus.
-pub enum Found {
-    At(usize),
-    Nothing,
-}
+ghost use Rattle.kron_rows.specs.Removal.{kept, Holds, TookOne, TookAll};
 
 // How a list of removals ended: the refusal that stopped it, or 0, and how many were carried out.
 pub struct Ran {
@@ -31,12 +26,13 @@ pub struct Ran {
     pub done: usize,
 }
 
-pub fn find_bus(active: &[usize], bus: usize) -> Found
+// Where a bus stands among the active ones, or nothing. A row is below 256, so a record holds it in a byte.
+pub fn find_bus(active: &[u8], bus: usize) -> Found
     ensures { λ r. ⌜ r ≡ foundIn bus (now (active .entry)) ⌝ }
 {
     let mut i = 0;
     while i < active.len() {
-        if active[i] == bus {
+        if active[i] as usize == bus {
             return Found::At(i);
         }
         i += 1;
@@ -45,13 +41,13 @@ pub fn find_bus(active: &[usize], bus: usize) -> Found
 }
 
 // Whether the buses rise and are all below the size at making.
-pub fn in_order(made: usize, buses: &[usize]) -> bool
+pub fn in_order(made: usize, buses: &[u8]) -> bool
     ensures { λ r. ⌜ r ≡ (rising (now (buses .entry)) && allBelow made (now (buses .entry))) ⌝ }
 {
     let mut low = 0;
     let mut i = 0;
     while i < buses.len() {
-        let bus = buses[i];
+        let bus = buses[i] as usize;
         if bus < low {
             return false;
         }
@@ -64,21 +60,22 @@ pub fn in_order(made: usize, buses: &[usize]) -> bool
     true
 }
 
-pub fn all_zero(places: &[usize]) -> bool
+// Whether every place is 0. The whole list is looked through, without an early end, so that the loop runs on several at once.
+pub fn all_zero(places: &[u8]) -> bool
     ensures { λ r. ⌜ r ≡ allZero (now (places .entry)) ⌝ }
 {
+    let mut zero = true;
     let mut i = 0;
     while i < places.len() {
-        if places[i] != 0 {
-            return false;
-        }
+        let same = places[i] == 0;
+        zero = zero & same;
         i += 1;
     }
-    true
+    zero
 }
 
 // Of n active buses the one in row k drops out.
-fn close_places(active: &mut [usize], n: usize, k: usize)
+fn close_places(active: &mut [u8], n: usize, k: usize)
     requires { ⌜ (k < n) × (n ≤ length (now active)) ⌝ }
     ensures { λ _. ⌜ ((p : ℕ) → p < n - 1 → getD (now (active .exit)) p 0 ≡ getD (now (active .entry)) (kept k p) 0)
         × (getD (now (active .exit)) (n - 1) 0 ≡ 0)
@@ -101,10 +98,10 @@ fn new_entry(ij: Complex, ik: Complex, kj: Complex, kk: Complex) -> Complex
 
 // x itself. The remainder is for the compiler: it sees a distance that is small and not 0, so that a loop's writes stay behind its reads, and works out two columns at a time.
 fn near(x: usize) -> usize
-    requires { ⌜ (0 < x) × (x ≤ 65536) ⌝ }
+    requires { ⌜ (0 < x) × (x ≤ 131072) ⌝ }
     ensures { λ r. ⌜ r ≡ x ⌝ }
 {
-    (x - 1) % 65536 + 1
+    (x - 1) % 131072 + 1
 }
 
 // The columns first .. end of a row without column k, of the old columns d further on, in place: `s` begins with the new row, the old one `at` entries further on, and far is at + d.
@@ -221,7 +218,7 @@ fn too_small(n: usize, k: usize, y: &[f64]) -> bool
 }
 
 // One bus is removed from the n that `active` and the slice's front hold: 0, or 11 or 12 with both as they were.
-fn take_one(n: usize, active: &mut [usize], y: &mut [f64], row: &mut [f64], bus: usize) -> u32
+fn take_one(n: usize, active: &mut [u8], y: &mut [f64], row: &mut [f64], bus: usize) -> u32
     requires { ⌜ Holds n (now active) (now y) × (length (now row) ≡ 2 * limit) ⌝ }
     ensures { λ f. ⌜ TookOne n (now (active .entry)) (now (y .entry)) bus f (now (active .exit)) (now (y .exit)) ⌝ }
 {
@@ -239,7 +236,7 @@ fn take_one(n: usize, active: &mut [usize], y: &mut [f64], row: &mut [f64], bus:
 // The buses of a list are removed in order, up to the first that is refused.
 pub fn take_list(
     n: usize,
-    active: &mut [usize],
+    active: &mut [u8],
     y: &mut [f64],
     row: &mut [f64],
     buses: &[usize],

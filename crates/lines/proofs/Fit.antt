@@ -1,108 +1,163 @@
--- What a run leaves has room: the record is one that removals leave, so its buses are few and small, and the text of every run fits the output.
+-- What a run leaves has room: the making is accepted and the record is one that removals leave, so its buses are few, and the text of every run fits the output.
 -- Assumes nothing.
-use Prim.Native.Nat.{ℕ, zero, suc, _+_, _-_, _*_, _≤_, _<_}
-use mathlib.Core.Path.{_≡_, ap, _∙_}
+use Prim.Native.Nat.{ℕ, zero, suc, _+_, _-_, _*_, _^_, _≤_, _<_}
+use mathlib.Core.Path.{_≡_, refl, sym, ap, subst, _∙_}
 use mathlib.Core.Bool.{Bool, true, false, cond}
-use mathlib.Core.List.{List, [], _∷_, _++_}
-use native.Mathlib.Nat.{mul-le-mul, le-trans}
+use mathlib.Core.List.{List, [], _∷_, _++_, map}
+use native.Mathlib.Nat.{mul-le-mul, le-trans, le-of-eq}
 use native.Mathlib.Omega.{arith}
 use lib.Dec.{T, leb, lit≤, leb→le}
-use lib.ListN.{length, getD, replicate, length-append, List·getD-append}
+use lib.ListN.{length, getD, replicate, length-append}
 use lib.Ieee.{Float}
-use borrow.Author.Tests.{le-ltb, eq-eqb}
 use Rattle.complex.specs.Matrices.{entryAt}
 use Rattle.refusals.specs.declared.Outcome.{Outcome}
 use Rattle.refusals.specs.declared.Outcome.the-variants.{Done, Refused}
 use Rattle.refusals.specs.Refusals.{limit}
 use Rattle.kron_core.specs.declared.KronReducer.{KronReducer}
 use Rattle.kron_rows.specs.Kron.{State, start, eliminate, taken}
-use Rattle.kron_core.specs.Reducer.{makingOf, makingRefusal, recordOf, afterNew, Held, held, laid, leaves, removable, afterBus}
+use Rattle.buses.specs.Buses.{mem, rising, allBelow, repeats, rowsIn}
+use Rattle.kron_rows.specs.Removal.{padded}
+use Rattle.kron_core.specs.Reducer.{makingOf, makingRefusal, recordOf, activeOf, sound, afterNew, Held, held, laid, leaves, removable, afterBus}
+use Rattle.kron_core.specs.Reading.{activeNumbers}
 use Rattle.kron_rows.proofs.States.{Regular, regular-start, regular-eliminate, taken-accepted}
-use Rattle.buses.proofs.Buses.{below-all, getD-in}
-use Rattle.kron_core.proofs.Reducer.{active-room, length-laid, laidOut-all, removable-laid, leaves-laid}
+use Rattle.buses.proofs.Naming.{repeats-more}
+use Rattle.kron_core.proofs.Making.{making-none}
+use Rattle.kron_core.proofs.Reducer.{sound-recordOf, active-room, length-laid, laidOut-all, removable-laid, leaves-laid}
 use Rattle.words.specs.declared.Number.{Number}
 use Rattle.words.specs.declared.Number.the-variants.{Is, Not}
 use Rattle.lines.specs.declared.text.Entry.{Entry}
 use Rattle.lines.specs.declared.text.Entry.the-variants.{Words, NoEntry}
 use Rattle.lines.specs.declared.read.End.the-variants.{BadLine}
 use Rattle.words.specs.Bytes.{Bytes}
-use Rattle.lines.specs.Lines.{lines, busesOf, dropOf, entryOf}
-use Rattle.lines.specs.Reading.{most, Run, ended, noReducer, ofWord, onNumber, onOutcome, onEntry, afterDrop, drops, entries, noBuses, first, run}
+use Rattle.words.proofs.WordSizes.{decimal-below}
+use Rattle.lines.specs.Lines.{lines, busesOf, numberOf, dropOf, entryOf}
+use Rattle.lines.specs.Reading.{most, Run, ended, noReducer, Onward, ofWord, onNumber, onOutcome, onEntry, afterDrop, drops, finish, entries, badAt, named, first, run}
 
 -- `reduce` reads no more buses than the library takes
 pub most-limit : most ≤ limit
 unfolding most
 most-limit = lit≤ tt
 
--- ---- record and numbers are the layout of a state
+-- ---- the numbers of the buses
 
-pub record Laid (n : ℕ) (r : KronReducer) (ys : List Float) : Type 0 where
+-- each is below 2^32
+abbrev pub Small : List ℕ → Type 0
+Small ks = (i : ℕ) → getD ks i 0 < 2 ^ 32
+
+pub small-append : (ks ls : List ℕ) → Small ks → Small ls → Small (ks ++ ls)
+small-append [] ls f g i = g i
+small-append (k ∷ ks) ls f g zero = f zero
+small-append (k ∷ ks) ls f g (suc i) = small-append ks ls (λ j. f (suc j)) g i
+
+small-zeros : (m : ℕ) → Small (replicate m 0)
+small-zeros zero i = lit≤ tt
+small-zeros (suc m) zero = lit≤ tt
+small-zeros (suc m) (suc i) = small-zeros m i
+
+small-one : (k : ℕ) → k < 2 ^ 32 → Small (k ∷ [])
+small-one k h zero = h
+small-one k h (suc i) = lit≤ tt
+
+small-map : (ns : List ℕ) → Small ns → (xs : List ℕ) → Small (map (λ (i : ℕ). getD ns i 0) xs)
+small-map ns f [] i = lit≤ tt
+small-map ns f (x ∷ xs) zero = f x
+small-map ns f (x ∷ xs) (suc i) = small-map ns f xs i
+
+-- so many numbers, as they are read: none stands twice
+pub record Names (k : ℕ) (ns : List ℕ) : Type 0 where
+  pub many : length ns ≡ k
+  pub distinct : repeats ns ≡ false
+  pub small : Small ns
+
+pub names-none : Names 0 []
+unfolding repeats
+names-none = record { many = refl; distinct = refl; small = λ i. lit≤ tt }
+
+pub names-more : (k : ℕ) (ns : List ℕ) (b : ℕ) → Names k ns → b < 2 ^ 32 → mem b ns ≡ false → Names (k + 1) (ns ++ (b ∷ []))
+names-more k ns b h l m = record {
+  many = omega (arith, length-append ns (b ∷ []), h .many);
+  distinct = repeats-more ns b (h .distinct) m;
+  small = small-append ns (b ∷ []) (h .small) (small-one b l);
+}
+
+-- ---- record and matrix are the layout of a state
+
+pub record Laid (n : ℕ) (ns : List ℕ) (r : KronReducer) (ys : List Float) : Type 0 where
   pub state : State
   pub small : n ≤ most
+  pub names : Names n ns
   pub regular : Regular n state
-  pub laid-is : held r ys ≡ laid n state
+  pub laid-is : held r ys ≡ laid n ns state
 
-pub making-accepted : (n : ℕ) (ys : List Float) → n ≤ most → length ys ≡ 2 * (n * n) → makingRefusal (makingOf n ys) ≡ 0
-unfolding makingRefusal
-making-accepted n ys h e = rw (le-ltb limit n (le-trans h most-limit), eq-eqb (length ys) (2 * (n * n)) e)
+pub making-accepted : (n : ℕ) (ns : List ℕ) (ys : List Float) → n ≤ most → Names n ns → length ys ≡ 2 * (n * n) → makingRefusal (makingOf n ys ns) ≡ 0
+making-accepted n ns ys h m e =
+    sym (making-none n ys ns (le-trans h most-limit) (le-trans (le-of-eq (m .many)) (le-trans h most-limit)) e (m .many) (m .distinct))
 
-pub fresh : (n : ℕ) (ys : List Float) → n ≤ most → length ys ≡ 2 * (n * n) → held (afterNew (makingOf n ys) .rec) ys ≡ laid n (start n (entryAt n ys))
+pub fresh : (n : ℕ) (ns : List ℕ) (ys : List Float) → n ≤ most → Names n ns → length ys ≡ 2 * (n * n) → held (afterNew (makingOf n ys ns) .rec) ys ≡ laid n ns (start n (entryAt n ys))
 unfolding afterNew laid
-fresh n ys h e = rw (making-accepted n ys h e, laidOut-all n ys e)
+fresh n ns ys h m e = rw (making-accepted n ns ys h m e, laidOut-all n ys e)
 
-pub laid-new : (n : ℕ) (ys : List Float) → n ≤ most → length ys ≡ 2 * (n * n) → Laid n (afterNew (makingOf n ys) .rec) ys
-laid-new n ys h e = record { state = start n (entryAt n ys); small = h; regular = regular-start n (entryAt n ys); laid-is = fresh n ys h e }
+pub laid-new : (n : ℕ) (ns : List ℕ) (ys : List Float) → n ≤ most → Names n ns → length ys ≡ 2 * (n * n) → Laid n ns (afterNew (makingOf n ys ns) .rec) ys
+laid-new n ns ys h m e =
+    record { state = start n (entryAt n ys); small = h; names = m; regular = regular-start n (entryAt n ys); laid-is = fresh n ns ys h m e }
 
-module _ (n : ℕ) (r : KronReducer) (ys : List Float) (k : ℕ) (h : Laid n r ys) where
+module _ (n : ℕ) (ns : List ℕ) (r : KronReducer) (ys : List Float) (k : ℕ) (h : Laid n ns r ys) where
   abbrev pub within : n ≤ limit
   within = le-trans (h .small) most-limit
 
   -- what the removal leaves
   abbrev pub left : State
-  left = eliminate (h .state) (taken (h .state) (k ∷ []))
+  left = eliminate (h .state) (taken (h .state) (rowsIn ns (k ∷ [])))
 
-  pub left-is : held (afterBus r ys k .out .rec) (afterBus r ys k .slice) ≡ laid n left
+  pub left-is : held (afterBus r ys k .out .rec) (afterBus r ys k .slice) ≡ laid n ns left
   unfolding afterBus
   left-is =
+      let s = h .state in
+      let ts = taken s (rowsIn ns (k ∷ [])) in
       ap (λ (x : Held). leaves (x .rec) (x .slice) (removable (x .rec) (x .slice) (k ∷ []))) (h .laid-is)
-      ∙ ap (leaves (laid n (h .state) .rec) (laid n (h .state) .slice)) (removable-laid n (h .state) within (h .regular) (k ∷ []) (lit≤ tt))
-      ∙ leaves-laid n (h .state) within (h .regular) (taken (h .state) (k ∷ [])) (taken-accepted (h .state) (k ∷ []))
+      ∙ ap (leaves (laid n ns s .rec) (laid n ns s .slice)) (removable-laid n ns s within (h .names .many) (h .names .distinct) (h .regular) (k ∷ []) (lit≤ tt))
+      ∙ leaves-laid n ns s within (h .names .many) (h .names .distinct) (h .regular) ts (taken-accepted s (rowsIn ns (k ∷ [])))
 
-  pub laid-bus : Laid n (afterBus r ys k .out .rec) (afterBus r ys k .slice)
+  pub laid-bus : Laid n ns (afterBus r ys k .out .rec) (afterBus r ys k .slice)
   laid-bus = record {
     state = left;
     small = h .small;
-    regular = regular-eliminate n (h .state) (taken (h .state) (k ∷ [])) (h .regular);
+    names = h .names;
+    regular = regular-eliminate n (h .state) (taken (h .state) (rowsIn ns (k ∷ []))) (h .regular);
     laid-is = left-is;
   }
 
--- ---- few buses, each small, and numbers for all entries between them
+-- ---- a sound record of few buses, their numbers below 2^32, and the entries between them are there
 
 pub record Fit (r : KronReducer) (ys : List Float) : Type 0 where
+  pub size : r .made ≤ most
+  pub is-sound : T (sound r)
   pub few : r .«n_buses» ≤ most
-  pub numbers : 2 * (r .«n_buses» * r .«n_buses») ≤ length ys
-  pub below : (i : ℕ) → i < r .«n_buses» → getD (r .«active_buses») i 0 < most
+  pub entries : 2 * (r .«n_buses» * r .«n_buses») ≤ length ys
+  pub below : Small (activeNumbers r)
+
+none-sound : T (sound noReducer)
+none-sound = sound-recordOf 0 [] [] (omega arith) (unfold rising in tt) (unfold allBelow in tt) refl (unfold repeats in refl)
 
 pub fit-none : (ys : List Float) → Fit noReducer ys
-fit-none ys = record { few = omega arith; numbers = omega arith; below = λ i h. absurd (omega arith) }
+fit-none ys = record { size = omega arith; is-sound = none-sound; few = omega arith; entries = omega arith; below = λ i. lit≤ tt }
 
-pub fit-laid : (n : ℕ) (r : KronReducer) (ys : List Float) → Laid n r ys → Fit r ys
+pub fit-laid : (n : ℕ) (ns : List ℕ) (r : KronReducer) (ys : List Float) → Laid n ns r ys → Fit r ys
 unfolding laid
-fit-laid n r ys h =
+fit-laid n ns r ys h =
     let s = h .state in
     let small′ = le-trans (h .small) most-limit in
-    let room : length (s .active) ≤ n = active-room n s small′ (h .regular) in
-    let rec : r ≡ recordOf n (s .active) = ap (λ (x : Held). x .rec) (h .laid-is) in
-    let len : length ys ≡ 2 * (n * n) = ap (λ (x : Held). length (x .slice)) (h .laid-is) ∙ length-laid n s small′ (h .regular) in
+    let m = h .names in
+    let room : length (s .active) ≤ n = active-room n ns s small′ (m .many) (m .distinct) (h .regular) in
+    let rec : r ≡ recordOf n ns (s .active) = ap (λ (x : Held). x .rec) (h .laid-is) in
+    let len : length ys ≡ 2 * (n * n) = ap (λ (x : Held). length (x .slice)) (h .laid-is) ∙ length-laid n ns s small′ (m .many) (m .distinct) (h .regular) in
     rw rec
     (record {
+      size = h .small;
+      is-sound = sound-recordOf n ns (s .active) (le-trans room small′) (h .regular .rises) (h .regular .below) (m .many) (m .distinct);
       few = le-trans room (h .small);
-      numbers = let sq : length (s .active) * length (s .active) ≤ n * n = mul-le-mul room room in omega (arith, sq, len);
-      below = λ i l.
-          let g : getD (s .active ++ replicate (limit - length (s .active)) 0) i 0 ≡ getD (s .active) i 0 =
-          List·getD-append (s .active) (replicate (limit - length (s .active)) 0) 0 i l in
-          let b : getD (s .active) i 0 < n = below-all n (s .active) (h .regular .below) (getD (s .active) i 0) (getD-in (s .active) i l) in
-          omega (arith, g, b, h .small);
+      entries = let sq : length (s .active) * length (s .active) ≤ n * n = mul-le-mul room room in omega (arith, sq, len);
+      below = small-map (padded ns) (small-append ns (replicate (limit - length ns) 0) (m .small) (small-zeros (limit - length ns))) (activeOf (recordOf n ns (s .active)));
     })
 
 -- ---- every run
@@ -110,46 +165,72 @@ fit-laid n r ys h =
 abbrev pub FitRun : Run → Type 0
 FitRun R = Fit (R .reading .rec) (R .numbers)
 
-pub drops-fit : (n p : ℕ) (r : KronReducer) (ys : List Float) (ls : List Bytes) → Laid n r ys → FitRun (drops p r ys ls)
+-- what follows the lines that are read
+abbrev pub FitOnward : ℕ → List ℕ → Onward → Type 0
+FitOnward n ns go = (p : ℕ) (r : KronReducer) (ys : List Float) (ls : List Bytes) → Laid n ns r ys → FitRun (go p r ys ls)
+
+pub finish-fit : (n : ℕ) (ns : List ℕ) → FitOnward n ns finish
+unfolding finish
+finish-fit n ns p r ys [] h = fit-laid n ns r ys h
+finish-fit n ns p r ys (l ∷ ls) h = fit-laid n ns r ys h
+
+pub drops-fit : (n : ℕ) (ns : List ℕ) → FitOnward n ns (drops finish)
 unfolding drops
-drops-fit n p r ys [] h = fit-laid n r ys h
-drops-fit n p r ys (l ∷ ls) h = number (dropOf l) (λ r′ ys′ h′. drops-fit n (p + 1) r′ ys′ ls h′)
+drops-fit n ns p r ys [] h = finish-fit n ns p r ys [] h
+drops-fit n ns p r ys (l ∷ ls) h = number (dropOf l) (λ r′ ys′ h′. drops-fit n ns (p + 1) r′ ys′ ls h′)
   where
-    outcome : (o : Outcome) (k : ℕ) (r′ : KronReducer) (ys′ : List Float) → Laid n r′ ys′
-        → ((r″ : KronReducer) (ys″ : List Float) → Laid n r″ ys″ → FitRun (drops (p + 1) r″ ys″ ls))
-        → FitRun (onOutcome o k r′ ys′ (λ r″ ys″. drops (p + 1) r″ ys″ ls))
+    outcome : (o : Outcome) (k : ℕ) (r′ : KronReducer) (ys′ : List Float) → Laid n ns r′ ys′
+        → ((r″ : KronReducer) (ys″ : List Float) → Laid n ns r″ ys″ → FitRun (drops finish (p + 1) r″ ys″ ls))
+        → FitRun (onOutcome o k r′ ys′ (λ r″ ys″. drops finish (p + 1) r″ ys″ ls))
     outcome Done k r′ ys′ h′ f = f r′ ys′ h′
-    outcome (Refused x) k r′ ys′ h′ f = fit-laid n r′ ys′ h′
+    outcome (Refused x) k r′ ys′ h′ f = fit-laid n ns r′ ys′ h′
 
-    number : (w : Number) → ((r″ : KronReducer) (ys″ : List Float) → Laid n r″ ys″ → FitRun (drops (p + 1) r″ ys″ ls))
-        → FitRun (onNumber w (λ k. afterDrop k (afterBus r ys k) (λ r′ ys′. drops (p + 1) r′ ys′ ls)) (ended (BadLine p) r ys))
+    number : (w : Number) → ((r″ : KronReducer) (ys″ : List Float) → Laid n ns r″ ys″ → FitRun (drops finish (p + 1) r″ ys″ ls))
+        → FitRun (onNumber w (λ k. afterDrop k (afterBus r ys k) (λ r′ ys′. drops finish (p + 1) r′ ys′ ls)) (finish p r ys (l ∷ ls)))
     number (Is k) f =
-        outcome (afterBus r ys k .out .answer) k (afterBus r ys k .out .rec) (afterBus r ys k .slice) (laid-bus n r ys k h) f
-    number Not f = fit-laid n r ys h
+        outcome (afterBus r ys k .out .answer) k (afterBus r ys k .out .rec) (afterBus r ys k .slice) (laid-bus n ns r ys k h) f
+    number Not f = finish-fit n ns p r ys (l ∷ ls) h
 
-pub entries-fit : (n k p : ℕ) (ys : List Float) (ls : List Bytes) → n ≤ most → length ys + 2 * k ≡ 2 * (n * n) → FitRun (entries n k p ys ls)
+pub entries-fit : (n : ℕ) (ns : List ℕ) (k p : ℕ) (ys : List Float) (ls : List Bytes) → n ≤ most → Names n ns → length ys + 2 * k ≡ 2 * (n * n)
+    → FitRun (entries (drops finish) n ns k p ys ls)
 unfolding entries
-entries-fit n zero p ys ls h e = drops-fit n p (afterNew (makingOf n ys) .rec) ys ls (laid-new n ys h (omega arith))
-entries-fit n (suc k) p ys [] h e = fit-none ys
-entries-fit n (suc k) p ys (l ∷ ls) h e = found (entryOf l) (λ zs f. entries-fit n k (p + 1) zs ls h f)
+entries-fit n ns zero p ys ls h m e = drops-fit n ns p (afterNew (makingOf n ys ns) .rec) ys ls (laid-new n ns ys h m (omega arith))
+entries-fit n ns (suc k) p ys [] h m e = fit-none ys
+entries-fit n ns (suc k) p ys (l ∷ ls) h m e = found (entryOf l) (λ zs f. entries-fit n ns k (p + 1) zs ls h m f)
   where
-    found : (w : Entry) → ((zs : List Float) → length zs + 2 * k ≡ 2 * (n * n) → FitRun (entries n k (p + 1) zs ls))
-        → FitRun (onEntry w (λ a b. entries n k (p + 1) (ys ++ (ofWord a ∷ ofWord b ∷ [])) ls) (ended (BadLine p) noReducer ys))
+    found : (w : Entry) → ((zs : List Float) → length zs + 2 * k ≡ 2 * (n * n) → FitRun (entries (drops finish) n ns k (p + 1) zs ls))
+        → FitRun (onEntry w (λ a b. entries (drops finish) n ns k (p + 1) (ys ++ (ofWord a ∷ ofWord b ∷ [])) ls) (ended (BadLine p) noReducer ys))
     found (Words a b) f = f (ys ++ (ofWord a ∷ ofWord b ∷ [])) (omega (arith, length-append ys (ofWord a ∷ ofWord b ∷ [])))
     found NoEntry f = fit-none ys
+
+pub named-fit : (n k j p : ℕ) (ns : List ℕ) (ls : List Bytes) → n ≤ most → Names j ns → j + k ≡ n → FitRun (named (drops finish) n k p ns ls)
+unfolding named
+named-fit n zero j p ns ls h m e = entries-fit n ns (n * n) p [] ls h (subst (λ (i : ℕ). Names i ns) (let z : j ≡ n = omega arith in z) m) (omega arith)
+named-fit n (suc k) j p ns [] h m e = fit-none []
+named-fit n (suc k) j p ns (l ∷ ls) h m e = number (numberOf l) refl (λ ms g. named-fit n k (j + 1) (p + 1) ms ls h g (omega arith))
+  where
+    fresh-one : (b : ℕ) → b < 2 ^ 32 → (t : Bool) → mem b ns ≡ t → ((ms : List ℕ) → Names (j + 1) ms → FitRun (named (drops finish) n k (p + 1) ms ls))
+        → FitRun (cond t (badAt p) (named (drops finish) n k (p + 1) (ns ++ (b ∷ [])) ls))
+    fresh-one b l true q f = fit-none []
+    fresh-one b l false q f = f (ns ++ (b ∷ [])) (names-more j ns b m l q)
+
+    number : (w : Number) → numberOf l ≡ w → ((ms : List ℕ) → Names (j + 1) ms → FitRun (named (drops finish) n k (p + 1) ms ls))
+        → FitRun (onNumber w (λ b. cond (mem b ns) (badAt p) (named (drops finish) n k (p + 1) (ns ++ (b ∷ [])) ls)) (badAt p))
+    number (Is b) q f = fresh-one b (decimal-below l b q) (mem b ns) refl f
+    number Not q f = fit-none []
 
 pub run-fit : (input : Bytes) → FitRun (run input)
 unfolding run first
 run-fit input = go (lines input)
   where
-    size : (n : ℕ) (b : Bool) → (T b → n ≤ most) → (ls : List Bytes) → FitRun (cond b (entries n (n * n) 2 [] ls) noBuses)
-    size n true f ls = entries-fit n (n * n) 2 [] ls (f tt) (omega arith)
+    size : (n : ℕ) (b : Bool) → (T b → n ≤ most) → (ls : List Bytes) → FitRun (cond b (named (drops finish) n n 2 [] ls) (badAt 1))
+    size n true f ls = named-fit n n 0 2 [] ls (f tt) names-none (omega arith)
     size n false f ls = fit-none []
 
-    number : (w : Number) (ls : List Bytes) → FitRun (onNumber w (λ n. cond (leb n most) (entries n (n * n) 2 [] ls) noBuses) noBuses)
+    number : (w : Number) (ls : List Bytes) → FitRun (onNumber w (λ n. cond (leb n most) (named (drops finish) n n 2 [] ls) (badAt 1)) (badAt 1))
     number (Is n) ls = size n (leb n most) (leb→le n most) ls
     number Not ls = fit-none []
 
-    go : (ls : List Bytes) → FitRun (first ls)
+    go : (ls : List Bytes) → FitRun (first (drops finish) ls)
     go [] = fit-none []
     go (l ∷ ls) = number (busesOf l) ls

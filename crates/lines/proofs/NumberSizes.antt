@@ -11,7 +11,7 @@ use Rattle.words.specs.declared.Number.{Number}
 use Rattle.words.specs.declared.Number.the-variants.{Is, Not}
 use Rattle.words.specs.Bytes.{Bytes}
 use Rattle.words.proofs.WordSizes.{not-is, decimal-size, decimal-below}
-use Rattle.lines.specs.Lines.{startsWith, numberAfter}
+use Rattle.lines.specs.Lines.{startsWith, numberAfter, numberOf}
 use Rattle.lines.proofs.LineLaws.{starts-length, number-no, number-yes}
 
 pub number-size : (key l : Bytes) (k j : ℕ) → numberAfter key l ≡ Is k → k < 10 ^ j → 1 ≤ j → length l ≤ length key + j
@@ -36,4 +36,15 @@ number-long key l a b = go (numberAfter key l) refl
     go (Is k) e =
         let s : length l ≤ length key + 10 = number-size key l k 10 e (le-trans (number-below key l k e) (lit≤ tt)) (lit≤ tt) in
         absurd (omega arith)
+    go Not e = refl
+
+-- a number alone
+pub word-size : (l : Bytes) (k : ℕ) → numberOf l ≡ Is k → length l ≤ 10
+word-size l k e = decimal-size l k 10 e (le-trans (decimal-below l k e) (lit≤ tt)) (lit≤ tt)
+
+pub word-long : (l : Bytes) → 34 ≤ length l → numberOf l ≡ Not
+word-long l b = go (numberOf l) refl
+  where
+    go : (w : Number) → numberOf l ≡ w → w ≡ Not
+    go (Is k) e = absurd (omega (arith, word-size l k e))
     go Not e = refl

@@ -1,17 +1,21 @@
 -- Laws of printing: how long the lines are, and one line more.
 -- Assumes nothing.
-use Prim.Native.Nat.{ℕ, zero, suc, _+_, _*_, _≤_, _<_}
-use mathlib.Core.Path.{_≡_, refl, ap, _∙_}
+use Prim.Native.Nat.{ℕ, zero, suc, _+_, _-_, _*_, _≤_, _<_}
+use mathlib.Core.Path.{_≡_, refl, sym, ap, ap₂, _∙_}
 use mathlib.Core.List.{List, _++_}
 use mathlib.Core.Logic.{⊎-elim}
 use native.Mathlib.Nat.{le-of-eq, le-trans, le-of-suc-le-suc, eq-or-lt-of-le}
 use native.Mathlib.Numerals.{add-one}
 use native.Mathlib.Omega.{arith}
-use lib.ListN.{length, getD, length-append}
+use lib.ListN.{length, getD, take, replicate, length-map, length-append, List·getD-append}
+use lib.Seq.{length-take-le}
 use lib.Ieee.{Float}
 use Rattle.complex.specs.declared.Complex.{Complex}
 use Rattle.complex.specs.Entries.{entry}
 use Rattle.kron_core.specs.declared.KronReducer.{KronReducer}
+use Rattle.refusals.specs.Refusals.{limit}
+use Rattle.kron_rows.specs.Removal.{padded}
+use Rattle.kron_core.specs.Reading.{activeNumbers}
 use Rattle.words.specs.Bytes.{Bytes, ascii}
 use Rattle.words.specs.Words.{decimal}
 use Rattle.lines.specs.Printing.{numberLine, busLines, entryLine, entryLines, keptText, refusedText}
@@ -50,13 +54,26 @@ length-entry-lines (suc n) ys =
     omega arith
 
 pub length-kept : (r : KronReducer) (ys : List Float)
-    → length (keptText r ys) ≡ length (numberLine (ascii "kept ") (r .«n_buses»)) + length (busLines (r .«n_buses») (r .«active_buses»)) + 34 * (r .«n_buses» * r .«n_buses»)
+    → length (keptText r ys) ≡ length (numberLine (ascii "kept ") (r .«n_buses»)) + length (busLines (r .«n_buses») (activeNumbers r)) + 34 * (r .«n_buses» * r .«n_buses»)
 unfolding keptText
 length-kept r ys =
     let n = r .«n_buses» in
     let a = numberLine (ascii "kept ") n in
-    let b = busLines n (r .«active_buses») in
+    let b = busLines n (activeNumbers r) in
     omega (arith, length-append (a ++ b) (entryLines (n * n) ys), length-append a b, length-entry-lines (n * n) ys)
+
+-- what stands behind the first n buses does not print
+pub bus-lines-front : (ks zs : List ℕ) (n : ℕ) → n ≤ length ks → busLines n (ks ++ zs) ≡ busLines n ks
+unfolding busLines
+bus-lines-front ks zs zero h = refl
+bus-lines-front ks zs (suc n) h =
+    ap₂ (λ (a : Bytes) (k : ℕ). a ++ numberLine (ascii "bus ") k) (bus-lines-front ks zs n (omega arith)) (List·getD-append ks zs 0 n h)
+
+pub kept-lines : (r : KronReducer) → r .«n_buses» ≤ length (r .«active_buses») → busLines (r .«n_buses») (padded (activeNumbers r)) ≡ busLines (r .«n_buses») (activeNumbers r)
+kept-lines r h =
+    let n = r .«n_buses» in
+    bus-lines-front (activeNumbers r) (replicate (limit - length (activeNumbers r)) 0) n
+    (le-of-eq (sym (length-map (take n (r .«active_buses»)) (λ (i : ℕ). getD (r .numbers) i 0) ∙ length-take-le n (r .«active_buses») h)))
 
 -- ---- one line more
 

@@ -2,33 +2,41 @@
 -- Assumes nothing.
 use Prim.Native.Nat.{ℕ, suc, _+_, _-_, _*_, _≤_, _<_}
 use mathlib.Core.Path.{_≡_, refl, sym, ap, _∙_}
-use mathlib.Core.Bool.{cond}
+use mathlib.Core.Bool.{true, false, cond}
 use mathlib.Core.List.{List, [], _∷_, _++_}
+use native.Mathlib.Nat.{sub-zero}
 use native.Mathlib.Numerals.{add-one}
 use native.Mathlib.Omega.{arith}
 use lib.Dec.{leb}
-use borrow.Author.Tests.{le-leb, lt-leb}
+use borrow.Author.Tests.{le-leb, lt-leb, lt-ltb, le-ltb}
 use native.Mathlib.Decide.{decLt, ℕ-discrete}
 use lib.ListN.{length, take, drop, set, length-drop, drop-of-length-le, length-take, length-set, take-append-drop}
-use lib.Seq.{drop-drop, take-suc-set, drop-set-lt, append-snoc, length-take-le}
+use lib.Seq.{drop-drop, take-suc-set, drop-set-lt, append-snoc, length-take-le, take-append-seam, drop-append-seam}
 use lib.Ieee.{Float}
 use Rattle.complex.specs.declared.Complex.{Complex}
 use Rattle.complex.specs.Entries.{put}
 use Rattle.refusals.specs.declared.Outcome.{Outcome}
 use Rattle.refusals.specs.declared.Outcome.the-variants.{Done, Refused}
+use Rattle.buses.specs.Buses.{mem}
 use Rattle.kron_core.specs.declared.KronReducer.{KronReducer}
 use Rattle.kron_core.specs.declared.Taken.{Taken}
 use Rattle.kron_core.specs.Reducer.{makingOf, afterNew, afterBus}
 use Rattle.words.specs.declared.Number.{Number}
 use Rattle.words.specs.declared.Number.the-variants.{Is, Not}
-use Rattle.lines.specs.declared.text.Entry.{Entry}
 use Rattle.lines.specs.declared.text.Entry.the-variants.{Words, NoEntry}
 use Rattle.lines.specs.declared.read.End.{End}
-use Rattle.lines.specs.declared.read.End.the-variants.{Kept, RefusedDrop, BadLine}
+use Rattle.lines.specs.declared.read.End.the-variants.{RefusedDrop, BadLine}
 use Rattle.lines.specs.declared.read.Reading.{Reading}
+use Rattle.lines.specs.declared.read.Next.the-variants.{Bad}
+use Rattle.lines.specs.declared.read.Start.{Start}
+use Rattle.lines.specs.declared.read.Stop.{Stop}
+use Rattle.lines.specs.declared.read.Stop.the-variants.{Rest, Refusal}
 use Rattle.words.specs.Bytes.{Bytes}
-use Rattle.lines.specs.Lines.{lines, span, lineAt, busesOf, dropOf, entryOf}
-use Rattle.lines.specs.Reading.{most, Run, ended, noReducer, noBuses, onNumber, onOutcome, onEntry, ofWord, afterDrop, drops, entries, first, run, Ran, RanIn}
+use Rattle.words.specs.Words.{decimalOf, spare}
+use Rattle.words.proofs.WordSizes.{not-is}
+use Rattle.lines.specs.Lines.{lines, span, lineAt, busesOf, numberOf, dropOf, entryOf}
+use Rattle.lines.specs.Reading.{most, Run, ended, noReducer, Onward, onNumber, onOutcome, onEntry, ofWord, afterDrop, drops, finish, entries, badAt, named, first}
+use Rattle.lines.specs.Steps.{noStart, behind, Begun, onStop, endOf, Ended, RanIn}
 use Rattle.lines.proofs.LineLaws.{lines-first, span-le, entry-length}
 
 -- where the next line starts
@@ -60,45 +68,93 @@ pub entry-over : (s : Bytes) (at : ℕ) → length s ≤ at → entryOf (lineAt 
 unfolding entryOf lineAt span
 entry-over s at h = ap (λ (d : Bytes). entryOf (take (span d) d)) (drop-of-length-le s h)
 
+pub number-over : (s : Bytes) (at : ℕ) → length s ≤ at → numberOf (lineAt s at) ≡ Not
+unfolding decimalOf spare lineAt span
+number-over s at h = ap (λ (d : Bytes). numberOf (take (span d) d)) (drop-of-length-le s h)
+
 -- ---- drops
 
-pub drops-end : (s : Bytes) (at p : ℕ) (r : KronReducer) (ys : List Float) → length s ≤ at → drops p r ys (lines (drop at s)) ≡ ended Kept r ys
-unfolding drops
-drops-end s at p r ys h = ap (drops p r ys) (lines-over s at h)
-
-module _ (s : Bytes) (at p : ℕ) (r : KronReducer) (ys : List Float) (h : at < length s) where
-  pub drops-bad : dropOf (lineAt s at) ≡ Not → drops p r ys (lines (drop at s)) ≡ ended (BadLine p) r ys
+module _ (rest : Onward) (s : Bytes) (at p : ℕ) (r : KronReducer) (ys : List Float) where
+  pub drops-end : length s ≤ at → drops rest p r ys (behind s at) ≡ rest p r ys (behind s at)
   unfolding drops
-  drops-bad e =
-      ap (drops p r ys) (lines-at s at h)
-      ∙ ap
-      (λ (w : Number). onNumber w (λ k. afterDrop k (afterBus r ys k) (λ r′ ys′. drops (p + 1) r′ ys′ (lines (drop (next s at) s)))) (ended (BadLine p) r ys))
-      e
+  drops-end h = ap (drops rest p r ys) (lines-over s at h) ∙ sym (ap (rest p r ys) (lines-over s at h))
 
-  drops-bus : (k : ℕ) → dropOf (lineAt s at) ≡ Is k
-      → drops p r ys (lines (drop at s)) ≡ afterDrop k (afterBus r ys k) (λ r′ ys′. drops (p + 1) r′ ys′ (lines (drop (next s at) s)))
-  unfolding drops
-  drops-bus k e =
-      ap (drops p r ys) (lines-at s at h)
-      ∙ ap
-      (λ (w : Number). onNumber w (λ k. afterDrop k (afterBus r ys k) (λ r′ ys′. drops (p + 1) r′ ys′ (lines (drop (next s at) s)))) (ended (BadLine p) r ys))
-      e
+  module _ (h : at < length s) where
+    pub drops-bad : dropOf (lineAt s at) ≡ Not → drops rest p r ys (behind s at) ≡ rest p r ys (behind s at)
+    unfolding drops
+    drops-bad e =
+        ap (drops rest p r ys) (lines-at s at h) ∙ rw e (sym (ap (rest p r ys) (lines-at s at h)))
 
-  -- what the removal answered and left
-  module _ (k : ℕ) (e : dropOf (lineAt s at) ≡ Is k) (o : Taken) (ys′ : List Float) (eo : o ≡ afterBus r ys k .out) (ey : ys′ ≡ afterBus r ys k .slice) where
-    taken-bus : drops p r ys (lines (drop at s)) ≡ onOutcome (o .answer) k (o .rec) ys′ (λ r′ ys″. drops (p + 1) r′ ys″ (lines (drop (next s at) s)))
-    taken-bus =
-        drops-bus k e
-        ∙ ap (λ (t : Taken). onOutcome (t .answer) k (t .rec) (afterBus r ys k .slice) (λ r′ ys″. drops (p + 1) r′ ys″ (lines (drop (next s at) s)))) (sym eo)
-        ∙ ap (λ (zs : List Float). onOutcome (o .answer) k (o .rec) zs (λ r′ ys″. drops (p + 1) r′ ys″ (lines (drop (next s at) s)))) (sym ey)
+    drops-bus : (k : ℕ) → dropOf (lineAt s at) ≡ Is k
+        → drops rest p r ys (behind s at) ≡ afterDrop k (afterBus r ys k) (λ r′ ys′. drops rest (p + 1) r′ ys′ (behind s (next s at)))
+    unfolding drops
+    drops-bus k e =
+        ap (drops rest p r ys) (lines-at s at h) ∙ rw e
 
-    pub drops-refused : (f : ℕ) → o .answer ≡ Refused f → drops p r ys (lines (drop at s)) ≡ ended (RefusedDrop f k) (o .rec) ys′
-    drops-refused f d =
-        taken-bus ∙ ap (λ (a : Outcome). onOutcome a k (o .rec) ys′ (λ r′ ys″. drops (p + 1) r′ ys″ (lines (drop (next s at) s)))) d
+    -- what the removal answered and left
+    module _ (k : ℕ) (e : dropOf (lineAt s at) ≡ Is k) (o : Taken) (ys′ : List Float) (eo : o ≡ afterBus r ys k .out) (ey : ys′ ≡ afterBus r ys k .slice) where
+      taken-bus : drops rest p r ys (behind s at) ≡ onOutcome (o .answer) k (o .rec) ys′ (λ r′ ys″. drops rest (p + 1) r′ ys″ (behind s (next s at)))
+      taken-bus =
+          drops-bus k e
+          ∙ ap (λ (t : Taken). onOutcome (t .answer) k (t .rec) (afterBus r ys k .slice) (λ r′ ys″. drops rest (p + 1) r′ ys″ (behind s (next s at)))) (sym eo)
+          ∙ ap (λ (zs : List Float). onOutcome (o .answer) k (o .rec) zs (λ r′ ys″. drops rest (p + 1) r′ ys″ (behind s (next s at)))) (sym ey)
 
-    pub drops-done : o .answer ≡ Done → drops p r ys (lines (drop at s)) ≡ drops (p + 1) (o .rec) ys′ (lines (drop (next s at) s))
-    drops-done d =
-        taken-bus ∙ ap (λ (a : Outcome). onOutcome a k (o .rec) ys′ (λ r′ ys″. drops (p + 1) r′ ys″ (lines (drop (next s at) s)))) d
+      pub drops-refused : (f : ℕ) → o .answer ≡ Refused f → drops rest p r ys (behind s at) ≡ ended (RefusedDrop f k) (o .rec) ys′
+      drops-refused f d =
+          taken-bus ∙ ap (λ (a : Outcome). onOutcome a k (o .rec) ys′ (λ r′ ys″. drops rest (p + 1) r′ ys″ (behind s (next s at)))) d
+
+      pub drops-done : o .answer ≡ Done → drops rest p r ys (behind s at) ≡ drops rest (p + 1) (o .rec) ys′ (behind s (next s at))
+      drops-done d =
+          taken-bus ∙ ap (λ (a : Outcome). onOutcome a k (o .rec) ys′ (λ r′ ys″. drops rest (p + 1) r′ ys″ (behind s (next s at)))) d
+
+-- where the drops stopped the run ends
+pub stopped : (s : Bytes) (o : Stop) (r : KronReducer) (ys : List Float)
+    → onStop o (λ at p. finish p r ys (behind s at)) (λ f k. ended (RefusedDrop f k) r ys) ≡ ended (endOf (length s) o) r ys
+unfolding finish
+stopped s (Rest at p) r ys = go (decLt at (length s))
+  where
+    go : Dec (at < length s) → finish p r ys (behind s at) ≡ ended (endOf (length s) (Rest at p)) r ys
+    go (yes h) = ap (finish p r ys) (lines-at s at h) ∙ simp (lt-ltb at (length s) h)
+    go (no h) = ap (finish p r ys) (lines-over s at (omega arith)) ∙ simp (le-ltb at (length s) (omega arith))
+stopped s (Refusal f k) r ys = refl
+
+-- ---- numbers
+
+number-inside : (s : Bytes) (at b : ℕ) → numberOf (lineAt s at) ≡ Is b → at < length s
+number-inside s at b e = go (decLt at (length s))
+  where
+    go : Dec (at < length s) → at < length s
+    go (yes h) = h
+    go (no n) = absurd (not-is (sym (number-over s at (omega arith)) ∙ e))
+
+pub named-bad : (go : Onward) (s : Bytes) (at n k p : ℕ) (ns : List ℕ) → numberOf (lineAt s at) ≡ Not → named go n (suc k) p ns (behind s at) ≡ badAt p
+unfolding named
+named-bad go s at n k p ns e = cases (decLt at (length s))
+  where
+    cases : Dec (at < length s) → named go n (suc k) p ns (behind s at) ≡ badAt p
+    cases (yes h) =
+        ap (named go n (suc k) p ns) (lines-at s at h) ∙ rw e
+    cases (no h) = ap (named go n (suc k) p ns) (lines-over s at (omega arith))
+
+module _ (s : Bytes) (at b : ℕ) (e : numberOf (lineAt s at) ≡ Is b) where
+  pub number-at : at < length s
+  number-at = number-inside s at b e
+
+  named-number : (go : Onward) (n k p : ℕ) (ns : List ℕ)
+      → named go n (suc k) p ns (behind s at) ≡ cond (mem b ns) (badAt p) (named go n k (p + 1) (ns ++ (b ∷ [])) (behind s (next s at)))
+  unfolding named
+  named-number go n k p ns =
+      ap (named go n (suc k) p ns) (lines-at s at number-at) ∙ rw e
+
+  pub named-twice : (go : Onward) (n k p : ℕ) (ns : List ℕ) → mem b ns ≡ true → named go n (suc k) p ns (behind s at) ≡ badAt p
+  named-twice go n k p ns m = named-number go n k p ns ∙ rw m
+
+  pub named-more : (go : Onward) (n k p : ℕ) (ns : List ℕ) → mem b ns ≡ false → named go n (suc k) p ns (behind s at) ≡ named go n k (p + 1) (ns ++ (b ∷ [])) (behind s (next s at))
+  named-more go n k p ns m = named-number go n k p ns ∙ rw m
+
+pub named-none : (go : Onward) (n p : ℕ) (ns : List ℕ) (ls : List Bytes) → named go n 0 p ns ls ≡ entries go n ns (n * n) p [] ls
+unfolding named
+named-none go n p ns ls = refl
 
 -- ---- entries
 
@@ -122,17 +178,14 @@ entry-inside s at a b e = go (decLt at (length s))
         let q : _≡_ {A = ℕ} 0 1 = cc in
         absurd (omega arith)
 
-pub entries-bad : (s : Bytes) (at n k p : ℕ) (ys : List Float) → entryOf (lineAt s at) ≡ NoEntry → entries n (suc k) p ys (lines (drop at s)) ≡ ended (BadLine p) noReducer ys
+pub entries-bad : (go : Onward) (ns : List ℕ) (s : Bytes) (at n k p : ℕ) (ys : List Float) → entryOf (lineAt s at) ≡ NoEntry → entries go n ns (suc k) p ys (behind s at) ≡ ended (BadLine p) noReducer ys
 unfolding entries
-entries-bad s at n k p ys e = go (decLt at (length s))
+entries-bad go ns s at n k p ys e = cases (decLt at (length s))
   where
-    go : Dec (at < length s) → entries n (suc k) p ys (lines (drop at s)) ≡ ended (BadLine p) noReducer ys
-    go (yes h) =
-        ap (entries n (suc k) p ys) (lines-at s at h)
-        ∙ ap
-        (λ (w : Entry). onEntry w (λ a b. entries n k (p + 1) (ys ++ (ofWord a ∷ ofWord b ∷ [])) (lines (drop (next s at) s))) (ended (BadLine p) noReducer ys))
-        e
-    go (no h) = ap (entries n (suc k) p ys) (lines-over s at (omega arith))
+    cases : Dec (at < length s) → entries go n ns (suc k) p ys (behind s at) ≡ ended (BadLine p) noReducer ys
+    cases (yes h) =
+        ap (entries go n ns (suc k) p ys) (lines-at s at h) ∙ rw e
+    cases (no h) = ap (entries go n ns (suc k) p ys) (lines-over s at (omega arith))
 
 module _ (s : Bytes) (at a b : ℕ) (e : entryOf (lineAt s at) ≡ Words a b) where
   entry-span : span (drop at s) ≡ 33
@@ -144,16 +197,14 @@ module _ (s : Bytes) (at a b : ℕ) (e : entryOf (lineAt s at) ≡ Words a b) wh
   pub entry-fits : at + 34 ≤ length s + 1
   entry-fits = omega (arith, entry-span, span-le (drop at s), length-drop at s, entry-inside s at a b e)
 
-  pub entries-more : (n k p : ℕ) (ys : List Float)
-      → entries n (suc k) p ys (lines (drop at s)) ≡ entries n k (p + 1) (ys ++ (ofWord a ∷ ofWord b ∷ [])) (lines (drop (at + 34) s))
+  pub entries-more : (go : Onward) (ns : List ℕ) (n k p : ℕ) (ys : List Float)
+      → entries go n ns (suc k) p ys (behind s at) ≡ entries go n ns k (p + 1) (ys ++ (ofWord a ∷ ofWord b ∷ [])) (behind s (at + 34))
   unfolding entries
-  entries-more n k p ys =
+  entries-more go ns n k p ys =
       let f : next s at ≡ at + 34 = omega (arith, entry-span) in
-      ap (entries n (suc k) p ys) (lines-at s at (entry-inside s at a b e))
-      ∙ ap
-      (λ (w : Entry). onEntry w (λ a b. entries n k (p + 1) (ys ++ (ofWord a ∷ ofWord b ∷ [])) (lines (drop (next s at) s))) (ended (BadLine p) noReducer ys))
-      e
-      ∙ ap (λ (j : ℕ). entries n k (p + 1) (ys ++ (ofWord a ∷ ofWord b ∷ [])) (lines (drop j s))) f
+      ap (entries go n ns (suc k) p ys) (lines-at s at (entry-inside s at a b e))
+      ∙ rw e
+      (ap (λ (j : ℕ). entries go n ns k (p + 1) (ys ++ (ofWord a ∷ ofWord b ∷ [])) (behind s j)) f)
 
 -- ---- the numbers at the front of the matrix
 
@@ -185,9 +236,40 @@ at-front k xs zs h e =
     sym (take-append-drop k xs)
     ∙ ap (λ (l : List Float). take k xs ++ l) (e ∙ ap (λ (j : ℕ). drop j zs) (sym (length-take-le k xs h)))
 
--- a run that is known is what the function says and leaves
-pub ran : {R : Run} {e : End} {r : KronReducer} {ys : List Float} → R ≡ ended e r ys → Ran R (record { end = e; rec = r }) ys
-ran p = record { says = sym (ap (λ (R : Run). R .reading) p); leaves = sym (ap (λ (R : Run). R .numbers) p) }
+pub entries-none : (go : Onward) (ns : List ℕ) (n p : ℕ) (ys : List Float) (ls : List Bytes) → entries go n ns 0 p ys ls ≡ go p (afterNew (makingOf n ys ns) .rec) ys ls
+unfolding entries
+entries-none go ns n p ys ls = refl
+
+-- ---- the first line
+
+-- no reducer is made of the run
+pub unbegun : {R : Onward → Run} {before : List Float} {input : Bytes} {o : Start} (p : ℕ) → o ≡ noStart (Bad p) → ((go : Onward) → R go ≡ badAt p)
+    → Begun R before input o before
+unbegun p e f = rw e (record { ys = []; leaves = refl; few = omega arith; full = tt; goes = f })
+
+pub begun-as : {R R′ : Onward → Run} {before left : List Float} {input : Bytes} {o : Start} → ((go : Onward) → R go ≡ R′ go) → Begun R′ before input o left → Begun R before input o left
+begun-as f w = record { ys = w .ys; leaves = w .leaves; few = w .few; full = w .full; goes = λ go. f go ∙ w .goes go }
+
+pub first-none : (s : Bytes) → length s ≡ 0 → (go : Onward) → first go (lines s) ≡ badAt 1
+unfolding first lines
+first-none [] e go = refl
+first-none (b ∷ bs) e go = absurd (omega arith)
+
+module _ (s : Bytes) (h : 0 < length s) (go : Onward) where
+  first-number : (w : Number) → busesOf (lineAt s 0) ≡ w → first go (lines s) ≡ onNumber w (λ n. cond (leb n most) (named go n n 2 [] (behind s (next s 0))) (badAt 1)) (badAt 1)
+  unfolding first
+  first-number w e = ap (first go) (lines-at s 0 h) ∙ rw e
+
+  pub first-bad : busesOf (lineAt s 0) ≡ Not → first go (lines s) ≡ badAt 1
+  first-bad e = first-number Not e
+
+  pub first-over : (n : ℕ) → busesOf (lineAt s 0) ≡ Is n → most < n → first go (lines s) ≡ badAt 1
+  first-over n e m = first-number (Is n) e ∙ simp (lt-leb n most m)
+
+  pub first-go : (n : ℕ) → busesOf (lineAt s 0) ≡ Is n → n ≤ most → first go (lines s) ≡ named go n n 2 [] (behind s (next s 0))
+  first-go n e m = first-number (Is n) e ∙ simp (le-leb n most m)
+
+-- ---- the end
 
 pub ran-in : {before left : List Float} {R : Run} {e : End} {r : KronReducer} {ys : List Float} → R ≡ ended e r ys → left ≡ ys ++ drop (length ys) before
     → RanIn before R (record { end = e; rec = r }) left
@@ -197,54 +279,24 @@ ran-in {before} {left} p q =
       leaves = q ∙ sym (ap (λ (R : Run). R .numbers ++ drop (length (R .numbers)) before) p);
     }
 
--- the same answer by another name
-pub ran-as : {before left : List Float} {R : Run} {o o′ : Reading} → o ≡ o′ → RanIn before R o′ left → RanIn before R o left
-ran-as e w = record { says = e ∙ w .says; leaves = w .leaves }
+-- numbers at the front of a slice: they are its first so many, and the others stand behind them
+module _ {A : Type 0} (ys zs : List A) (m : ℕ) (e : length ys ≡ m) where
+  pub front-is′ : take m (ys ++ zs) ≡ ys
+  front-is′ = ap (λ (j : ℕ). take j (ys ++ zs)) (sym e) ∙ take-append-seam ys zs
 
--- what ran in a part at the front
-pub ran-behind : {E D : Run} {o : Reading} (M M₀ Y : List Float) (m : ℕ) → E ≡ D → Ran D o Y → length Y ≡ m → drop m M ≡ drop m M₀ → RanIn M₀ E o (Y ++ drop m M)
-ran-behind M M₀ Y m e w l d =
+  pub front-is : take (m - 0) (ys ++ zs) ≡ ys
+  front-is = ap (λ (j : ℕ). take j (ys ++ zs)) (sub-zero m) ∙ front-is′
+
+  pub back-is : drop m (ys ++ zs) ≡ zs
+  back-is = ap (λ (j : ℕ). drop j (ys ++ zs)) (sym e) ∙ drop-append-seam ys zs
+
+-- what ended in the front of a slice that a reducer was made in
+pub ran-on : {before left : List Float} {R R′ : Run} {o : Reading} (ys : List Float) (m : ℕ) → length ys ≡ m → R ≡ R′ → Ended (ys ++ drop (length ys) before) m R′ o left → RanIn before R o left
+ran-on {before} {left} {R} {R′} ys m e f w =
     record {
-      says = w .says ∙ sym (ap (λ (R : Run). R .reading) e);
+      says = w .says ∙ sym (ap (λ (q : Run). q .reading) f);
       leaves =
-          ap (λ (zs : List Float). Y ++ zs) d
-          ∙ ap (λ (k : ℕ). Y ++ drop k M₀) (sym l)
-          ∙ ap (λ (ys : List Float). ys ++ drop (length ys) M₀) (w .leaves ∙ sym (ap (λ (R : Run). R .numbers) e));
+          w .leaves
+          ∙ ap (λ (zs : List Float). R′ .numbers ++ zs) (back-is ys (drop (length ys) before) m e ∙ ap (λ (j : ℕ). drop j before) (e ∙ sym (w .whole)))
+          ∙ sym (ap (λ (q : Run). q .numbers ++ drop (length (q .numbers)) before) f);
     }
-
-pub entries-none : (n p : ℕ) (ys : List Float) (ls : List Bytes) → entries n 0 p ys ls ≡ drops p (afterNew (makingOf n ys) .rec) ys ls
-unfolding entries
-entries-none n p ys ls = refl
-
-pub ran-same : {before left : List Float} {R R′ : Run} {o : Reading} → R ≡ R′ → RanIn before R′ o left → RanIn before R o left
-ran-same {before} e w =
-    record {
-      says = w .says ∙ sym (ap (λ (R : Run). R .reading) e);
-      leaves = w .leaves ∙ sym (ap (λ (R : Run). R .numbers ++ drop (length (R .numbers)) before) e);
-    }
-
--- ---- the first line
-
-pub run-none : (s : Bytes) → length s ≡ 0 → run s ≡ noBuses
-unfolding run first lines
-run-none [] e = refl
-run-none (b ∷ bs) e = absurd (omega arith)
-
-module _ (s : Bytes) (h : 0 < length s) where
-  run-first : run s ≡ onNumber (busesOf (lineAt s 0)) (λ n. cond (leb n most) (entries n (n * n) 2 [] (lines (drop (next s 0) s))) noBuses) noBuses
-  unfolding run first
-  run-first = ap first (lines-at s 0 h)
-
-  pub run-bad : busesOf (lineAt s 0) ≡ Not → run s ≡ noBuses
-  run-bad e =
-      run-first ∙ ap (λ (w : Number). onNumber w (λ n. cond (leb n most) (entries n (n * n) 2 [] (lines (drop (next s 0) s))) noBuses) noBuses) e
-
-  run-number : (n : ℕ) → busesOf (lineAt s 0) ≡ Is n → run s ≡ cond (leb n most) (entries n (n * n) 2 [] (lines (drop (next s 0) s))) noBuses
-  run-number n e =
-      run-first ∙ ap (λ (w : Number). onNumber w (λ n. cond (leb n most) (entries n (n * n) 2 [] (lines (drop (next s 0) s))) noBuses) noBuses) e
-
-  pub run-over : (n : ℕ) → busesOf (lineAt s 0) ≡ Is n → most < n → run s ≡ noBuses
-  run-over n e m = run-number n e ∙ simp (lt-leb n most m)
-
-  pub run-go : (n : ℕ) → busesOf (lineAt s 0) ≡ Is n → n ≤ most → run s ≡ entries n (n * n) 2 [] (lines (drop (next s 0) s))
-  run-go n e m = run-number n e ∙ simp (le-leb n most m)

@@ -15,7 +15,8 @@ use Rattle.lines.specs.declared.Answer.the-variants.{Written, Refused}
 use Rattle.lines.specs.declared.read.Reading.{Reading}
 use Rattle.words.specs.Bytes.{Bytes}
 use Rattle.words.specs.Writing.{written}
-use Rattle.lines.specs.Reading.{run, RanIn}
+use Rattle.lines.specs.Reading.{run}
+use Rattle.lines.specs.Steps.{RanIn}
 use Rattle.lines.specs.Printing.{Whole, textOf, text}
 use Rattle.lines.specs.Reduce.{printed, matrixLength, outputLength, AfterReduce, afterReduce}
 use Rattle.lines.proofs.Fit.{most-limit, run-fit}
@@ -52,7 +53,7 @@ module _ (input : Bytes) (before left : List Float) (o : Reading) (w : RanIn bef
       let f = run-fit input in
       let e : length left ≡ length (R .numbers) + length (drop (length (R .numbers)) before) =
       ap length (w .leaves) ∙ length-append (R .numbers) (drop (length (R .numbers)) before) in
-      rw (w .says) (le-trans (f .few) most-limit, omega (arith, f .numbers, e))
+      rw (w .says) (le-trans (f .size) most-limit, f .is-sound, omega (arith, f .entries, e))
 
   pub text-is : textOf (o .end) (o .rec) left ≡ printed input
   unfolding printed text
@@ -60,7 +61,7 @@ module _ (input : Bytes) (before left : List Float) (o : Reading) (w : RanIn bef
       let R = run input in
       ap (λ (q : Reading). textOf (q .end) (q .rec) left) (w .says)
       ∙ ap (textOf (R .reading .end) (R .reading .rec)) (w .leaves)
-      ∙ text-front (R .reading .end) (R .reading .rec) (R .numbers) (drop (length (R .numbers)) before) (run-fit input .numbers)
+      ∙ text-front (R .reading .end) (R .reading .rec) (R .numbers) (drop (length (R .numbers)) before) (run-fit input .entries)
 
 pub printed-room : (input : Bytes) → length (printed input) ≤ outputLength
 unfolding printed

@@ -1,17 +1,18 @@
 -- The text of every run fits the output: how long numbers, bus lines and the whole can get.
 -- Assumes nothing.
-use Prim.Native.Nat.{ℕ, zero, suc, _*_, _/_, _≤_, _<_}
+use Prim.Native.Nat.{ℕ, zero, suc, _*_, _/_, _^_, _≤_, _<_}
 use mathlib.Core.Path.{_≡_, refl, ap, ap₂}
 use mathlib.Core.Bool.{Bool, true, false, cond}
 use mathlib.Core.List.{List, _++_}
-use native.Mathlib.Nat.{mul-le-mul}
+use native.Mathlib.Nat.{mul-le-mul, le-trans, pow-succ'}
 use native.Mathlib.Decide.{decLt}
 use native.Mathlib.Omega.{arith}
-use lib.Dec.{ltb}
+use lib.Dec.{ltb, lit≤}
 use lib.ListN.{length, getD, length-append}
 use lib.Ieee.{Float}
 use Rattle.complex.proofs.Entries.{entry-append-left}
 use Rattle.kron_core.specs.declared.KronReducer.{KronReducer}
+use Rattle.kron_core.specs.Reading.{activeNumbers}
 use Rattle.lines.specs.declared.read.End.{End}
 use Rattle.lines.specs.declared.read.End.the-variants.{Kept, RefusedDrop, BadLine}
 use Rattle.words.specs.Bytes.{Bytes, ascii}
@@ -21,7 +22,7 @@ use Rattle.lines.specs.Printing.{numberLine, busLines, entryLine, entryL
 use Rattle.lines.specs.Reduce.{outputLength}
 use Rattle.words.proofs.WordLaws.{places-stop, places-more, length-decimal}
 use Rattle.lines.proofs.PrintLaws.{length-number-line, length-refused, length-kept}
-use Rattle.lines.proofs.Fit.{Fit, FitRun}
+use Rattle.lines.proofs.Fit.{Small, Fit, FitRun}
 
 places-upto : (k n : ℕ) → places k n ≤ k
 unfolding places
@@ -44,13 +45,26 @@ decimal-two n h = go (decLt n 10)
         let m : 10 ≤ n = omega arith in
         omega (arith, length-decimal n, places-more 19 n m, places-stop 18 (n / 10) (omega arith))
 
-bus-lines-short : (ks : List ℕ) (n : ℕ) → ((i : ℕ) → i < n → getD ks i 0 < 100) → length (busLines n ks) ≤ 7 * n
+places-size : (k j n : ℕ) → n < 10 ^ suc j → places k n ≤ suc j
+unfolding places
+places-size zero j n h = omega arith
+places-size (suc k) zero n h = omega (arith, places-stop k n h)
+places-size (suc k) (suc j) n h = go (decLt n 10) (places-size k j (n / 10) (omega (arith, pow-succ' 10 (suc j))))
+  where
+    go : Dec (n < 10) → places k (n / 10) ≤ suc j → places (suc k) n ≤ suc (suc j)
+    go (yes l) r = omega (arith, places-stop k n l)
+    go (no l) r = omega (arith, r, places-more k n (omega arith))
+
+pub decimal-ten : (n : ℕ) → n < 2 ^ 32 → length (decimal n) ≤ 10
+decimal-ten n h = omega (arith, length-decimal n, places-size 20 9 n (le-trans h (lit≤ tt)))
+
+bus-lines-short : (ks : List ℕ) (n : ℕ) → Small ks → length (busLines n ks) ≤ 15 * n
 unfolding busLines
 bus-lines-short ks zero f = omega arith
 bus-lines-short ks (suc n) f =
     let line = numberLine (ascii "bus ") (getD ks n 0) in
-    let h : length (busLines n ks) ≤ 7 * n = bus-lines-short ks n (λ i l. f i (omega arith)) in
-    omega (arith, h, length-append (busLines n ks) line, length-number-line (ascii "bus ") (getD ks n 0), decimal-two (getD ks n 0) (f n (omega arith)))
+    let h : length (busLines n ks) ≤ 15 * n = bus-lines-short ks n f in
+    omega (arith, h, length-append (busLines n ks) line, length-number-line (ascii "bus ") (getD ks n 0), decimal-ten (getD ks n 0) (f n))
 
 -- the numbers of a run print alike from a longer slice
 pub entry-lines-front : (k : ℕ) (ys zs : List Float) → 2 * k ≤ length ys → entryLines k (ys ++ zs) ≡ entryLines k ys
@@ -63,7 +77,7 @@ pub text-front : (e : End) (r : KronReducer) (ys zs : List Float) → 2 * (r .«
 unfolding textOf keptText
 text-front Kept r ys zs h =
     ap
-    (λ (b : Bytes). numberLine (ascii "kept ") (r .«n_buses») ++ busLines (r .«n_buses») (r .«active_buses») ++ b)
+    (λ (b : Bytes). numberLine (ascii "kept ") (r .«n_buses») ++ busLines (r .«n_buses») (activeNumbers r) ++ b)
     (entry-lines-front (r .«n_buses» * r .«n_buses») ys zs h)
 text-front (RefusedDrop f k) r ys zs h = refl
 text-front (BadLine p) r ys zs h = refl
@@ -75,7 +89,7 @@ kept-room r ys f =
     let few : n ≤ 64 = f .few in
     let sq : n * n ≤ 64 * 64 = mul-le-mul few few in
     omega
-    (arith, few, sq, length-kept r ys, length-number-line (ascii "kept ") n, decimal-two n (omega (arith, few)), bus-lines-short (r .«active_buses») n (λ i l. let z : getD (r .«active_buses») i 0 < 64 = f .below i l in omega arith))
+    (arith, few, sq, length-kept r ys, length-number-line (ascii "kept ") n, decimal-two n (omega (arith, few)), bus-lines-short (activeNumbers r) n (f .below))
 
 text-of-room : (e : End) (r : KronReducer) (ys : List Float) → Fit r ys → length (textOf e r ys) ≤ outputLength
 unfolding textOf outputLength most badText

@@ -1,4 +1,5 @@
 pub mod Lines
 pub mod Reading
+pub mod Steps
 pub mod Printing
 pub mod Reduce

@@ -1,4 +1,4 @@
--- Lines: how bytes are cut into lines, and the three forms of a line that `reduce` reads.
+-- Lines: how bytes are cut into lines, and the four forms of a line that `reduce` reads.
 use Prim.Native.Nat.{ℕ, suc}
 use mathlib.Core.Bool.{Bool, true, false, _&&_, cond}
 use mathlib.Core.List.{List, [], _∷_}
@@ -47,6 +47,10 @@ numberAfter key l = cond (startsWith key l) (decimalOf (drop (length key) l)) No
 -- `buses N`
 abbrev pub busesOf : Bytes → Number
 busesOf l = numberAfter (ascii "buses ") l
+
+-- the number of a bus, and nothing else
+abbrev pub numberOf : Bytes → Number
+numberOf l = decimalOf l
 
 -- `drop K`
 abbrev pub dropOf : Bytes → Number

@@ -1,12 +1,15 @@
 -- Printing: the lines that a run's end is told in.
 use Prim.Native.Nat.{ℕ, zero, suc, _*_, _≤_}
 use mathlib.Core.List.{List, [], _∷_, _++_}
+use lib.Dec.{T}
 use lib.ListN.{length, getD}
 use lib.Ieee.{Float, binary64, toBits}
 use Rattle.complex.specs.declared.Complex.{Complex}
 use Rattle.complex.specs.Entries.{entry}
 use Rattle.refusals.specs.Refusals.{limit}
 use Rattle.kron_core.specs.declared.KronReducer.{KronReducer}
+use Rattle.kron_core.specs.Reducer.{sound}
+use Rattle.kron_core.specs.Reading.{activeNumbers}
 use Rattle.lines.specs.declared.read.End.{End}
 use Rattle.lines.specs.declared.read.End.the-variants.{Kept, RefusedDrop, BadLine}
 use Rattle.words.specs.Bytes.{Bytes, ascii, lineFeed, space}
@@ -21,7 +24,7 @@ toWord x = toBits binary64 x
 unfoldable pub numberLine : Bytes → ℕ → Bytes
 numberLine key n = key ++ decimal n ++ (lineFeed ∷ [])
 
--- the first n of the buses
+-- the first n of the bus numbers
 unfoldable pub busLines : ℕ → List ℕ → Bytes
 busLines zero ks = []
 busLines (suc n) ks = busLines n ks ++ numberLine (ascii "bus ") (getD ks n 0)
@@ -34,10 +37,10 @@ unfoldable pub entryLines : ℕ → List Float → Bytes
 entryLines zero ys = []
 entryLines (suc n) ys = entryLines n ys ++ entryLine (entry ys n)
 
--- the kept count, each kept bus, each entry between them
+-- the kept count, the number of each kept bus in row order, each entry between them
 unfoldable pub keptText : KronReducer → List Float → Bytes
 keptText r ys =
-    numberLine (ascii "kept ") (r .«n_buses») ++ busLines (r .«n_buses») (r .«active_buses») ++ entryLines (r .«n_buses» * r .«n_buses») ys
+    numberLine (ascii "kept ") (r .«n_buses») ++ busLines (r .«n_buses») (activeNumbers r) ++ entryLines (r .«n_buses» * r .«n_buses») ys
 
 -- the refusal's number and the bus
 unfoldable pub refusedText : ℕ → ℕ → Bytes
@@ -52,9 +55,9 @@ textOf Kept r ys = keptText r ys
 textOf (RefusedDrop f k) r ys = refusedText f k
 textOf (BadLine p) r ys = badText p
 
--- the record's buses, and the entries between them, are there
+-- a sound record, and the entries between its buses are there
 abbrev pub Whole : KronReducer → List Float → Type 0
-Whole r ys = (r .«n_buses» ≤ limit) × (2 * (r .«n_buses» * r .«n_buses») ≤ length ys)
+Whole r ys = (r .made ≤ limit) × T (sound r) × (2 * (r .«n_buses» * r .«n_buses») ≤ length ys)
 
 unfoldable pub text : Run → Bytes
 text R = textOf (R .reading .end) (R .reading .rec) (R .numbers)

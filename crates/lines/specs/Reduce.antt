@@ -22,16 +22,16 @@ unfoldable pub matrixLength : ℕ
 unfolding most
 matrixLength = 2 * (most * most)
 
--- the most bytes of an output: `kept 64`, each bus with two digits, each entry
+-- the most bytes of an output: `kept 64`, each bus with ten digits, each entry
 unfoldable pub outputLength : ℕ
 unfolding most
-outputLength = 8 + 7 * most + 34 * (most * most)
+outputLength = 8 + 15 * most + 34 * (most * most)
 
--- The most bytes of an input that can matter: the first line, the entries, as many drops as there are buses, and one line more
+-- The most bytes of an input that can matter: the first line, the numbers, the entries, as many drops as there are buses, and one line more
 -- with a byte that makes it too long.
 unfoldable pub inputLength : ℕ
 unfolding most
-inputLength = 9 + 34 * (most * most) + 8 * most + 34
+inputLength = 9 + 11 * most + 34 * (most * most) + 16 * most + 34
 
 pub record AfterReduce : Type 0 where
   pub answer : Answer

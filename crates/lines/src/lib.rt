@@ -15,9 +15,9 @@ pub const MOST: usize = 64;
 
 pub const MATRIX: usize = 2 * (MOST * MOST);
 
-pub const OUTPUT: usize = 8 + 7 * MOST + 34 * (MOST * MOST);
+pub const OUTPUT: usize = 8 + 15 * MOST + 34 * (MOST * MOST);
 
-pub const INPUT: usize = 9 + 34 * (MOST * MOST) + 8 * MOST + 34;
+pub const INPUT: usize = 9 + 11 * MOST + 34 * (MOST * MOST) + 16 * MOST + 34;
 
 // The refusal of a slice that is not of its exact length.
 const WRONG_LENGTH: u32 = 2;

@@ -6,6 +6,7 @@ use complex::Complex;
 use complex::entry::get;
 use complex::words::to_word;
 use kron_core::KronReducer;
+use kron_core::active_numbers;
 use words::print::put;
 use words::print::put_byte;
 use words::print::put_decimal;
@@ -46,7 +47,7 @@ fn put_entry(out: &mut [u8], at: usize, c: Complex) -> usize
     put_byte(out, d, b'\n')
 }
 
-fn put_buses(out: &mut [u8], at: usize, buses: &[usize], n: usize) -> usize
+fn put_buses(out: &mut [u8], at: usize, buses: &[u32], n: usize) -> usize
     requires { ⌜ (n ≤ length (now buses)) × Room (now out) at (spec.busLines n (now buses)) ⌝ }
     ensures { λ r. ⌜ Wrote (now (out .entry)) at (spec.busLines n (now (buses .entry))) r (now (out .exit)) ⌝ }
 {
@@ -77,7 +78,7 @@ fn put_kept(out: &mut [u8], rec: KronReducer, ys: &[f64]) -> usize
     ensures { λ r. ⌜ Wrote (now (out .entry)) 0 (spec.keptText rec (now (ys .entry))) r (now (out .exit)) ⌝ }
 {
     let n = rec.n_buses;
-    let buses = rec.active_buses;
+    let buses = active_numbers(rec);
     let a = put_line(out, 0, b"kept ", n as u64);
     let b = put_buses(out, a, &buses, n);
     put_entries(out, b, ys, n * n)

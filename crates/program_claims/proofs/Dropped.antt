@@ -1,4 +1,4 @@
--- The buses removed in a run that is kept are those of its drop lines: no call is refused.
+-- The buses removed in a run that is kept are those of its drop lines, by row: no call is refused.
 -- Assumes nothing.
 use Prim.Native.Nat.{ℕ, zero, suc, _+_}
 use mathlib.Core.Path.{_≡_, refl, sym, ap, subst, _∙_}
@@ -8,16 +8,17 @@ use lib.Dec.{eqb}
 use Rattle.refusals.specs.declared.Outcome.{Outcome}
 use Rattle.refusals.specs.declared.Outcome.the-variants.{Done, Refused}
 use Rattle.refusals.specs.Refusals.{outcome}
+use Rattle.buses.specs.Buses.{place, rowsIn}
 use Rattle.kron_rows.specs.Kron.{State, refusal, taken}
 use Rattle.kron_core.specs.Reducer.{Making, Made, afterNew, afterBus, Held, held}
 use Rattle.claims.specs.Accounts.{Call, bus, stepHeld, leftFrom, left, Account, fresh, stateOf, removes, step, accountFrom, account}
-use Rattle.claims.proofs.Bridge.{answer-bus}
+use Rattle.claims.proofs.Bridge.{account-numbers, answer-bus}
 use Rattle.words.specs.declared.Number.{Number}
 use Rattle.words.specs.declared.Number.the-variants.{Is, Not}
 use Rattle.lines.specs.declared.read.End.the-variants.{Kept, RefusedDrop, BadLine}
 use Rattle.words.specs.Bytes.{Bytes}
 use Rattle.lines.specs.Lines.{dropOf}
-use Rattle.lines.specs.Reading.{ended, onNumber, onOutcome, afterDrop, drops}
+use Rattle.lines.specs.Reading.{onNumber, onOutcome, afterDrop, drops, finish}
 use Rattle.program_claims.specs.Inputs.{busIn, dropped}
 use Rattle.program_claims.proofs.Calls.{at-end, endOf}
 
@@ -50,33 +51,37 @@ done-taken s k e = go (refusal s k) (subst IsDone (sym e) tt)
 
 module _ (M : Making) (made : Made M) where
   abbrev Removes : List Call → List ℕ → Type 0
-  Removes cs ks = account M (cs ++ map bus ks) .removed ≡ account M cs .removed ++ ks
+  Removes cs ks = account M (cs ++ map bus ks) .removed ≡ account M cs .removed ++ rowsIn (M .numbers) ks
 
   module _ (p : ℕ) (cs : List Call) (l : Bytes) (ls : List Bytes)
-      (rest : (k : ℕ) → let x = left M (cs ++ (bus k ∷ [])) in endOf (drops (p + 1) (x .rec) (x .slice) ls) ≡ Kept → Removes (cs ++ (bus k ∷ [])) (dropped ls)) where
+      (rest : (k : ℕ) → let x = left M (cs ++ (bus k ∷ [])) in endOf (drops finish (p + 1) (x .rec) (x .slice) ls) ≡ Kept → Removes (cs ++ (bus k ∷ [])) (dropped ls)) where
     abbrev x : Held
     x = left M cs
 
-    one : (k : ℕ) → outcome (refusal (stateOf (account M cs)) k) ≡ Done → account M (cs ++ (bus k ∷ [])) .removed ≡ account M cs .removed ++ (k ∷ [])
-    unfolding step removes
-    one k e = ap (λ (a : Account). a .removed) (account-more (fresh M) cs (bus k)) ∙ ap (λ (ks : List ℕ). account M cs .removed ++ ks) (done-taken (stateOf (account M cs)) k e)
+    one : (k : ℕ) → outcome (refusal (stateOf (account M cs)) (place k (M .numbers))) ≡ Done → account M (cs ++ (bus k ∷ [])) .removed ≡ account M cs .removed ++ (place k (M .numbers) ∷ [])
+    unfolding step removes rowsIn fresh
+    one k e =
+        ap (λ (a : Account). a .removed) (account-more (fresh M) cs (bus k))
+        ∙ ap (λ (ns : List ℕ). account M cs .removed ++ taken (stateOf (account M cs)) (place k ns ∷ [])) (account-numbers (fresh M) cs)
+        ∙ ap (λ (ks : List ℕ). account M cs .removed ++ ks) (done-taken (stateOf (account M cs)) (place k (M .numbers)) e)
 
     after : (k : ℕ) (o : Outcome) → afterBus (x .rec) (x .slice) k .out .answer ≡ o
-        → endOf (onOutcome o k (afterBus (x .rec) (x .slice) k .out .rec) (afterBus (x .rec) (x .slice) k .slice) (λ r ys. drops (p + 1) r ys ls)) ≡ Kept → Removes cs (k ∷ dropped ls)
-    unfolding left stepHeld
+        → endOf (onOutcome o k (afterBus (x .rec) (x .slice) k .out .rec) (afterBus (x .rec) (x .slice) k .slice) (λ r ys. drops finish (p + 1) r ys ls)) ≡ Kept → Removes cs (k ∷ dropped ls)
+    unfolding left stepHeld rowsIn
     after k Done e h =
         ap (λ (ds : List Call). account M ds .removed) (sym (append-assoc cs (bus k ∷ []) (map bus (dropped ls))))
-        ∙ rest k (subst (λ (y : Held). endOf (drops (p + 1) (y .rec) (y .slice) ls) ≡ Kept) (sym (left-more (held (afterNew M .rec) (M .given)) cs (bus k))) h)
-        ∙ ap (λ (ks : List ℕ). ks ++ dropped ls) (one k (sym (answer-bus M cs made k) ∙ e))
-        ∙ append-assoc (account M cs .removed) (k ∷ []) (dropped ls)
+        ∙ rest k (subst (λ (y : Held). endOf (drops finish (p + 1) (y .rec) (y .slice) ls) ≡ Kept) (sym (left-more (held (afterNew M .rec) (M .given)) cs (bus k))) h)
+        ∙ ap (λ (ks : List ℕ). ks ++ rowsIn (M .numbers) (dropped ls)) (one k (sym (answer-bus M cs made k) ∙ e))
+        ∙ append-assoc (account M cs .removed) (place k (M .numbers) ∷ []) (rowsIn (M .numbers) (dropped ls))
     after k (Refused f) e h = absurd (at-end (RefusedDrop f k) h)
 
-    line : (w : Number) → endOf (onNumber w (λ k. afterDrop k (afterBus (x .rec) (x .slice) k) (λ r ys. drops (p + 1) r ys ls)) (ended (BadLine p) (x .rec) (x .slice))) ≡ Kept
+    line : (w : Number) → endOf (onNumber w (λ k. afterDrop k (afterBus (x .rec) (x .slice) k) (λ r ys. drops finish (p + 1) r ys ls)) (finish p (x .rec) (x .slice) (l ∷ ls))) ≡ Kept
         → Removes cs (busIn w ++ dropped ls)
+    unfolding finish
     line (Is k) h = after k (afterBus (x .rec) (x .slice) k .out .answer) refl h
     line Not h = absurd (at-end (BadLine p) h)
 
-  pub drops-removed : (p : ℕ) (cs : List Call) (ls : List Bytes) → endOf (drops p (left M cs .rec) (left M cs .slice) ls) ≡ Kept → Removes cs (dropped ls)
-  unfolding drops dropped
+  pub drops-removed : (p : ℕ) (cs : List Call) (ls : List Bytes) → endOf (drops finish p (left M cs .rec) (left M cs .slice) ls) ≡ Kept → Removes cs (dropped ls)
+  unfolding drops finish dropped rowsIn
   drops-removed p cs [] h = simp append-nil
   drops-removed p cs (l ∷ ls) h = line p cs l ls (λ k. drops-removed (p + 1) (cs ++ (bus k ∷ [])) ls) (dropOf l) h

@@ -1,4 +1,4 @@
--- What an input of `reduce` says: the buses, the matrix that a reducer is made of, and the drops as a list of calls.
+-- What an input of `reduce` says: the buses and their numbers, the matrix that a reducer is made of, and the drops as a list of calls.
 use Prim.Native.Nat.{ℕ, _*_}
 use mathlib.Core.List.{List, [], _∷_, _++_, map}
 use mathlib.Core.Path.{_≡_}
@@ -12,10 +12,19 @@ use Rattle.lines.specs.declared.text.Entry.{Entry}
 use Rattle.lines.specs.declared.text.Entry.the-variants.{Words, NoEntry}
 use Rattle.lines.specs.declared.read.End.the-variants.{Kept}
 use Rattle.words.specs.Bytes.{Bytes}
-use Rattle.lines.specs.Lines.{lines, busesOf, dropOf, entryOf}
+use Rattle.lines.specs.Lines.{lines, busesOf, numberOf, dropOf, entryOf}
 use Rattle.lines.specs.Reading.{ofWord, run}
 
--- ---- lines that are taken for entries, and for drops
+-- ---- lines that are taken for numbers, for entries, and for drops
+
+abbrev pub busIn : Number → List ℕ
+busIn (Is k) = k ∷ []
+busIn Not = []
+
+-- the buses of the number lines, in order
+unfoldable pub namesOf : List Bytes → List ℕ
+namesOf [] = []
+namesOf (l ∷ ls) = busIn (numberOf l) ++ namesOf ls
 
 -- real and imaginary part
 abbrev pub parts : Entry → List Float
@@ -26,10 +35,6 @@ parts NoEntry = []
 unfoldable pub numbersOf : List Bytes → List Float
 numbersOf [] = []
 numbersOf (l ∷ ls) = parts (entryOf l) ++ numbersOf ls
-
-abbrev pub busIn : Number → List ℕ
-busIn (Is k) = k ∷ []
-busIn Not = []
 
 -- the buses of the drop lines, in order
 unfoldable pub dropped : List Bytes → List ℕ
@@ -54,18 +59,31 @@ orNone Not = 0
 unfoldable pub sizeOf : Bytes → ℕ
 sizeOf input = orNone (busesOf (firstLine input))
 
--- the lines behind the first: so many are entries, and the others drops
+-- the lines behind the first: so many are numbers, so many entries, and the others drops
+abbrev pub behindFirst : Bytes → List Bytes
+behindFirst input = drop 1 (lines input)
+
+abbrev pub numberPart : Bytes → List Bytes
+numberPart input = take (sizeOf input) (behindFirst input)
+
+abbrev pub behindNumbers : Bytes → List Bytes
+behindNumbers input = drop (sizeOf input) (behindFirst input)
+
 abbrev pub entryCount : Bytes → ℕ
 entryCount input = sizeOf input * sizeOf input
 
 abbrev pub entryPart : Bytes → List Bytes
-entryPart input = take (entryCount input) (drop 1 (lines input))
+entryPart input = take (entryCount input) (behindNumbers input)
 
 abbrev pub dropPart : Bytes → List Bytes
-dropPart input = drop (entryCount input) (drop 1 (lines input))
+dropPart input = drop (entryCount input) (behindNumbers input)
+
+-- the number of each bus, in row order
+unfoldable pub busNumbers : Bytes → List ℕ
+busNumbers input = namesOf (numberPart input)
 
 unfoldable pub making : Bytes → Making
-making input = makingOf (sizeOf input) (numbersOf (entryPart input))
+making input = makingOf (sizeOf input) (numbersOf (entryPart input)) (busNumbers input)
 
 unfoldable pub calls : Bytes → List Call
 calls input = callsOf (dropPart input)

@@ -1,63 +1,79 @@
 -- A record and its bytes undo each other.
 -- Assumes nothing.
 use mathlib.Core.Path.{_≡_, refl, sym, ap, ap₂, _∙_}
-use mathlib.Core.List.{List, _++_}
-use Prim.Native.Nat.{ℕ, suc, _+_, _^_, _<_}
+use mathlib.Core.List.{List, [], _++_, append-assoc, append-nil}
+use Prim.Native.Nat.{ℕ, _+_, _^_, _<_}
 use native.Mathlib.Omega.{arith}
 use borrow.Author.Tests.{eq-eqb}
-use lib.ListN.{length, take, drop, getD, take-append-drop}
-use lib.Seq.{getD-drop, drop-drop, drop-at}
+use lib.ListN.{length, take, drop, getD, length-append, length-drop, take-append-drop}
+use lib.Seq.{getD-drop, take-at, take-add, drop-drop, drop-at}
 use Rattle.refusals.specs.Refusals.{limit}
 use Rattle.kron_core.specs.declared.KronReducer.{KronReducer}
 use Rattle.entry_slices.specs.Bytes.{word, words, bytesOf, ofWords}
 use Rattle.entry_slices.specs.RoundTrip.{Below}
 use Rattle.entry_slices.proofs.BytesLaws.{length-bytesOf, length-ofWords}
 use Rattle.entry_slices.proofs.RoundTrip.{word-front, word-behind, bytes-of-word, round-trip}
-use Rattle.record_entries.specs.Records.{recordBytes, activeIn, recordIn, wordsOf}
+use Rattle.record_entries.specs.Records.{frontBytes, recordBytes, activeIn, numbersIn, recordIn, sizesOf, frontOf, inBytes}
 use Rattle.record_entries.specs.RecordBack.{RecordBack}
-use Rattle.record_entries.proofs.RecordsLaws.{behind, record-read}
+use Rattle.record_entries.proofs.RecordsLaws.{length-front, record-read}
 
 -- ---- from the bytes
 
-module _ (m n : ℕ) (xs : List ℕ) where
-  abbrev rest : List ℕ
-  rest = bytesOf 8 n ++ ofWords 8 xs
-
-  second : m < 256 ^ 8 → n < 256 ^ 8 → n ≡ word 8 (bytesOf 8 m ++ rest) 8
-  second h k =
+-- the sizes m and n, and bytes behind them
+module _ (m n : ℕ) (bs : List ℕ) where
+  second : n < 256 ^ 8 → word 8 (bytesOf 8 m ++ (bytesOf 8 n ++ bs)) 8 ≡ n
+  second k =
       let at : 8 ≡ length (bytesOf 8 m) + 0 = rw length-bytesOf refl in
-      sym (ap (word 8 (bytesOf 8 m ++ rest)) at ∙ word-behind 8 (bytesOf 8 m) rest 0 ∙ word-front 8 n (ofWords 8 xs) k)
+      ap (word 8 (bytesOf 8 m ++ (bytesOf 8 n ++ bs))) at ∙ word-behind 8 (bytesOf 8 m) (bytesOf 8 n ++ bs) 0 ∙ word-front 8 n bs k
 
-  places : drop 16 (bytesOf 8 m ++ rest) ≡ ofWords 8 xs
-  places =
-      sym (drop-drop 8 8 (bytesOf 8 m ++ rest))
-      ∙ ap (drop 8) (drop-at (bytesOf 8 m) rest 8 (length-bytesOf 8 m))
-      ∙ drop-at (bytesOf 8 n) (ofWords 8 xs) 8 (length-bytesOf 8 n)
+  behind : drop 16 (bytesOf 8 m ++ (bytesOf 8 n ++ bs)) ≡ bs
+  behind =
+      sym (drop-drop 8 8 (bytesOf 8 m ++ (bytesOf 8 n ++ bs)))
+      ∙ ap (drop 8) (drop-at (bytesOf 8 m) (bytesOf 8 n ++ bs) 8 (length-bytesOf 8 m))
+      ∙ drop-at (bytesOf 8 n) bs 8 (length-bytesOf 8 n)
 
-record-back : (r : KronReducer) → length (r .«active_buses») ≡ limit → Below (256 ^ 8) (wordsOf r) → recordIn (ofWords 8 (wordsOf r)) ≡ r
-unfolding activeIn ofWords
-record-back r full s =
+-- the bytes of a record one after the other
+spread : (r : KronReducer) → inBytes r ≡ bytesOf 8 (r .made) ++ (bytesOf 8 (r .«n_buses») ++ (r .«active_buses» ++ ofWords 4 (r .numbers)))
+unfolding ofWords
+spread r =
+    let a = bytesOf 8 (r .made) in
+    let b = bytesOf 8 (r .«n_buses») in
+    let ends = r .«active_buses» ++ ofWords 4 (r .numbers) in
+    append-assoc (a ++ (b ++ [])) (r .«active_buses») (ofWords 4 (r .numbers))
+    ∙ append-assoc a (b ++ []) ends
+    ∙ ap (λ (t : List ℕ). a ++ t) (append-assoc b [] ends)
+
+record-back : (r : KronReducer) → length (r .«active_buses») ≡ limit → length (r .numbers) ≡ limit → Below (256 ^ 8) (sizesOf r) → Below (256 ^ 4) (r .numbers) → recordIn (inBytes r) ≡ r
+unfolding activeIn numbersIn
+record-back r full many s t =
     let m = r .made in
     let n = r .«n_buses» in
     let xs = r .«active_buses» in
-    let long = length-ofWords 8 (wordsOf r) in
-    let whole : length (bytesOf 8 m ++ rest m n xs) ≡ recordBytes = long ∙ omega (arith, full) in
-    let active : xs ≡ words 8 limit (drop 16 (bytesOf 8 m ++ rest m n xs)) =
-    sym (ap (words 8 limit) (places m n xs) ∙ ap (λ (l : ℕ). words 8 l (ofWords 8 xs)) (sym full) ∙ round-trip .words-back 8 xs (λ (i : ℕ). s (suc (suc i)))) in
-    sym (record-read (bytesOf 8 m ++ rest m n xs) m n xs whole (sym (word-front 8 m (rest m n xs) (s 0))) (second m n xs (s 0) (s 1)) active)
+    let ns = r .numbers in
+    let ends = ofWords 4 ns in
+    let short = length-ofWords 4 ns in
+    let fronts = length-front r full in
+    let whole : length (inBytes r) ≡ recordBytes = length-append (frontOf r) ends ∙ omega (arith, fronts, short, many) in
+    let made : word 8 (inBytes r) 0 ≡ m = ap (λ (b : List ℕ). word 8 b 0) (spread r) ∙ word-front 8 m (bytesOf 8 n ++ (xs ++ ends)) (s 0) in
+    let present : word 8 (inBytes r) 8 ≡ n = ap (λ (b : List ℕ). word 8 b 8) (spread r) ∙ second m n (xs ++ ends) (s 1) in
+    let active : take limit (drop 16 (inBytes r)) ≡ xs = ap (λ (b : List ℕ). take limit (drop 16 b)) (spread r) ∙ ap (take limit) (behind m n (xs ++ ends)) ∙ take-at xs ends limit full in
+    let numbers : words 4 limit (drop frontBytes (inBytes r)) ≡ ns =
+    ap (words 4 limit) (drop-at (frontOf r) ends frontBytes fronts) ∙ ap (λ (l : ℕ). words 4 l ends) (sym many) ∙ round-trip .words-back 4 ns t in
+    sym (record-read (inBytes r) m n xs ns whole (sym made) (sym present) (sym active) (sym numbers))
 
 -- ---- from the record
 
-bytes-back : (bs : List ℕ) → Below 256 bs → length bs ≡ recordBytes → ofWords 8 (wordsOf (recordIn bs)) ≡ bs
-unfolding recordIn activeIn ofWords
+bytes-back : (bs : List ℕ) → Below 256 bs → length bs ≡ recordBytes → inBytes (recordIn bs) ≡ bs
+unfolding recordIn activeIn numbersIn ofWords
 bytes-back bs s l =
-    let d = behind bs l in
-    let later : Below 256 (drop 16 bs) = λ (i : ℕ). rw (getD-drop 16 bs i 0) (s (16 + i)) in
+    let later : (k : ℕ) → Below 256 (drop k bs) = λ (k i : ℕ). rw (getD-drop k bs i 0) (s (k + i)) in
+    let e = length-drop frontBytes bs in
+    let present = append-nil (bytesOf 8 (word 8 bs 8)) ∙ bytes-of-word 8 bs 8 s (omega (arith, l)) in
+    let sizes = ap₂ (λ (x y : List ℕ). x ++ y) (bytes-of-word 8 bs 0 s (omega (arith, l))) present ∙ sym (take-add 8 8 bs) in
+    let fronts = ap (λ (t : List ℕ). t ++ take limit (drop 16 bs)) sizes ∙ sym (take-add 16 limit bs) in
     rw (eq-eqb (length bs) recordBytes l)
-    (ap₂ (λ (x y : List ℕ). x ++ y) (bytes-of-word 8 bs 0 s (omega (arith, l)))
-    (ap₂ (λ (x y : List ℕ). x ++ y) (bytes-of-word 8 bs 8 s (omega (arith, l))) (round-trip .bytes-back 8 limit (drop 16 bs) later d ∙ sym (drop-drop 8 8 bs))
-    ∙ take-append-drop 8 (drop 8 bs))
-    ∙ take-append-drop 8 bs)
+    (ap₂ (λ (x y : List ℕ). x ++ y) fronts (round-trip .bytes-back 4 limit (drop frontBytes bs) (later frontBytes) (omega (arith, e, l)))
+    ∙ take-append-drop frontBytes bs)
 
 pub record-back-claims : RecordBack
 record-back-claims = record { record-back = record-back; bytes-back = bytes-back }

@@ -5,12 +5,12 @@ use mathlib.Core.List.{List}
 use lib.ListN.{length}
 use Rattle.refusals.specs.Refusals.{limit}
 use Rattle.kron_core.specs.declared.KronReducer.{KronReducer}
-use Rattle.entry_slices.specs.Bytes.{ofWords}
 use Rattle.entry_slices.specs.RoundTrip.{Below}
-use Rattle.record_entries.specs.Records.{recordBytes, recordIn, wordsOf}
+use Rattle.record_entries.specs.Records.{recordBytes, recordIn, sizesOf, inBytes}
 
 pub record RecordBack : Type 1 where
-  -- a record whose numbers fit 8 bytes, with as many places as the limit, comes back from its bytes
-  pub record-back : (r : KronReducer) → length (r .«active_buses») ≡ limit → Below (256 ^ 8) (wordsOf r) → recordIn (ofWords 8 (wordsOf r)) ≡ r
+  -- a record whose sizes fit 8 bytes and whose numbers fit 4, with as many places of rows and of numbers as the limit, comes back from its bytes
+  pub record-back : (r : KronReducer) → length (r .«active_buses») ≡ limit → length (r .numbers) ≡ limit
+      → Below (256 ^ 8) (sizesOf r) → Below (256 ^ 4) (r .numbers) → recordIn (inBytes r) ≡ r
   -- so do the bytes from the record in them
-  pub bytes-back : (bs : List ℕ) → Below 256 bs → length bs ≡ recordBytes → ofWords 8 (wordsOf (recordIn bs)) ≡ bs
+  pub bytes-back : (bs : List ℕ) → Below 256 bs → length bs ≡ recordBytes → inBytes (recordIn bs) ≡ bs

@@ -1,33 +1,50 @@
--- A reducer's record in a byte slice, in words of 8 bytes: the size at making, the present size, and the places of the active buses, as many as the limit.
+-- A reducer's record in a byte slice: the size at making and the present size in 8 bytes each, the rows of the active buses, a byte each, and the numbers
+-- of the buses in 4 bytes each; of both as many places as the limit.
 use Prim.Native.Nat.{ℕ, _+_, _*_}
 use mathlib.Core.Bool.{_&&_, cond}
-use mathlib.Core.List.{List, [], _∷_}
+use mathlib.Core.List.{List, [], _∷_, _++_}
 use lib.Dec.{eqb}
-use lib.ListN.{length, drop}
+use lib.ListN.{length, take, drop}
 use Rattle.refusals.specs.Refusals.{limit}
 use Rattle.kron_core.specs.declared.KronReducer.{KronReducer}
 use Rattle.kron_core.specs.Reducer.{recordOf}
 use Rattle.entry_slices.specs.Bytes.{word, words, ofWords}
 
+-- the bytes before the numbers
+abbrev pub frontBytes : ℕ
+frontBytes = 16 + limit
+
 -- the bytes of a record
 abbrev pub recordBytes : ℕ
-recordBytes = 16 + 8 * limit
+recordBytes = frontBytes + 4 * limit
 
--- the places of the active buses
+-- the rows of the active buses
 unfoldable pub activeIn : List ℕ → List ℕ
-activeIn bs = words 8 limit (drop 16 bs)
+activeIn bs = take limit (drop 16 bs)
+
+-- the numbers of the buses
+unfoldable pub numbersIn : List ℕ → List ℕ
+numbersIn bs = words 4 limit (drop frontBytes bs)
 
 -- the record in a byte slice; of a slice of another length nothing is read, and the record is all zeros
 unfoldable pub recordIn : List ℕ → KronReducer
 recordIn bs =
     cond (eqb (length bs) recordBytes)
-    (record { made = word 8 bs 0; «n_buses» = word 8 bs 8; «active_buses» = activeIn bs })
-    (recordOf 0 [])
+    (record { made = word 8 bs 0; «n_buses» = word 8 bs 8; «active_buses» = activeIn bs; numbers = numbersIn bs })
+    (recordOf 0 [] [])
 
--- the words of a record
-abbrev pub wordsOf : KronReducer → List ℕ
-wordsOf r = r .made ∷ r .«n_buses» ∷ r .«active_buses»
+-- the size at making and the present size
+abbrev pub sizesOf : KronReducer → List ℕ
+sizesOf r = r .made ∷ r .«n_buses» ∷ []
+
+-- the bytes of a record before its numbers, in their order
+abbrev pub frontOf : KronReducer → List ℕ
+frontOf r = ofWords 8 (sizesOf r) ++ r .«active_buses»
+
+-- all of them
+abbrev pub inBytes : KronReducer → List ℕ
+inBytes r = frontOf r ++ ofWords 4 (r .numbers)
 
 -- the slice of a record after a call with refusal f: written where there is none, else untouched
 unfoldable pub storedRecord : ℕ → KronReducer → List ℕ → List ℕ
-storedRecord f r bs = cond (eqb f 0 && eqb (length bs) recordBytes) (ofWords 8 (wordsOf r)) bs
+storedRecord f r bs = cond (eqb f 0 && eqb (length bs) recordBytes) (inBytes r) bs

@@ -1,25 +1,47 @@
 // A reducer's record in a byte slice: read, and written where a call is not refused.
 use entry_slices::bytes::put_word;
-use entry_slices::bytes::read_words;
+use entry_slices::bytes::read_halves;
 use entry_slices::bytes::word_at;
-use entry_slices::bytes::write_words;
+use entry_slices::bytes::write_halves;
 use kron_core::KronReducer;
 use refusals::LIMIT;
 ghost use mathlib.Core.Path.{_≡_};
 ghost use lib.ListN.{length};
-ghost use Rattle.entry_slices.specs.Bytes.{ofWords};
 ghost use Rattle.record_entries.specs.Records as spec;
 
-// The bytes of a record: the two sizes, and the places of the active buses.
-pub const RECORD: usize = 16 + 8 * LIMIT;
+// The two sizes, and the rows of the active buses, a byte each.
+const FRONT: usize = 16 + LIMIT;
 
-fn active_in(s: &[u8]) -> [usize; LIMIT]
+// The bytes of a record: these, and the numbers of the buses.
+pub const RECORD: usize = FRONT + 4 * LIMIT;
+
+fn copy(from: &[u8], to: &mut [u8])
+    requires { ⌜ length (now from) ≡ length (now to) ⌝ }
+    ensures { λ _. ⌜ now (to .exit) ≡ now (from .entry) ⌝ }
+{
+    let mut i = 0;
+    while i < from.len() {
+        to[i] = from[i];
+        i += 1;
+    }
+}
+
+fn active_in(s: &[u8]) -> [u8; LIMIT]
     requires { ⌜ length (now s) ≡ spec.recordBytes ⌝ }
     ensures { λ r. ⌜ r ≡ spec.activeIn (now (s .entry)) ⌝ }
 {
     let mut active = [0; LIMIT];
-    read_words(&s[16..RECORD], &mut active);
+    copy(&s[16..FRONT], &mut active);
     active
+}
+
+fn numbers_in(s: &[u8]) -> [u32; LIMIT]
+    requires { ⌜ length (now s) ≡ spec.recordBytes ⌝ }
+    ensures { λ r. ⌜ r ≡ spec.numbersIn (now (s .entry)) ⌝ }
+{
+    let mut numbers = [0; LIMIT];
+    read_halves(&s[FRONT..RECORD], &mut numbers);
+    numbers
 }
 
 // The record of all zeros where the slice is not of a record's length.
@@ -31,23 +53,34 @@ pub fn record_in(s: &[u8]) -> KronReducer
             made: 0,
             n_buses: 0,
             active_buses: [0; LIMIT],
+            numbers: [0; LIMIT],
         };
     }
     KronReducer {
         made: word_at(s, 0) as usize,
         n_buses: word_at(s, 8) as usize,
         active_buses: active_in(s),
+        numbers: numbers_in(s),
     }
 }
 
-fn write_record(s: &mut [u8], r: KronReducer)
-    requires { ⌜ length (now s) ≡ spec.recordBytes ⌝ }
-    ensures { λ _. ⌜ now (s .exit) ≡ ofWords 8 (spec.wordsOf r) ⌝ }
+fn write_front(s: &mut [u8], r: KronReducer)
+    requires { ⌜ length (now s) ≡ spec.frontBytes ⌝ }
+    ensures { λ _. ⌜ now (s .exit) ≡ spec.frontOf r ⌝ }
 {
     let active = r.active_buses;
     put_word(s, 0, r.made as u64);
     put_word(s, 8, r.n_buses as u64);
-    write_words(&mut s[16..RECORD], &active);
+    copy(&active, &mut s[16..FRONT]);
+}
+
+fn write_record(s: &mut [u8], r: KronReducer)
+    requires { ⌜ length (now s) ≡ spec.recordBytes ⌝ }
+    ensures { λ _. ⌜ now (s .exit) ≡ spec.inBytes r ⌝ }
+{
+    let numbers = r.numbers;
+    write_front(&mut s[0..FRONT], r);
+    write_halves(&mut s[FRONT..RECORD], &numbers);
 }
 
 // Writes the record where the refusal is none.

@@ -6,7 +6,7 @@ use Rattle.refusals.specs.declared.Outcome.the-variants.{Done, Refused}
 
 -- the library's limit on buses, branches and lists
 abbrev pub limit : ℕ
-limit = 64
+limit = 256
 
 -- ---- told from the input
 
@@ -14,7 +14,7 @@ limit = 64
 abbrev pub tooMany : ℕ
 tooMany = 1
 
--- a matrix, output or work slice is not of its exact length
+-- a matrix, output or work slice is not of its exact length, or a list of bus numbers not as long as the size
 abbrev pub wrongLength : ℕ
 wrongLength = 2
 
@@ -34,15 +34,15 @@ noSystem = 5
 abbrev pub noSuchEnd : ℕ
 noSuchEnd = 6
 
--- a Ward list names a bus not below the size
+-- a Ward list names a bus that the study's list of numbers lacks
 abbrev pub noSuchBus : ℕ
 noSuchBus = 7
 
--- a Ward bus stands twice in the lists together
+-- a number stands twice in the list that a reducer or a Ward study is made with, or a bus in the Ward lists together
 abbrev pub busTwice : ℕ
 busTwice = 8
 
--- a record that no making or removal can have left
+-- a record that no making or removal can have left, in its active rows or in its numbers
 abbrev pub badRecord : ℕ
 badRecord = 9
 

@@ -3,7 +3,7 @@ ghost use mathlib.Core.Path.{_≡_};
 ghost use Rattle.refusals.specs.Refusals as spec;
 
 // The most buses, branches or list places that the library takes.
-pub const LIMIT: usize = 64;
+pub const LIMIT: usize = 256;
 
 // The answer of a call that returns no value: carried out, or refused with its number.
 pub enum Outcome {

@@ -1,4 +1,5 @@
--- Studies for the order of rows and the sign of the currents, one that retains nothing, and one for each refusal, computed from the definitions.
+-- Studies for the order of rows, the sign of the currents and the buses' numbers, one that retains nothing, and one for each refusal, computed from
+-- the definitions.
 -- Assumes nothing.
 use mathlib.Core.Path.{_≡_, refl}
 use mathlib.Core.List.{List, [], _∷_}
@@ -9,9 +10,9 @@ use Rattle.complex.specs.Matrices.{upTo, entryAt, row, rows, zeros}
 use Rattle.ward_studies.specs.declared.WardAnswer.{WardAnswer}
 use Rattle.ward_studies.specs.declared.WardAnswer.the-variants.{Done, Refused}
 use Rattle.ward_products.specs.WardArithmetic.{sumUp, current, injectedP, injectedQ}
-use Rattle.ward_studies.specs.Ward.{Study, Room, retained, listed, externals, admittance, system, response, rowTimes, equivalent, driven, transferred, injectionP, injectionQ, repeats, tooLong, misfit, unmatched, busRefusal, inputRefusal, thenPivots, refusal, reduction, summary, answered, filled, workAfter, roomAfter, AfterWard, afterWard}
-use Rattle.ward_studies.specs.WardCalls.{studyOf, roomOf, extendedOf, afterX}
-use Rattle.buses.specs.Buses.{allBelow}
+use Rattle.ward_studies.specs.Ward.{Study, Room, retained, listed, externals, admittance, system, response, rowTimes, equivalent, driven, transferred, injectionP, injectionQ, thenPivots, reduction, summary, answered, filled, workAfter, roomAfter, AfterWard, studied}
+use Rattle.ward_studies.specs.WardCalls.{studyOf, roomOf, afterX}
+use Rattle.buses.specs.Buses.{place, repeats, within, rowsIn}
 use Rattle.refusals.specs.Refusals.{limit}
 use Rattle.gauss_jordan.specs.GaussJordan.{stays, tooSmall, heldAfter, pivotRow, swapped, scaled, reduced, pivoted, cleared, runFrom, run, beside, solution, singularSystem}
 use Rattle.gauss_jordan.specs.Solving.{skipped}
@@ -20,7 +21,8 @@ use Rattle.complex.specs.Constants.{plus0, one, tiny, weak}
 use Rattle.complex.specs.Entries.{entry}
 use Rattle.complex.specs.Magnitude.{abs, magnitude}
 use Rattle.binary64.specs.Root.{root, rootOf, wholeRoot, half, radicand}
-use Rattle.ward_studies.specs.WardExtended.{Extended, ExtendedRoom, addUp, deviation, weight, weightSum, weightedSum, voltageCorrection, reactive, qCompensation, inputRefusalX, refusalX, roomAfterX, afterExtended}
+use Rattle.ward_studies.specs.WardExtended.{ExtendedRoom, addUp, deviation, weight, weightSum, weightedSum, voltageCorrection, reactive, qCompensation, roomAfterX, studiedX}
+use Rattle.ward_core.specs.WardNumbers.{Numbered, NumberedX, numberedOf, numberedXOf, inRows, inRowsX, tooLong, misfit, unmatched, busRefusal, toldOf, toldOfX, afterCompute, afterComputeExtended}
 
 abbrev float : ℕ → Float
 float b = ofBits binary64 b
@@ -61,28 +63,33 @@ room S =
       work = replicate (2 * (externals S * (externals S + length (retained S) + 1))) I;
     }
 
-abbrev study : ℕ → List Float → List ℕ → List ℕ → List ℕ → List Float → List Float → Study
-study n ys is es bs ps qs = studyOf n ys is es bs C ps qs
+-- two buses with these numbers, base 100
+abbrev study : List ℕ → List Float → List ℕ → List ℕ → List ℕ → List Float → List Float → Numbered
+study ns ys is es bs ps qs = numberedOf ns (studyOf 2 ys is es bs C ps qs)
 
 -- number and slices at exit
-abbrev after : Study → AfterWard
-after S = afterWard S (room S)
+abbrev after : Numbered → AfterWard
+after N = afterCompute N (room (N .study))
 
 abbrev done : ℕ → ℕ → Float → WardAnswer
 done n r x = Done (record { «n_buses_reduced» = n; «n_buses_equivalent» = r; «reduction_ratio» = x })
 
 -- to open this is to open all that the cases compute with
 opened : Unit {0}
-unfolding retained listed admittance sumUp system response rowTimes equivalent current injectedP injectedQ driven transferred injectionP injectionQ repeats tooLong misfit unmatched busRefusal inputRefusal thenPivots refusal reduction summary answered filled workAfter roomAfter afterWard allBelow stays tooSmall heldAfter pivotRow swapped scaled reduced pivoted cleared runFrom run beside solution singularSystem skipped cadd csub cmul sqmag cdiv complexInv plus0 one tiny entry abs upTo entryAt row rows zeros ofBits span climb size odd units round neg sum add sub mul div lt eq ofInt ofFields
+unfolding retained listed admittance sumUp system response rowTimes equivalent current injectedP injectedQ driven transferred injectionP injectionQ thenPivots reduction summary answered filled workAfter roomAfter studied place repeats within rowsIn inRows tooLong misfit unmatched busRefusal toldOf afterCompute stays tooSmall heldAfter pivotRow swapped scaled reduced pivoted cleared runFrom run beside solution singularSystem skipped cadd csub cmul sqmag cdiv complexInv plus0 one tiny entry abs upTo entryAt row rows zeros ofBits span climb size odd units round neg sum add sub mul div lt eq ofInt ofFields
 opened = tt
 
+-- numbers as rows, for what is not about numbers
+abbrev rows-own : List ℕ
+rows-own = 0 ∷ 1 ∷ []
+
 -- internal before boundary, whatever their numbers
-order : after (study 2 M (1 ∷ []) [] (0 ∷ []) [] []) ≡ record { answer = done 2 2 z; room = record { y-ward = II ∷ z ∷ -I ∷ z ∷ -I ∷ z ∷ I ∷ z ∷ []; p-ward = z ∷ []; q-ward = z ∷ []; work = [] } }
+order : after (study rows-own M (1 ∷ []) [] (0 ∷ []) [] []) ≡ record { answer = done 2 2 z; room = record { y-ward = II ∷ z ∷ -I ∷ z ∷ -I ∷ z ∷ I ∷ z ∷ []; p-ward = z ∷ []; q-ward = z ∷ []; work = [] } }
 unfolding opened
 order = refl
 
 -- nothing retained
-none : after (study 2 M [] (0 ∷ 1 ∷ []) [] (z ∷ z ∷ []) (z ∷ z ∷ [])) ≡ record { answer = done 2 0 I; room = record { y-ward = []; p-ward = []; q-ward = []; work = zeros 12 } }
+none : after (study rows-own M [] (0 ∷ 1 ∷ []) [] (z ∷ z ∷ []) (z ∷ z ∷ [])) ≡ record { answer = done 2 0 I; room = record { y-ward = []; p-ward = []; q-ward = []; work = zeros 12 } }
 unfolding opened
 none = refl
 
@@ -92,48 +99,117 @@ none = refl
 abbrev turning : List Float
 turning = I ∷ z ∷ -I ∷ z ∷ -I ∷ z ∷ I ∷ I ∷ []
 
-currents : after (studyOf 2 turning [] (1 ∷ []) (0 ∷ []) I (z ∷ []) (I ∷ []))
+currents : after (numberedOf rows-own (studyOf 2 turning [] (1 ∷ []) (0 ∷ []) I (z ∷ []) (I ∷ [])))
     ≡ record { answer = done 2 1 +½; room = record { y-ward = +½ ∷ +½ ∷ []; p-ward = -½ ∷ []; q-ward = +½ ∷ []; work = zeros 6 } }
 unfolding opened
 currents = refl
 
 -- the same with no external bus: nothing is turned, both injections are +0
-no-currents : after (studyOf 2 turning [] [] (0 ∷ []) I [] [])
+no-currents : after (numberedOf rows-own (studyOf 2 turning [] [] (0 ∷ []) I [] []))
     ≡ record { answer = done 2 1 z; room = record { y-ward = I ∷ z ∷ []; p-ward = z ∷ []; q-ward = z ∷ []; work = [] } }
 unfolding opened
 no-currents = refl
 
 -- ---- refused, with every slice as it was but the work slice at 13
 
-abbrev refused : Study → ℕ → Type 0
-refused S k = after S ≡ record { answer = Refused k; room = room S }
+abbrev refused : Numbered → ℕ → Type 0
+refused N k = after N ≡ record { answer = Refused k; room = room (N .study) }
 
-lacks : refused (study 2 M [] (2 ∷ []) (0 ∷ []) (z ∷ []) (z ∷ [])) 7
+lacks : refused (study rows-own M [] (2 ∷ []) (0 ∷ []) (z ∷ []) (z ∷ [])) 7
 unfolding opened
 lacks = refl
 
-twice : refused (study 2 M (0 ∷ []) (1 ∷ []) (0 ∷ []) (z ∷ []) (z ∷ [])) 8
+twice : refused (study rows-own M (0 ∷ []) (1 ∷ []) (0 ∷ []) (z ∷ []) (z ∷ [])) 8
 unfolding opened
 twice = refl
 
-unlike : refused (study 2 M [] (1 ∷ []) (0 ∷ []) (z ∷ z ∷ []) (z ∷ [])) 3
+unlike : refused (study rows-own M [] (1 ∷ []) (0 ∷ []) (z ∷ z ∷ []) (z ∷ [])) 3
 unfolding opened
 unlike = refl
 
-short : refused (study 2 (I ∷ M) [] (1 ∷ []) (0 ∷ []) (z ∷ []) (z ∷ [])) 2
+short : refused (study rows-own (I ∷ M) [] (1 ∷ []) (0 ∷ []) (z ∷ []) (z ∷ [])) 2
 unfolding opened
 short = refl
 
-many : refused (study (limit + 1) M [] (1 ∷ []) (0 ∷ []) (z ∷ []) (z ∷ [])) 1
+many : refused (numberedOf rows-own (studyOf (limit + 1) M [] (1 ∷ []) (0 ∷ []) C (z ∷ []) (z ∷ []))) 1
 unfolding opened
 many = refl
 
-abbrev flat : Study
-flat = study 2 (z ∷ z ∷ z ∷ z ∷ z ∷ z ∷ z ∷ z ∷ []) [] (1 ∷ []) (0 ∷ []) (z ∷ []) (z ∷ [])
+abbrev flat : Numbered
+flat = study rows-own (z ∷ z ∷ z ∷ z ∷ z ∷ z ∷ z ∷ z ∷ []) [] (1 ∷ []) (0 ∷ []) (z ∷ []) (z ∷ [])
 
-pivot : after flat ≡ record { answer = Refused 13; room = record { y-ward = room flat .y-ward; p-ward = room flat .p-ward; q-ward = room flat .q-ward; work = zeros 6 } }
+pivot : after flat ≡ record { answer = Refused 13; room = roomOf (I ∷ I ∷ []) (I ∷ []) (I ∷ []) (zeros 6) }
 unfolding opened
 pivot = refl
+
+-- ---- numbers
+
+-- M in row order, its second bus external with P 100: 0.5 is left, and the first bus gets 50
+abbrev halved : AfterWard
+halved = record { answer = done 2 1 +½; room = roomOf (+½ ∷ z ∷ []) (float 0x4049000000000000 ∷ []) (z ∷ []) (zeros 6) }
+
+own : after (study rows-own M [] (1 ∷ []) (0 ∷ []) (C ∷ []) (z ∷ [])) ≡ halved
+unfolding opened
+own = refl
+
+-- a list numbered from one, boundary 1 and external 2: no row has the number 2, or it is right
+from-one : refused (study rows-own M [] (2 ∷ []) (1 ∷ []) (C ∷ []) (z ∷ [])) 7
+unfolding opened
+from-one = refl
+
+numbered-from-one : after (study (1 ∷ 2 ∷ []) M [] (2 ∷ []) (1 ∷ []) (C ∷ []) (z ∷ [])) ≡ halved
+unfolding opened
+numbered-from-one = refl
+
+-- the smallest number and the largest
+furthest : after (study (4294967295 ∷ 0 ∷ []) M [] (0 ∷ []) (4294967295 ∷ []) (C ∷ []) (z ∷ [])) ≡ halved
+unfolding opened
+furthest = refl
+
+-- boundary 1, external 0: where row 0 has number 1, and where the numbers are the rows. Entry and injection are twice as large there
+turned : after (study (1 ∷ 0 ∷ []) M [] (0 ∷ []) (1 ∷ []) (C ∷ []) (z ∷ [])) ≡ halved
+unfolding opened
+turned = refl
+
+not-turned : after (study rows-own M [] (0 ∷ []) (1 ∷ []) (C ∷ []) (z ∷ [])) ≡ record { answer = done 2 1 +½; room = roomOf (I ∷ z ∷ []) (C ∷ []) (z ∷ []) (zeros 6) }
+unfolding opened
+not-turned = refl
+
+-- rows of the equivalent are in the lists' order, not in that of the numbers
+unsorted : after (study (7 ∷ 3 ∷ []) M (7 ∷ []) [] (3 ∷ []) [] []) ≡ record { answer = done 2 2 z; room = roomOf M (z ∷ []) (z ∷ []) [] }
+unfolding opened
+unsorted = refl
+
+-- a number that stands twice, also where no list names it
+number-twice : refused (study (1 ∷ 1 ∷ []) M [] [] (1 ∷ []) [] []) 8
+unfolding opened
+number-twice = refl
+
+number-twice-unlisted : refused (study (1 ∷ 1 ∷ []) M [] [] [] [] []) 8
+unfolding opened
+number-twice-unlisted = refl
+
+-- 7 comes before 8, of the numbers and of the lists
+lacks-first : refused (study (1 ∷ 1 ∷ []) M [] [] (2 ∷ []) [] []) 7
+unfolding opened
+lacks-first = refl
+
+lacks-before-twice : refused (study rows-own M (0 ∷ []) (2 ∷ []) (0 ∷ []) (z ∷ []) (z ∷ [])) 7
+unfolding opened
+lacks-before-twice = refl
+
+-- one number short, one too many, more than the limit; these come before 3, 7 and 8
+one-short : refused (study (0 ∷ []) M [] (1 ∷ []) (0 ∷ []) [] []) 2
+unfolding opened
+one-short = refl
+
+one-long : refused (study (0 ∷ 0 ∷ 0 ∷ []) M [] (1 ∷ []) (0 ∷ []) (z ∷ []) (z ∷ [])) 2
+unfolding opened
+one-long = refl
+
+many-numbers : refused (study (replicate (limit + 1) 0) M [] (1 ∷ []) (0 ∷ []) (z ∷ []) (z ∷ [])) 1
+unfolding opened
+many-numbers = refl
 
 -- ---- extended
 
@@ -143,24 +219,28 @@ skew =
     float 0x4008000000000000 ∷ float 0xc010000000000000 ∷ float 0xc008000000000000 ∷ float 0x4010000000000000
     ∷ float 0xc008000000000000 ∷ float 0x4010000000000000 ∷ I ∷ I ∷ []
 
--- base 1, P 0, Q 1
-abbrev extended : List Float → Extended
-extended vs = extendedOf (studyOf 2 skew [] (1 ∷ []) (0 ∷ []) I (z ∷ []) (I ∷ [])) vs
+-- base 1, P 0, Q 1; rows 0 and 1 have the numbers 7 and 3
+abbrev extended : ℕ → List Float → NumberedX
+extended k vs = numberedXOf (numberedOf (7 ∷ 3 ∷ []) (studyOf 2 skew [] (k ∷ []) (7 ∷ []) I (z ∷ []) (I ∷ []))) vs
 
-abbrev wide : Extended → ExtendedRoom
-wide S = record { room = room (S .study); correction = I ∷ []; compensation = I ∷ [] }
+abbrev wide : NumberedX → ExtendedRoom
+wide X = record { room = room (X .study .study); correction = I ∷ []; compensation = I ∷ [] }
 
 opened-extended : Unit {0}
-unfolding opened magnitude root rootOf wholeRoot half radicand weak addUp deviation weight weightSum weightedSum voltageCorrection reactive qCompensation inputRefusalX refusalX roomAfterX afterExtended
+unfolding opened magnitude root rootOf wholeRoot half radicand weak addUp deviation weight weightSum weightedSum voltageCorrection reactive qCompensation roomAfterX studiedX inRowsX toldOfX afterComputeExtended
 opened-extended = tt
 
--- voltage 1.25: bus 0 gets P -3.5 and Q -0.5; its correction is 0.25, and the extended form's own Q -1
-both-q : let S = extended (float 0x3ff4000000000000 ∷ []) in
-    afterExtended S (wide S)
+-- voltage 1.25: bus 7 gets P -3.5 and Q -0.5; its correction is 0.25, and the extended form's own Q -1
+both-q : let X = extended 3 (float 0x3ff4000000000000 ∷ []) in
+    afterComputeExtended X (wide X)
     ≡ afterX (done 2 1 +½) (roomOf (float 0x4032800000000000 ∷ float 0x4012000000000000 ∷ []) (float 0xc00c000000000000 ∷ []) (-½ ∷ []) (zeros 6)) (float 0x3fd0000000000000 ∷ []) (-I ∷ [])
 unfolding opened-extended
 both-q = refl
 
-unlike-v : afterExtended (extended []) (wide (extended [])) ≡ record { answer = Refused 3; room = wide (extended []) }
+unlike-v : afterComputeExtended (extended 3 []) (wide (extended 3 [])) ≡ record { answer = Refused 3; room = wide (extended 3 []) }
 unfolding opened-extended
 unlike-v = refl
+
+lacks-v : let X = extended 1 (I ∷ []) in afterComputeExtended X (wide X) ≡ record { answer = Refused 7; room = wide X }
+unfolding opened-extended
+lacks-v = refl

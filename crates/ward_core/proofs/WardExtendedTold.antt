@@ -1,128 +1,75 @@
--- An extended study: what its lengths tell, and what Ward's own study and the corrections leave together.
+-- What the lengths of an extended study tell, and what they leave.
 -- Assumes nothing.
-use mathlib.Core.Path.{_≡_, refl, sym, ap, _∙_}
-use mathlib.Core.Bool.{Bool, true, false, not, _||_, cond}
-use Prim.Native.Nat.{ℕ, suc}
-use lib.Dec.{eqb, ltb, eqb·suc-zero}
+use mathlib.Core.Path.{_≡_, refl, sym, ap, subst, _∙_}
+use mathlib.Core.Bool.{Bool, not, _||_, cond}
+use Prim.Native.Nat.{ℕ, _≤_}
+use lib.Dec.{eqb, ltb}
 use lib.ListN.{length}
 use Rattle.refusals.specs.Refusals.{limit, refuse}
-use Rattle.ward_studies.specs.declared.WardAnswer.the-variants.{Refused}
-use Rattle.ward_studies.specs.Ward.{externals, tooLong, unmatched, busRefusal, thenPivots, summary, answered, roomAfter, workAfter}
-use Rattle.ward_studies.specs.WardExtended.{Extended, ExtendedRoom, inputRefusalX, refusalX, roomAfterX, AfterExtended, afterExtended}
-use Rattle.ward_studies.specs.WardCalls.{afterX, crowded, uneven, toldX, Fitting}
-use Rattle.ward_studies.proofs.WardBuses.{none-of}
-use Rattle.ward_studies.proofs.WardTold.{few, even, same-length, misfit-lengths, three, none-told, told-cond}
+use Rattle.ward_studies.specs.Ward.{externals, listed}
+use Rattle.ward_studies.specs.WardExtended.{ExtendedRoom}
+use Rattle.ward_core.specs.WardLengths.{crowded, uneven, toldX}
+use Rattle.ward_core.specs.WardNumbers.{NumberedX, tooLong, unmatched, busRefusal, toldOfX}
+use Rattle.ward_core.proofs.WardBuses.{none-of}
+use Rattle.ward_core.proofs.WardTold.{three, three-small, three-none, same-length, misfit-lengths, Fitting, fitting}
 
-unfoldable pub toldXOf : Extended → ExtendedRoom → ℕ
-unfolding toldX
-toldXOf X o =
-    toldX (X .study .size) (length (X .study .given)) (length (X .study .internal)) (externals (X .study)) (length (X .study .boundary)) (length (X .study .p-ext)) (length (X .study .q-ext))
-    (length (o .room .y-ward)) (length (o .room .p-ward)) (length (o .room .q-ward)) (length (o .room .work)) (length (X .v-ext)) (length (o .correction)) (length (o .compensation))
+pub record FittingX (X : NumberedX) (o : ExtendedRoom) : Type 0 where
+  pub study : Fitting (X .study) (o .room)
+  pub v-ext : length (X .v-ext) ≡ externals (X .study .study)
+  pub correction : length (o .correction) ≡ length (X .study .study .boundary)
+  pub compensation : length (o .compensation) ≡ length (X .study .study .boundary)
 
--- after the input refusal f
-unfoldable pub studiedX : Extended → ExtendedRoom → ℕ → AfterExtended
-unfolding thenPivots answered summary roomAfterX
-studiedX X o f = let k = thenPivots (X .study) f in record { answer = answered k (summary (X .study)); room = roomAfterX X k o }
-
-afterX-is : (X : Extended) (o : ExtendedRoom) → afterExtended X o ≡ studiedX X o (inputRefusalX X o)
-unfolding afterExtended studiedX refusalX
-afterX-is X o = refl
-
--- ---- 1, 2 and 3
-
-module _ (X : Extended) (o : ExtendedRoom) where
+module _ (X : NumberedX) (o : ExtendedRoom) where
   many : Bool
-  many = crowded (X .study .size) (length (X .study .internal)) (externals (X .study)) (length (X .study .boundary)) (length (X .study .p-ext)) (length (X .study .q-ext)) || ltb limit (length (X .v-ext))
+  many =
+      crowded (X .study .study .size) (length (X .study .numbers)) (length (X .study .study .internal)) (externals (X .study .study)) (length (X .study .study .boundary)) (length (X .study .study .p-ext)) (length (X .study .study .q-ext))
+      || ltb limit (length (X .v-ext))
 
   wrong : Bool
   wrong =
-      uneven (X .study .size) (length (X .study .given)) (length (X .study .internal)) (externals (X .study)) (length (X .study .boundary))
+      uneven (X .study .study .size) (length (X .study .study .given)) (length (X .study .numbers)) (length (X .study .study .internal)) (externals (X .study .study)) (length (X .study .study .boundary))
       (length (o .room .y-ward)) (length (o .room .p-ward)) (length (o .room .q-ward)) (length (o .room .work))
-      || not (eqb (length (o .correction)) (length (X .study .boundary))) || not (eqb (length (o .compensation)) (length (X .study .boundary)))
+      || not (eqb (length (o .correction)) (length (X .study .study .boundary))) || not (eqb (length (o .compensation)) (length (X .study .study .boundary)))
 
   unlike : Bool
-  unlike = not (eqb (length (X .study .p-ext)) (externals (X .study))) || not (eqb (length (X .study .q-ext)) (externals (X .study))) || not (eqb (length (X .v-ext)) (externals (X .study)))
+  unlike = not (eqb (length (X .study .study .p-ext)) (externals (X .study .study))) || not (eqb (length (X .study .study .q-ext)) (externals (X .study .study))) || not (eqb (length (X .v-ext)) (externals (X .study .study)))
 
-  told-parts : toldXOf X o ≡ refuse many 1 (refuse wrong 2 (refuse unlike 3 0))
-  unfolding toldXOf toldX many wrong unlike
+  -- what `ward_lengths::told_extended` tells
+  unfoldable pub lengthsToldX : ℕ
+  unfolding toldX
+  lengthsToldX =
+      toldX (X .study .study .size) (length (X .study .study .given)) (length (X .study .numbers)) (length (X .study .study .internal)) (externals (X .study .study)) (length (X .study .study .boundary)) (length (X .study .study .p-ext)) (length (X .study .study .q-ext))
+      (length (o .room .y-ward)) (length (o .room .p-ward)) (length (o .room .q-ward)) (length (o .room .work)) (length (X .v-ext)) (length (o .correction)) (length (o .compensation))
+
+  told-parts : lengthsToldX ≡ refuse many 1 (refuse wrong 2 (refuse unlike 3 0))
+  unfolding lengthsToldX toldX many wrong unlike
   told-parts = refl
 
-  input-parts : inputRefusalX X o ≡ refuse many 1 (refuse wrong 2 (refuse unlike 3 (busRefusal (X .study))))
-  unfolding inputRefusalX many wrong unlike tooLong crowded unmatched
-  input-parts =
-      ap (λ (b : Bool). refuse many 1 (refuse (b || not (eqb (length (o .correction)) (length (X .study .boundary))) || not (eqb (length (o .compensation)) (length (X .study .boundary)))) 2 (refuse unlike 3 (busRefusal (X .study)))))
-      (misfit-lengths (X .study) (o .room))
+  pub lengths-smallX : lengthsToldX ≤ 8
+  lengths-smallX = subst (λ (m : ℕ). m ≤ 8) (sym told-parts) (three-small many wrong unlike)
 
-  input-told : inputRefusalX X o ≡ cond (eqb (toldXOf X o) 0) (busRefusal (X .study)) (toldXOf X o)
-  input-told = input-parts ∙ three many wrong unlike (busRefusal (X .study)) ∙ ap (λ (t : ℕ). cond (eqb t 0) (busRefusal (X .study)) t) (sym told-parts)
+  pub told-isX : toldOfX X o ≡ cond (eqb lengthsToldX 0) (busRefusal (X .study .numbers) (listed (X .study .study))) lengthsToldX
+  unfolding toldOfX many wrong unlike tooLong crowded unmatched
+  told-isX =
+      let x = busRefusal (X .study .numbers) (listed (X .study .study)) in
+      ap (λ (b : Bool). refuse many 1 (refuse (b || not (eqb (length (o .correction)) (length (X .study .study .boundary))) || not (eqb (length (o .compensation)) (length (X .study .study .boundary)))) 2 (refuse unlike 3 x))) (misfit-lengths (X .study) (o .room))
+      ∙ three many wrong unlike x ∙ ap (λ (t : ℕ). cond (eqb t 0) x t) (sym told-parts)
 
-studiedX-refused : (X : Extended) (o : ExtendedRoom) (k : ℕ) → eqb (suc k) 13 ≡ false → afterX (Refused (suc k)) (o .room) (o .correction) (o .compensation) ≡ studiedX X o (suc k)
-unfolding studiedX thenPivots answered summary roomAfterX roomAfter workAfter
-studiedX-refused X o k h = simp (eqb·suc-zero, h)
-
-refused : (X : Extended) (o : ExtendedRoom) (a b c : Bool) → (refuse a 1 (refuse b 2 (refuse c 3 0)) ≡ 0 → ⊥)
-    → afterX (Refused (refuse a 1 (refuse b 2 (refuse c 3 0)))) (o .room) (o .correction) (o .compensation) ≡ studiedX X o (refuse a 1 (refuse b 2 (refuse c 3 0)))
-refused X o true b c h = studiedX-refused X o 0 refl
-refused X o false true c h = studiedX-refused X o 1 refl
-refused X o false false true h = studiedX-refused X o 2 refl
-refused X o false false false h = absurd (h refl)
-
--- a study that its lengths refuse leaves every slice as it was
-pub extended-refused : (X : Extended) (o : ExtendedRoom) (t : ℕ) → t ≡ toldXOf X o → (t ≡ 0 → ⊥) → afterX (Refused t) (o .room) (o .correction) (o .compensation) ≡ afterExtended X o
-extended-refused X o t e h =
-    let q : t ≡ refuse (many X o) 1 (refuse (wrong X o) 2 (refuse (unlike X o) 3 0)) = e ∙ told-parts X o in
-    ap (λ (k : ℕ). afterX (Refused k) (o .room) (o .correction) (o .compensation)) q
-    ∙ refused X o (many X o) (wrong X o) (unlike X o) (λ (z : refuse (many X o) 1 (refuse (wrong X o) 2 (refuse (unlike X o) 3 0)) ≡ 0). h (q ∙ z))
-    ∙ ap (studiedX X o) (sym (told-parts X o) ∙ sym (input-told X o ∙ told-cond (toldXOf X o) (busRefusal (X .study)) (λ (z : toldXOf X o ≡ 0). h (e ∙ z))))
-    ∙ sym (afterX-is X o)
-
--- ---- lengths that are right
-
-pub record FittingX (X : Extended) (o : ExtendedRoom) : Type 0 where
-  pub study : Fitting (X .study) (o .room)
-  pub v-ext : length (X .v-ext) ≡ externals (X .study)
-  pub correction : length (o .correction) ≡ length (X .study .boundary)
-  pub compensation : length (o .compensation) ≡ length (X .study .boundary)
-
-pub extended-fitting : (X : Extended) (o : ExtendedRoom) (t : ℕ) → t ≡ toldXOf X o → t ≡ 0 → FittingX X o
-unfolding many wrong unlike
-extended-fitting X o t e z =
-    let S = X .study in
-    let b = length (S .boundary) in
-    let (m, w, u) = none-told (many X o) (wrong X o) (unlike X o) (sym (e ∙ told-parts X o) ∙ z) in
-    let P = not (eqb (length (S .p-ext)) (externals S)) in
-    let Q = not (eqb (length (S .q-ext)) (externals S)) in
-    let N = not (eqb (length (X .v-ext)) (externals S)) in
-    let C = not (eqb (length (o .correction)) b) in
-    let K = not (eqb (length (o .compensation)) b) in
-    let U = uneven (S .size) (length (S .given)) (length (S .internal)) (externals S) b (length (o .room .y-ward)) (length (o .room .p-ward)) (length (o .room .q-ward)) (length (o .room .work)) in
-    let (cr, lv) = none-of (crowded (S .size) (length (S .internal)) (externals S) b (length (S .p-ext)) (length (S .q-ext))) (ltb limit (length (X .v-ext))) m in
-    let (uc, k) = none-of (U || C) K w in
-    let (un, c) = none-of U C uc in
-    let (pq, v) = none-of (P || Q) N u in
-    let (p, q) = none-of P Q pq in
-    let f = few (S .size) (length (S .internal)) (externals S) b (length (S .p-ext)) (length (S .q-ext)) cr in
-    let g = even (S .size) (length (S .given)) (length (S .internal)) (externals S) b (length (o .room .y-ward)) (length (o .room .p-ward)) (length (o .room .q-ward)) (length (o .room .work)) un in
-    record {
-      study = record {
-        few = f .size;
-        few-internal = f .internal;
-        few-external = f .external;
-        few-boundary = f .boundary;
-        given = g .given;
-        y-ward = g .y-ward;
-        p-ward = g .p-ward;
-        q-ward = g .q-ward;
-        work = g .work;
-        p-ext = same-length (length (S .p-ext)) (externals S) p;
-        q-ext = same-length (length (S .q-ext)) (externals S) q;
-      };
-      v-ext = same-length (length (X .v-ext)) (externals S) v;
-      correction = same-length (length (o .correction)) b c;
-      compensation = same-length (length (o .compensation)) b k;
-    }
-
--- after those only the buses and the pivots can refuse
-pub extended-told : (X : Extended) (o : ExtendedRoom) (t : ℕ) → t ≡ toldXOf X o → t ≡ 0 → studiedX X o (busRefusal (X .study)) ≡ afterExtended X o
-extended-told X o t e z =
-    ap (studiedX X o) (sym (input-told X o ∙ ap (λ (k : ℕ). cond (eqb k 0) (busRefusal (X .study)) k) (sym e ∙ z))) ∙ sym (afterX-is X o)
+  pub lengths-fitX : lengthsToldX ≡ 0 → FittingX X o
+  unfolding many wrong unlike
+  lengths-fitX z =
+      let S = X .study .study in
+      let (m, w, u) = three-none many wrong unlike (sym told-parts ∙ z) in
+      let C = not (eqb (length (o .correction)) (length (S .boundary))) in
+      let K = not (eqb (length (o .compensation)) (length (S .boundary))) in
+      let U = uneven (S .size) (length (S .given)) (length (X .study .numbers)) (length (S .internal)) (externals S) (length (S .boundary)) (length (o .room .y-ward)) (length (o .room .p-ward)) (length (o .room .q-ward)) (length (o .room .work)) in
+      let (few, _) = none-of (crowded (S .size) (length (X .study .numbers)) (length (S .internal)) (externals S) (length (S .boundary)) (length (S .p-ext)) (length (S .q-ext))) (ltb limit (length (X .v-ext))) m in
+      let (uc, k) = none-of (U || C) K w in
+      let (even, c) = none-of U C uc in
+      let (pq, v) = none-of (not (eqb (length (S .p-ext)) (externals S)) || not (eqb (length (S .q-ext)) (externals S))) (not (eqb (length (X .v-ext)) (externals S))) u in
+      record {
+        study = fitting (X .study) (o .room) few even pq;
+        v-ext = same-length (length (X .v-ext)) (externals S) v;
+        correction = same-length (length (o .correction)) (length (S .boundary)) c;
+        compensation = same-length (length (o .compensation)) (length (S .boundary)) k;
+      }

@@ -1,26 +1,29 @@
-// Ward and extended Ward equivalents of a bus matrix that stands in a lent slice.
+// Ward and extended Ward equivalents of a bus matrix that stands in a lent slice. Buses are named by number.
+use refusals::LIMIT;
 use ward_studies::WardAnswer;
 use ward_studies::ward_study;
 ghost use mathlib.Core.Path.{_≡_};
 ghost use Rattle.complex.specs.Values.{F64s};
-ghost use Rattle.ward_studies.specs.Ward as ward;
 ghost use Rattle.ward_studies.specs.WardCalls as spec;
-ghost use Rattle.ward_studies.specs.WardExtended as extended;
+ghost use Rattle.ward_core.specs.WardNumbers as ward;
 
 pub mod ward_corrections;
 pub mod ward_lengths;
+pub mod ward_numbers;
 
 // Ward's equivalent of the n buses of y for the internal and boundary buses, in this order: its matrix in y_ward, and what each boundary
 // bus gets, in MW and MVAr, in p_ward and q_ward. p_ext and q_ext are the injections at the external buses, in MW and MVAr, base_mva in MVA;
 // at unit voltage the current of P + jQ is P - jQ.
-// Buses are numbered from 0. Refused: 1, 2, 3, 7, 8 from the input, 13 where a pivot is too small; then no output is written.
+// numbers[i] is the number of the bus of row i; the three lists hold numbers.
+// Refused: 1, 2, 3, 7, 8 from the input, 13 where a pivot is too small; then no output is written.
 // The work slice has 2 e (e + r + 1) numbers for e external and r retained buses, all +0 after acceptance or 13.
 pub fn compute(
     n: usize,
     y: &[f64],
-    internal: &[usize],
-    external: &[usize],
-    boundary: &[usize],
+    numbers: &[u32],
+    internal: &[u32],
+    external: &[u32],
+    boundary: &[u32],
     base_mva: f64,
     p_ext: &[f64],
     q_ext: &[f64],
@@ -29,11 +32,12 @@ pub fn compute(
     q_ward: &mut [f64],
     work: &mut [f64],
 ) -> WardAnswer
-    ensures { λ r. ⌜ (spec.after r (now («y_ward» .exit)) (now («p_ward» .exit)) (now («q_ward» .exit)) (now (work .exit)) ≡ ward.afterWard (spec.studyOf n (now (y .entry)) (now (internal .entry)) (now (external .entry)) (now (boundary .entry)) «base_mva» (now («p_ext» .entry)) (now («q_ext» .entry))) (spec.roomOf (now («y_ward» .entry)) (now («p_ward» .entry)) (now («q_ward» .entry)) (now (work .entry)))) × F64s (now (y .entry)) ⌝ }
+    ensures { λ r. ⌜ (spec.after r (now («y_ward» .exit)) (now («p_ward» .exit)) (now («q_ward» .exit)) (now (work .exit)) ≡ ward.afterCompute (ward.numberedOf (now (numbers .entry)) (spec.studyOf n (now (y .entry)) (now (internal .entry)) (now (external .entry)) (now (boundary .entry)) «base_mva» (now («p_ext» .entry)) (now («q_ext» .entry)))) (spec.roomOf (now («y_ward» .entry)) (now («p_ward» .entry)) (now («q_ward» .entry)) (now (work .entry)))) × F64s (now (y .entry)) ⌝ }
 {
     let told = ward_lengths::told(
         n,
         y.len(),
+        numbers.len(),
         internal.len(),
         external.len(),
         boundary.len(),
@@ -47,12 +51,20 @@ pub fn compute(
     if told != 0 {
         return WardAnswer::Refused(told);
     }
+    let mut rows = [0; 3 * LIMIT];
+    let unplaced = ward_numbers::placed(numbers, internal, external, boundary, &mut rows);
+    if unplaced != 0 {
+        return WardAnswer::Refused(unplaced);
+    }
+    let e = external.len();
+    let f = e + internal.len();
+    let k = f + boundary.len();
     ward_study::study(
         n,
         y,
-        internal,
-        external,
-        boundary,
+        &rows[0..k],
+        e,
+        f,
         base_mva,
         p_ext,
         q_ext,
@@ -68,9 +80,10 @@ pub fn compute(
 pub fn compute_extended(
     n: usize,
     y: &[f64],
-    internal: &[usize],
-    external: &[usize],
-    boundary: &[usize],
+    numbers: &[u32],
+    internal: &[u32],
+    external: &[u32],
+    boundary: &[u32],
     base_mva: f64,
     p_ext: &[f64],
     q_ext: &[f64],
@@ -82,11 +95,12 @@ pub fn compute_extended(
     q_compensation: &mut [f64],
     work: &mut [f64],
 ) -> WardAnswer
-    ensures { λ r. ⌜ (spec.afterX r (spec.roomOf (now («y_ward» .exit)) (now («p_ward» .exit)) (now («q_ward» .exit)) (now (work .exit))) (now («voltage_correction» .exit)) (now («q_compensation» .exit)) ≡ extended.afterExtended (spec.extendedOf (spec.studyOf n (now (y .entry)) (now (internal .entry)) (now (external .entry)) (now (boundary .entry)) «base_mva» (now («p_ext» .entry)) (now («q_ext» .entry))) (now («v_ext» .entry))) (spec.extendedRoomOf (spec.roomOf (now («y_ward» .entry)) (now («p_ward» .entry)) (now («q_ward» .entry)) (now (work .entry))) (now («voltage_correction» .entry)) (now («q_compensation» .entry)))) × F64s (now (y .entry)) ⌝ }
+    ensures { λ r. ⌜ (spec.afterX r (spec.roomOf (now («y_ward» .exit)) (now («p_ward» .exit)) (now («q_ward» .exit)) (now (work .exit))) (now («voltage_correction» .exit)) (now («q_compensation» .exit)) ≡ ward.afterComputeExtended (ward.numberedXOf (ward.numberedOf (now (numbers .entry)) (spec.studyOf n (now (y .entry)) (now (internal .entry)) (now (external .entry)) (now (boundary .entry)) «base_mva» (now («p_ext» .entry)) (now («q_ext» .entry)))) (now («v_ext» .entry))) (spec.extendedRoomOf (spec.roomOf (now («y_ward» .entry)) (now («p_ward» .entry)) (now («q_ward» .entry)) (now (work .entry))) (now («voltage_correction» .entry)) (now («q_compensation» .entry)))) × F64s (now (y .entry)) ⌝ }
 {
     let told = ward_lengths::told_extended(
         n,
         y.len(),
+        numbers.len(),
         internal.len(),
         external.len(),
         boundary.len(),
@@ -103,32 +117,29 @@ pub fn compute_extended(
     if told != 0 {
         return WardAnswer::Refused(told);
     }
-    let answer = ward_study::study(
+    let mut rows = [0; 3 * LIMIT];
+    let unplaced = ward_numbers::placed(numbers, internal, external, boundary, &mut rows);
+    if unplaced != 0 {
+        return WardAnswer::Refused(unplaced);
+    }
+    let e = external.len();
+    let f = e + internal.len();
+    let k = f + boundary.len();
+    ward_corrections::corrected(
         n,
         y,
-        internal,
-        external,
-        boundary,
+        &rows[0..k],
+        e,
+        f,
         base_mva,
         p_ext,
         q_ext,
+        v_ext,
         y_ward,
         p_ward,
         q_ward,
-        work,
-    );
-    let WardAnswer::Done(summary) = answer else {
-        return answer;
-    };
-    ward_corrections::corrections(
-        y,
-        n,
-        external,
-        boundary,
-        v_ext,
-        base_mva,
         voltage_correction,
         q_compensation,
-    );
-    WardAnswer::Done(summary)
+        work,
+    )
 }

@@ -3,9 +3,11 @@
 use complex::constants::WEAK;
 use complex::magnitude::magnitude;
 use ward_products::ward_rows::at;
+use ward_studies::WardAnswer;
+use ward_studies::ward_study;
 ghost use mathlib.Core.Path.{_≡_};
 ghost use mathlib.Core.List.{map};
-ghost use Prim.Native.Nat.{_<_};
+ghost use Prim.Native.Nat.{_-_, _<_};
 ghost use lib.ListN.{length};
 ghost use Rattle.ward_studies.specs.WardCalls as spec;
 ghost use Rattle.ward_studies.specs.WardExtended as ward;
@@ -60,7 +62,7 @@ fn mean(weights: f64, weighted: f64) -> f64
 }
 
 // The corrections and compensations of the boundary buses, in their order.
-pub fn corrections(
+fn corrections(
     y: &[f64],
     n: usize,
     outer: &[usize],
@@ -80,4 +82,43 @@ pub fn corrections(
         compensation[t] = s.reactive;
         t += 1;
     }
+}
+
+// The study on one list of rows, as `ward_study::study`; where it is accepted, the corrections and compensations too.
+pub fn corrected(
+    n: usize,
+    y: &[f64],
+    buses: &[usize],
+    e: usize,
+    f: usize,
+    base: f64,
+    p: &[f64],
+    q: &[f64],
+    voltages: &[f64],
+    to: &mut [f64],
+    active: &mut [f64],
+    reactive: &mut [f64],
+    correction: &mut [f64],
+    compensation: &mut [f64],
+    work: &mut [f64],
+) -> WardAnswer
+    requires { ⌜ (spec.Listed n (now y) (now buses) e f (now p) (now q) (spec.roomOf (now to) (now active) (now reactive) (now work))) × (length (now voltages) ≡ e) × (length (now correction) ≡ length (now buses) - f) × (length (now compensation) ≡ length (now buses) - f) ⌝ }
+    ensures { λ r. ⌜ spec.afterX r (spec.roomOf (now (to .exit)) (now (active .exit)) (now (reactive .exit)) (now (work .exit))) (now (correction .exit)) (now (compensation .exit)) ≡ ward.studiedX (spec.extendedOf (spec.cut n (now (y .entry)) (now (buses .entry)) e f base (now (p .entry)) (now (q .entry))) (now (voltages .entry))) (spec.extendedRoomOf (spec.roomOf (now (to .entry)) (now (active .entry)) (now (reactive .entry)) (now (work .entry))) (now (correction .entry)) (now (compensation .entry))) 0 ⌝ }
+{
+    let answer = ward_study::study(n, y, buses, e, f, base, p, q, to, active, reactive, work);
+    let WardAnswer::Done(summary) = answer else {
+        return answer;
+    };
+    let k = buses.len();
+    corrections(
+        y,
+        n,
+        &buses[0..e],
+        &buses[f..k],
+        voltages,
+        base,
+        correction,
+        compensation,
+    );
+    WardAnswer::Done(summary)
 }

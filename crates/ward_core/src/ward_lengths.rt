@@ -4,13 +4,16 @@ use refusals::LIMIT;
 ghost use mathlib.Core.Path.{_≡_};
 ghost use Prim.Native.Nat.{_≤_};
 ghost use Rattle.refusals.specs.Refusals.{limit};
-ghost use Rattle.ward_studies.specs.WardCalls as spec;
+ghost use Rattle.ward_core.specs.WardLengths as spec;
 
 // More buses than the limit, or a longer list.
-fn crowded(n: usize, i: usize, e: usize, b: usize, p: usize, q: usize) -> bool
-    ensures { λ r. ⌜ r ≡ spec.crowded n i e b p q ⌝ }
+fn crowded(n: usize, c: usize, i: usize, e: usize, b: usize, p: usize, q: usize) -> bool
+    ensures { λ r. ⌜ r ≡ spec.crowded n c i e b p q ⌝ }
 {
     if n > LIMIT {
+        return true;
+    }
+    if c > LIMIT {
         return true;
     }
     if i > LIMIT {
@@ -28,10 +31,11 @@ fn crowded(n: usize, i: usize, e: usize, b: usize, p: usize, q: usize) -> bool
     q > LIMIT
 }
 
-// A slice not of its exact length.
+// A slice not of its exact length, or not one number a bus.
 fn uneven(
     n: usize,
     y: usize,
+    c: usize,
     i: usize,
     e: usize,
     b: usize,
@@ -41,10 +45,13 @@ fn uneven(
     w: usize,
 ) -> bool
     requires { ⌜ (n ≤ limit) × (i ≤ limit) × (e ≤ limit) × (b ≤ limit) ⌝ }
-    ensures { λ r. ⌜ r ≡ spec.uneven n y i e b yw pw qw w ⌝ }
+    ensures { λ r. ⌜ r ≡ spec.uneven n y c i e b yw pw qw w ⌝ }
 {
     let r = i + b;
     if y != 2 * (n * n) {
+        return true;
+    }
+    if c != n {
         return true;
     }
     if yw != 2 * (r * r) {
@@ -62,6 +69,7 @@ fn uneven(
 pub fn told(
     n: usize,
     y: usize,
+    c: usize,
     i: usize,
     e: usize,
     b: usize,
@@ -72,12 +80,12 @@ pub fn told(
     qw: usize,
     w: usize,
 ) -> u32
-    ensures { λ r. ⌜ r ≡ spec.told n y i e b p q yw pw qw w ⌝ }
+    ensures { λ r. ⌜ r ≡ spec.told n y c i e b p q yw pw qw w ⌝ }
 {
-    if crowded(n, i, e, b, p, q) {
+    if crowded(n, c, i, e, b, p, q) {
         return 1;
     }
-    if uneven(n, y, i, e, b, yw, pw, qw, w) {
+    if uneven(n, y, c, i, e, b, yw, pw, qw, w) {
         return 2;
     }
     if p != e {
@@ -89,10 +97,11 @@ pub fn told(
     0
 }
 
-// With voltages: v numbers, c corrections and k compensations.
+// With v voltages, d corrections and k compensations.
 pub fn told_extended(
     n: usize,
     y: usize,
+    c: usize,
     i: usize,
     e: usize,
     b: usize,
@@ -103,21 +112,21 @@ pub fn told_extended(
     qw: usize,
     w: usize,
     v: usize,
-    c: usize,
+    d: usize,
     k: usize,
 ) -> u32
-    ensures { λ r. ⌜ r ≡ spec.toldX n y i e b p q yw pw qw w v c k ⌝ }
+    ensures { λ r. ⌜ r ≡ spec.toldX n y c i e b p q yw pw qw w v d k ⌝ }
 {
-    if crowded(n, i, e, b, p, q) {
+    if crowded(n, c, i, e, b, p, q) {
         return 1;
     }
     if v > LIMIT {
         return 1;
     }
-    if uneven(n, y, i, e, b, yw, pw, qw, w) {
+    if uneven(n, y, c, i, e, b, yw, pw, qw, w) {
         return 2;
     }
-    if c != b {
+    if d != b {
         return 2;
     }
     if k != b {

@@ -19,9 +19,9 @@ use Rattle.gauss_jordan.specs.Solving.{operations, singular}
 use Rattle.ward_studies.specs.declared.WardAnswer.{WardAnswer}
 use Rattle.ward_studies.specs.declared.WardAnswer.the-variants.{Done, Refused}
 use Rattle.ward_products.specs.WardArithmetic.{injectedP, injectedQ}
-use Rattle.ward_studies.specs.Ward.{Study, Room, externals, retained, admittance, equivalent, rowTimes, response, injectionP, injectionQ, system, reduction, summary, answered, thenPivots, filled, workAfter, roomAfter, AfterWard}
+use Rattle.ward_studies.specs.Ward.{Study, Room, externals, retained, admittance, equivalent, rowTimes, response, injectionP, injectionQ, system, reduction, summary, answered, thenPivots, filled, workAfter, roomAfter, AfterWard, studied}
 use Rattle.ward_products.specs.WardWork.{augmented, product, lessProduct}
-use Rattle.ward_studies.specs.WardCalls.{after, cut, studied, filledBy}
+use Rattle.ward_studies.specs.WardCalls.{after, cut, filledBy}
 use Rattle.ward_studies.proofs.WardSolved.{product-response, product-driven}
 
 -- ---- after 13, and with none

@@ -1,8 +1,9 @@
--- Ward's study: what `compute` answers and leaves, for every input. Bus numbers are rows of the given matrix, counted from 0.
-use Prim.Native.Nat.{ℕ, zero, suc, _+_, _*_}
-use mathlib.Core.Bool.{Bool, false, not, _||_, cond}
-use mathlib.Core.List.{List, [], _∷_, _++_, map}
-use lib.Dec.{T, eqb, ltb}
+-- Ward's study: its formulas, and what it answers and leaves. Buses are rows of the given matrix here, counted from 0; ward_core/WardNumbers says how
+-- numbers come in, and what is told from the input.
+use Prim.Native.Nat.{ℕ, zero, suc}
+use mathlib.Core.Bool.{_||_, cond}
+use mathlib.Core.List.{List, _++_, map}
+use lib.Dec.{eqb}
 use lib.ListN.{length, getD}
 use lib.IntN.{pos}
 use lib.Ieee.{Float, nan, binary64, ofInt}
@@ -11,14 +12,13 @@ use Rattle.complex.specs.Constants.{plus0, one}
 use Rattle.complex.specs.Arithmetic.{_⊖_, _⊘_, csub, cmul}
 use Rattle.complex.specs.Matrices.{Matrix, entryAt, rows, zeros}
 use Rattle.ward_products.specs.WardArithmetic.{sumUp, current, injectedP, injectedQ}
-use Rattle.refusals.specs.Refusals.{limit, tooMany, wrongLength, unlikeLists, noSuchBus, busTwice, smallPivot, refuse}
+use Rattle.refusals.specs.Refusals.{smallPivot, refuse}
 use Rattle.gauss_jordan.specs.Solving.{solve, singular}
 use Rattle.ward_studies.specs.declared.WardSummary.{WardSummary}
 use Rattle.ward_studies.specs.declared.WardAnswer.{WardAnswer}
 use Rattle.ward_studies.specs.declared.WardAnswer.the-variants.{Done, Refused}
-use Rattle.buses.specs.Buses.{mem, allBelow}
 
--- what is given: base in MVA, injections at the external buses in MW and MVAr
+-- what is given: base in MVA, injections at the external buses in MW and MVAr; the lists name rows here, and numbers in a `Numbered` study of ward_core
 pub record Study : Type 0 where
   pub size : ℕ
   pub given : List Float
@@ -99,61 +99,12 @@ unfoldable pub injectionQ : Study → ℕ → Float
 unfolding plus0 injectedQ transferred
 injectionQ S i = cond (eqb (externals S) 0) plus0 (injectedQ (S .base) (transferred S i))
 
--- ---- refusals
-
--- a bus that stands twice in the list
-unfoldable pub repeats : List ℕ → Bool
-repeats [] = false
-repeats (x ∷ xs) = mem x xs || repeats xs
-
--- 1: more buses than the limit, or a list longer than it
-unfoldable pub tooLong : Study → Bool
-tooLong S =
-    ltb limit (S .size)
-    || ltb limit (length (S .internal)) || ltb limit (length (S .external)) || ltb limit (length (S .boundary))
-    || ltb limit (length (S .p-ext)) || ltb limit (length (S .q-ext))
-
--- 2: a slice not of its exact length
-unfoldable pub misfit : Study → Room → Bool
-unfolding retained
-misfit S o =
-    let r = length (retained S) in
-    let e = externals S in
-    not (eqb (length (S .given)) (2 * (S .size * S .size)))
-    || not (eqb (length (o .y-ward)) (2 * (r * r)))
-    || not (eqb (length (o .p-ward)) (length (S .boundary))) || not (eqb (length (o .q-ward)) (length (S .boundary)))
-    || not (eqb (length (o .work)) (2 * (e * (e + r + 1))))
-
--- 3: injections that don't match the external list
-unfoldable pub unmatched : Study → Bool
-unmatched S = not (eqb (length (S .p-ext)) (externals S)) || not (eqb (length (S .q-ext)) (externals S))
-
--- 7: a bus that the matrix lacks. 8: a bus listed twice, in one list or in two
-unfoldable pub busRefusal : Study → ℕ
-unfolding listed repeats
-busRefusal S = refuse (not (allBelow (S .size) (listed S))) noSuchBus (refuse (repeats (listed S)) busTwice 0)
-
--- told from the input: 1, 2, 3, 7, 8 or 0
-unfoldable pub inputRefusal : Study → Room → ℕ
-unfolding tooLong misfit unmatched busRefusal
-inputRefusal S o =
-    refuse (tooLong S) tooMany
-    (refuse (misfit S o) wrongLength
-    (refuse (unmatched S) unlikeLists (busRefusal S)))
+-- ---- the answer
 
 -- 13 after the input refusal f
 unfoldable pub thenPivots : Study → ℕ → ℕ
 unfolding system
 thenPivots S f = cond (eqb f 0) (refuse (singular (externals S) (system S)) smallPivot 0) f
-
-unfoldable pub refusal : Study → Room → ℕ
-unfolding inputRefusal thenPivots
-refusal S o = thenPivots S (inputRefusal S o)
-
-abbrev pub Accepted : Study → Room → Type 0
-Accepted S o = T (eqb (refusal S o) 0)
-
--- ---- the answer
 
 -- 1 - r / n, in binary64
 unfoldable pub reduction : ℕ → ℕ → Float
@@ -205,6 +156,7 @@ pub record AfterWard : Type 0 where
   pub answer : WardAnswer
   pub room : Room
 
-unfoldable pub afterWard : Study → Room → AfterWard
-unfolding refusal answered summary roomAfter
-afterWard S o = let f = refusal S o in record { answer = answered f (summary S); room = roomAfter S f o }
+-- after the input refusal f
+unfoldable pub studied : Study → Room → ℕ → AfterWard
+unfolding thenPivots answered summary roomAfter
+studied S o f = let k = thenPivots S f in record { answer = answered k (summary S); room = roomAfter S k o }

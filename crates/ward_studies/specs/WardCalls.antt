@@ -1,19 +1,18 @@
--- The calls `compute` and `compute_extended`: their arguments and what they leave, gathered into the records of a study; and the steps between.
+-- A study's slices and what it leaves, gathered into its records; and the steps between.
 use Prim.Native.Nat.{ℕ, _+_, _*_, _-_, _≤_}
 use mathlib.Core.Path.{_≡_}
-use mathlib.Core.Bool.{Bool, not, _||_, cond}
+use mathlib.Core.Bool.{cond}
 use mathlib.Core.List.{List, [], map}
-use lib.Dec.{eqb, ltb}
 use lib.ListN.{length, getD, take, drop}
 use lib.Ieee.{Float, lt}
-use Rattle.refusals.specs.Refusals.{limit, tooMany, wrongLength, unlikeLists, refuse}
+use Rattle.refusals.specs.Refusals.{limit}
 use Rattle.complex.specs.Constants.{plus0, weak}
 use Rattle.complex.specs.Arithmetic.{_⊘_}
 use Rattle.complex.specs.Matrices.{grid, zeros}
 use Rattle.ward_studies.specs.declared.WardAnswer.{WardAnswer}
 use Rattle.ward_studies.specs.declared.WardAnswer.the-variants.{Done}
 use Rattle.ward_products.specs.WardArithmetic.{injectedP, injectedQ}
-use Rattle.ward_studies.specs.Ward.{Study, Room, externals, thenPivots, summary, answered, roomAfter, AfterWard, reduction}
+use Rattle.ward_studies.specs.Ward.{Study, Room, AfterWard, reduction}
 use Rattle.ward_studies.specs.WardExtended.{Extended, ExtendedRoom, AfterExtended}
 use Rattle.ward_products.specs.WardWork.{Listing, productTo, product, lessProduct}
 
@@ -26,46 +25,6 @@ roomOf yw pw qw ws = record { y-ward = yw; p-ward = pw; q-ward = qw; work = ws }
 -- an answer, and the slices at exit
 abbrev pub after : WardAnswer → List Float → List Float → List Float → List Float → AfterWard
 after r yw pw qw ws = record { answer = r; room = roomOf yw pw qw ws }
-
--- ---- what the lengths tell: 1, 2, 3 or 0
-
--- of n buses, the three lists, and P and Q
-unfoldable pub crowded : ℕ → ℕ → ℕ → ℕ → ℕ → ℕ → Bool
-crowded n i e b p q = ltb limit n || ltb limit i || ltb limit e || ltb limit b || ltb limit p || ltb limit q
-
-unfoldable pub uneven : ℕ → ℕ → ℕ → ℕ → ℕ → ℕ → ℕ → ℕ → ℕ → Bool
-uneven n y i e b yw pw qw w =
-    not (eqb y (2 * (n * n)))
-    || not (eqb yw (2 * ((i + b) * (i + b))))
-    || not (eqb pw b) || not (eqb qw b)
-    || not (eqb w (2 * (e * (e + (i + b) + 1))))
-
-unfoldable pub told : ℕ → ℕ → ℕ → ℕ → ℕ → ℕ → ℕ → ℕ → ℕ → ℕ → ℕ → ℕ
-unfolding crowded uneven
-told n y i e b p q yw pw qw w =
-    refuse (crowded n i e b p q) tooMany
-    (refuse (uneven n y i e b yw pw qw w) wrongLength
-    (refuse (not (eqb p e) || not (eqb q e)) unlikeLists 0))
-
--- ---- a study whose lengths are right
-
--- after the input refusal f
-unfoldable pub studied : Study → Room → ℕ → AfterWard
-unfolding thenPivots answered summary roomAfter
-studied S o f = let k = thenPivots S f in record { answer = answered k (summary S); room = roomAfter S k o }
-
-pub record Fitting (S : Study) (o : Room) : Type 0 where
-  pub few : S .size ≤ limit
-  pub few-internal : length (S .internal) ≤ limit
-  pub few-external : externals S ≤ limit
-  pub few-boundary : length (S .boundary) ≤ limit
-  pub given : length (S .given) ≡ 2 * (S .size * S .size)
-  pub y-ward : length (o .y-ward) ≡ 2 * ((length (S .internal) + length (S .boundary)) * (length (S .internal) + length (S .boundary)))
-  pub p-ward : length (o .p-ward) ≡ length (S .boundary)
-  pub q-ward : length (o .q-ward) ≡ length (S .boundary)
-  pub work : length (o .work) ≡ 2 * (externals S * (externals S + (length (S .internal) + length (S .boundary)) + 1))
-  pub p-ext : length (S .p-ext) ≡ externals S
-  pub q-ext : length (S .q-ext) ≡ externals S
 
 -- ---- a study whose lists are right, the external buses first, then the internal, then the boundary ones
 
@@ -117,20 +76,6 @@ filledBy n ys bs e f base ws =
       };
     }
 
--- ---- before the lists are looked through
-
-pub record Joined (n : ℕ) (ys : List Float) (bs : List ℕ) (e f : ℕ) (ps qs : List Float) (o : Room) : Type 0 where
-  pub few : n ≤ limit
-  pub given : length ys ≡ 2 * (n * n)
-  pub first : e ≤ f
-  pub last : f ≤ length bs
-  pub p-ext : length ps ≡ e
-  pub q-ext : length qs ≡ e
-  pub y-ward : length (o .y-ward) ≡ 2 * ((length bs - e) * (length bs - e))
-  pub p-ward : length (o .p-ward) ≡ length bs - f
-  pub q-ward : length (o .q-ward) ≡ length bs - f
-  pub work : length (o .work) ≡ 2 * (e * (length bs + 1))
-
 -- ---- extended
 
 abbrev pub extendedOf : Study → List Float → Extended
@@ -145,14 +90,6 @@ afterX r o cs ks = record { answer = r; room = extendedRoomOf o cs ks }
 -- what the formulas of the correction read: a matrix, the external buses, their voltages and the base
 abbrev pub seen : ℕ → List Float → List ℕ → List Float → Float → Extended
 seen n ys es vs base = extendedOf (studyOf n ys [] es [] base [] []) vs
-
--- what the lengths tell: 1, 2, 3 or 0
-unfoldable pub toldX : ℕ → ℕ → ℕ → ℕ → ℕ → ℕ → ℕ → ℕ → ℕ → ℕ → ℕ → ℕ → ℕ → ℕ → ℕ
-unfolding crowded uneven
-toldX n y i e b p q yw pw qw w v c k =
-    refuse (crowded n i e b p q || ltb limit v) tooMany
-    (refuse (uneven n y i e b yw pw qw w || not (eqb c b) || not (eqb k b)) wrongLength
-    (refuse (not (eqb p e) || not (eqb q e) || not (eqb v e)) unlikeLists 0))
 
 -- the quotient of the weighted sum and the weight sum, where that is above 1e-12
 unfoldable pub meanOf : Float → Float → Float

@@ -1,17 +1,16 @@
--- The extended Ward study: what `compute_extended` answers and leaves beside Ward's own, for every input.
+-- The extended Ward study: its formulas, and what it answers and leaves beside Ward's own. Buses are rows here.
 use Prim.Native.Nat.{ℕ, zero, suc}
-use mathlib.Core.Bool.{not, _||_, cond}
+use mathlib.Core.Bool.{cond}
 use mathlib.Core.List.{List, map}
-use lib.Dec.{T, eqb, ltb}
-use lib.ListN.{length, getD}
+use lib.Dec.{eqb}
+use lib.ListN.{getD}
 use lib.Ieee.{Float, nan, neg, lt}
 use Rattle.complex.specs.declared.Complex.{Complex}
 use Rattle.complex.specs.Constants.{plus0, one, weak}
 use Rattle.complex.specs.Arithmetic.{_⊕_, _⊖_, _⊗_, _⊘_}
 use Rattle.complex.specs.Magnitude.{magnitude}
-use Rattle.refusals.specs.Refusals.{limit, tooMany, wrongLength, unlikeLists, refuse}
 use Rattle.ward_studies.specs.declared.WardAnswer.{WardAnswer}
-use Rattle.ward_studies.specs.Ward.{Study, Room, externals, externalAt, admittance, tooLong, misfit, unmatched, busRefusal, thenPivots, summary, answered, roomAfter}
+use Rattle.ward_studies.specs.Ward.{Study, Room, externals, externalAt, admittance, thenPivots, summary, answered, roomAfter}
 
 -- the voltages at the external buses, per unit
 pub record Extended : Type 0 where
@@ -64,27 +63,9 @@ unfoldable pub qCompensation : Extended → ℕ → Float
 unfolding addUp reactive deviation
 qCompensation S i = addUp (externals (S .study)) (λ (k : ℕ). reactive (S .study .base) (tie S i k) (deviation S k))
 
--- ---- refusals
-
--- told from the input: 1, 2, 3, 7, 8 or 0
-unfoldable pub inputRefusalX : Extended → ExtendedRoom → ℕ
-unfolding tooLong misfit unmatched busRefusal
-inputRefusalX S o =
-    refuse (tooLong (S .study) || ltb limit (length (S .v-ext))) tooMany
-    (refuse (misfit (S .study) (o .room)
-    || not (eqb (length (o .correction)) (length (S .study .boundary)))
-    || not (eqb (length (o .compensation)) (length (S .study .boundary)))) wrongLength
-    (refuse (unmatched (S .study) || not (eqb (length (S .v-ext)) (externals (S .study)))) unlikeLists (busRefusal (S .study))))
-
-unfoldable pub refusalX : Extended → ExtendedRoom → ℕ
-unfolding inputRefusalX thenPivots
-refusalX S o = thenPivots (S .study) (inputRefusalX S o)
-
-abbrev pub AcceptedX : Extended → ExtendedRoom → Type 0
-AcceptedX S o = T (eqb (refusalX S o) 0)
-
 -- ---- the answer
 
+-- the slices after refusal f: outputs are written only where there is none
 unfoldable pub roomAfterX : Extended → ℕ → ExtendedRoom → ExtendedRoom
 unfolding roomAfter voltageCorrection qCompensation
 roomAfterX S f o =
@@ -98,6 +79,7 @@ pub record AfterExtended : Type 0 where
   pub answer : WardAnswer
   pub room : ExtendedRoom
 
-unfoldable pub afterExtended : Extended → ExtendedRoom → AfterExtended
-unfolding refusalX answered summary roomAfterX
-afterExtended S o = let f = refusalX S o in record { answer = answered f (summary (S .study)); room = roomAfterX S f o }
+-- after the input refusal f
+unfoldable pub studiedX : Extended → ExtendedRoom → ℕ → AfterExtended
+unfolding thenPivots answered summary roomAfterX
+studiedX X o f = let k = thenPivots (X .study) f in record { answer = answered k (summary (X .study)); room = roomAfterX X k o }

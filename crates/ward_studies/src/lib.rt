@@ -1,8 +1,7 @@
-// A Ward study on slices of the right lengths: its lists looked through, and one elimination for all columns.
+// A Ward study on slices of the right lengths and lists of rows: one elimination for all columns.
 ghost use mathlib.Core.Path.{_≡_};
 ghost use Rattle.ward_studies.specs.Ward as ward;
 
-pub mod ward_lists;
 pub mod ward_study;
 
 // Of a study: the size of the given matrix, how many buses the equivalent keeps, and 1 less their quotient, or 0 where no bus is external.

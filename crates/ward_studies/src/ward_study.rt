@@ -1,11 +1,8 @@
-// A Ward study whose slices have their exact lengths. The functions here have a `requires`, which their callers prove.
+// A Ward study whose slices have their exact lengths and whose buses are rows. The functions here have a `requires`, which their callers prove.
 use crate::WardAnswer;
 use crate::WardSummary;
-use crate::ward_lists;
-use buses::lists::all_below;
 use complex::slices::clear;
 use elimination::gauss_jordan;
-use refusals::LIMIT;
 use ward_products::ward_rows;
 ghost use mathlib.Core.Path.{_≡_};
 ghost use Prim.Native.Nat.{_+_, _*_, _<_, _≤_};
@@ -14,7 +11,7 @@ ghost use Rattle.ward_studies.specs.Ward as ward;
 ghost use Rattle.ward_studies.specs.WardCalls as spec;
 
 // No external bus: the given matrix in the rows and columns of the listed buses, no injections, ratio 0.
-pub fn unreduced(
+fn unreduced(
     n: usize,
     y: &[f64],
     buses: &[usize],
@@ -28,7 +25,7 @@ pub fn unreduced(
     work: &mut [f64],
 ) -> WardAnswer
     requires { ⌜ spec.Listed n (now y) (now buses) 0 f (now p) (now q) (spec.roomOf (now to) (now active) (now reactive) (now work)) ⌝ }
-    ensures { λ r. ⌜ spec.after r (now (to .exit)) (now (active .exit)) (now (reactive .exit)) (now (work .exit)) ≡ spec.studied (spec.cut n (now (y .entry)) (now (buses .entry)) 0 f base (now (p .entry)) (now (q .entry))) (spec.roomOf (now (to .entry)) (now (active .entry)) (now (reactive .entry)) (now (work .entry))) 0 ⌝ }
+    ensures { λ r. ⌜ spec.after r (now (to .exit)) (now (active .exit)) (now (reactive .exit)) (now (work .exit)) ≡ ward.studied (spec.cut n (now (y .entry)) (now (buses .entry)) 0 f base (now (p .entry)) (now (q .entry))) (spec.roomOf (now (to .entry)) (now (active .entry)) (now (reactive .entry)) (now (work .entry))) 0 ⌝ }
 {
     ward_rows::submatrix(y, n, buses, to);
     clear(active);
@@ -89,7 +86,7 @@ fn filled(
 
 // The external buses, the first e of the list, are eliminated for all retained columns and the currents at once.
 // Outputs are written only once 13 is excluded.
-pub fn eliminated(
+fn eliminated(
     n: usize,
     y: &[f64],
     buses: &[usize],
@@ -104,7 +101,7 @@ pub fn eliminated(
     work: &mut [f64],
 ) -> WardAnswer
     requires { ⌜ (0 < e) × (spec.Listed n (now y) (now buses) e f (now p) (now q) (spec.roomOf (now to) (now active) (now reactive) (now work))) ⌝ }
-    ensures { λ r. ⌜ spec.after r (now (to .exit)) (now (active .exit)) (now (reactive .exit)) (now (work .exit)) ≡ spec.studied (spec.cut n (now (y .entry)) (now (buses .entry)) e f base (now (p .entry)) (now (q .entry))) (spec.roomOf (now (to .entry)) (now (active .entry)) (now (reactive .entry)) (now (work .entry))) 0 ⌝ }
+    ensures { λ r. ⌜ spec.after r (now (to .exit)) (now (active .exit)) (now (reactive .exit)) (now (work .exit)) ≡ ward.studied (spec.cut n (now (y .entry)) (now (buses .entry)) e f base (now (p .entry)) (now (q .entry))) (spec.roomOf (now (to .entry)) (now (active .entry)) (now (reactive .entry)) (now (work .entry))) 0 ⌝ }
 {
     let w = buses.len() + 1;
     ward_rows::fill(y, n, buses, e, base, p, q, work);
@@ -115,8 +112,8 @@ pub fn eliminated(
     filled(n, y, buses, e, f, base, to, active, reactive, work)
 }
 
-// A study on one list of buses: the first e are external, those from f on boundary. A bus that the matrix lacks is 7, one that stands twice is 8.
-fn listed(
+// A study on one list of rows, none twice: the first e are external, those from f on boundary.
+pub fn study(
     n: usize,
     y: &[f64],
     buses: &[usize],
@@ -130,56 +127,11 @@ fn listed(
     reactive: &mut [f64],
     work: &mut [f64],
 ) -> WardAnswer
-    requires { ⌜ spec.Joined n (now y) (now buses) e f (now p) (now q) (spec.roomOf (now to) (now active) (now reactive) (now work)) ⌝ }
-    ensures { λ r. ⌜ spec.after r (now (to .exit)) (now (active .exit)) (now (reactive .exit)) (now (work .exit)) ≡ spec.studied (spec.cut n (now (y .entry)) (now (buses .entry)) e f base (now (p .entry)) (now (q .entry))) (spec.roomOf (now (to .entry)) (now (active .entry)) (now (reactive .entry)) (now (work .entry))) (ward.busRefusal (spec.cut n (now (y .entry)) (now (buses .entry)) e f base (now (p .entry)) (now (q .entry)))) ⌝ }
+    requires { ⌜ spec.Listed n (now y) (now buses) e f (now p) (now q) (spec.roomOf (now to) (now active) (now reactive) (now work)) ⌝ }
+    ensures { λ r. ⌜ spec.after r (now (to .exit)) (now (active .exit)) (now (reactive .exit)) (now (work .exit)) ≡ ward.studied (spec.cut n (now (y .entry)) (now (buses .entry)) e f base (now (p .entry)) (now (q .entry))) (spec.roomOf (now (to .entry)) (now (active .entry)) (now (reactive .entry)) (now (work .entry))) 0 ⌝ }
 {
-    if !all_below(n, buses) {
-        return WardAnswer::Refused(7);
-    }
-    if ward_lists::repeats(buses) {
-        return WardAnswer::Refused(8);
-    }
     if e == 0 {
         return unreduced(n, y, buses, f, base, p, q, to, active, reactive, work);
     }
     eliminated(n, y, buses, e, f, base, p, q, to, active, reactive, work)
-}
-
-// A study whose lengths are right.
-pub fn study(
-    n: usize,
-    y: &[f64],
-    internal: &[usize],
-    external: &[usize],
-    boundary: &[usize],
-    base: f64,
-    p: &[f64],
-    q: &[f64],
-    to: &mut [f64],
-    active: &mut [f64],
-    reactive: &mut [f64],
-    work: &mut [f64],
-) -> WardAnswer
-    requires { ⌜ spec.Fitting (spec.studyOf n (now y) (now internal) (now external) (now boundary) base (now p) (now q)) (spec.roomOf (now to) (now active) (now reactive) (now work)) ⌝ }
-    ensures { λ r. ⌜ spec.after r (now (to .exit)) (now (active .exit)) (now (reactive .exit)) (now (work .exit)) ≡ spec.studied (spec.studyOf n (now (y .entry)) (now (internal .entry)) (now (external .entry)) (now (boundary .entry)) base (now (p .entry)) (now (q .entry))) (spec.roomOf (now (to .entry)) (now (active .entry)) (now (reactive .entry)) (now (work .entry))) (ward.busRefusal (spec.studyOf n (now (y .entry)) (now (internal .entry)) (now (external .entry)) (now (boundary .entry)) base (now (p .entry)) (now (q .entry)))) ⌝ }
-{
-    let mut all = [0; 3 * LIMIT];
-    ward_lists::join(external, internal, boundary, &mut all);
-    let e = external.len();
-    let f = e + internal.len();
-    let k = f + boundary.len();
-    listed(
-        n,
-        y,
-        &all[0..k],
-        e,
-        f,
-        base,
-        p,
-        q,
-        to,
-        active,
-        reactive,
-        work,
-    )
 }

@@ -8,10 +8,10 @@ use crate::source::Source;
 const REC: usize = 0;
 const Y: usize = 1;
 
-pub fn of(rec: Vec<u8>, y: Vec<u8>, bus: usize) -> Call {
+pub fn of(rec: Vec<u8>, y: Vec<u8>, bus: u32) -> Call {
     Call {
         function: Function::EliminateBus,
-        wholes: vec![bus as u64],
+        wholes: vec![bus.into()],
         reals: Vec::new(),
         slices: vec![rec, y],
     }
@@ -23,16 +23,16 @@ pub fn expected(call: &Call) -> Expected {
     }));
     let asked = match reducer::reducer(call) {
         None => Asked::NotAsked,
-        Some(mut r) => ask(|| r.eliminate_bus(call.wholes[0] as usize).map(|_| r)),
+        Some((before, mut r)) => ask(|| r.eliminate_bus(before.row(call.wholes[0] as u32)).map(|_| (before, r))),
     };
-    expected::expected(call, &refusals, asked, None, |e, r| {
-        let made = reducer::record(call, REC).map_or(0, |r| r.made);
-        let (rec, y) = reducer::left(made, call.count(Y), &r);
-        e.words(REC, rec).words(Y, y)
+    expected::expected(call, &refusals, asked, None, |e, (before, r)| {
+        let (rec, y) = reducer::left(&before, call.count(Y), &r);
+        e.bytes(REC, rec).words(Y, y)
     })
 }
 
 pub fn random(s: &mut Source, made: usize) -> Call {
-    let (rec, y, active) = reducer::random(s, made);
-    of(rec, y, reducer::bus(s, made, &active))
+    let drawn = reducer::random(s, made);
+    let bus = drawn.bus(s, &drawn.left);
+    of(drawn.rec, drawn.y, bus)
 }

@@ -24,10 +24,10 @@ pub mod ward_compute_extended;
 pub mod ward_model;
 
 // The library's limit on buses, branches and lists.
-pub const LIMIT: usize = 64;
+pub const LIMIT: usize = 256;
 
 // Beyond this size the Rust, which has no limit, is not asked.
-pub const ASKED: usize = 130;
+pub const ASKED: usize = 258;
 
 pub fn expected(call: &Call) -> Expected {
     match call.function {

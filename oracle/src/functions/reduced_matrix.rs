@@ -25,7 +25,7 @@ pub fn expected(call: &Call) -> Expected {
     }));
     let asked = match reducer::reducer(call) {
         None => Asked::NotAsked,
-        Some(r) => ask(|| Ok(r.reduced_matrix())),
+        Some((_, r)) => ask(|| Ok(r.reduced_matrix())),
     };
     expected::expected(call, &refusals, asked, None, |e, rows| {
         e.words(OUT, padded(words_of_rows(&rows), call.count(OUT)))
@@ -33,6 +33,6 @@ pub fn expected(call: &Call) -> Expected {
 }
 
 pub fn random(s: &mut Source, made: usize) -> Call {
-    let (rec, y, _) = reducer::random(s, made);
-    of(rec, y)
+    let drawn = reducer::random(s, made);
+    of(drawn.rec, drawn.y)
 }

@@ -1,45 +1,58 @@
-// The reducer's record as 66 numbers: size at making, present size, and 64 places of active buses.
+// The reducer's record: size at making and present size, 8 bytes each, LIMIT places of active rows, a byte each, and LIMIT
+// places of numbers, 4 bytes each.
 use super::LIMIT;
+use crate::buses::{self, numbers, repeats};
 use crate::call::Call;
 use crate::matrices::matrix;
 use crate::source::Source;
-use crate::words::{bytes_of, bytes_of_reals, padded, rows_of, wholes_of, words_of_rows, words_of_wholes};
+use crate::words::{buses_of, bytes_of, bytes_of_buses, bytes_of_reals, padded, rows_of, wholes_of, words_of_rows};
 use reference::reduction::{reach, KronReducer};
 
-pub const RECORD: usize = 2 + LIMIT;
+// where the rows and the numbers stand, and the bytes in all
+pub const ROWS_AT: usize = 16;
+pub const NUMBERS_AT: usize = ROWS_AT + LIMIT;
+pub const RECORD: usize = NUMBERS_AT + 4 * LIMIT;
 
 pub struct Record {
     pub made: usize,
     pub n_buses: usize,
+    // of rows, and of numbers
     pub places: Vec<usize>,
+    pub named: Vec<u32>,
 }
 
-pub fn record_words(made: usize, active: &[usize]) -> Vec<u64> {
-    let mut words = vec![made as u64, active.len() as u64];
-    words.extend(words_of_wholes(active));
-    padded(words, RECORD)
-}
-
-pub fn bytes(made: usize, active: &[usize]) -> Vec<u8> {
-    bytes_of(&record_words(made, active))
+// the record of a making with these numbers, of which these rows are left; above the limit it is cut
+pub fn bytes(numbers: &[u32], active: &[usize]) -> Vec<u8> {
+    let sizes = [numbers.len() as u64, active.len() as u64];
+    let mut rows: Vec<u8> = active.iter().map(|&row| row as u8).collect();
+    rows.resize(LIMIT, 0);
+    let mut places = numbers.to_vec();
+    places.resize(LIMIT, 0);
+    [bytes_of(&sizes), rows, bytes_of_buses(&places)].concat()
 }
 
 // slice i as a record, where it has a record's length
 pub fn record(call: &Call, i: usize) -> Option<Record> {
-    let words = wholes_of(&call.slices[i]);
     if !call.holds(i, RECORD as u128) {
         return None;
     }
+    let rec = &call.slices[i];
+    let sizes = wholes_of(&rec[..ROWS_AT]);
     Some(Record {
-        made: words[0],
-        n_buses: words[1],
-        places: words[2..].to_vec(),
+        made: sizes[0],
+        n_buses: sizes[1],
+        places: rec[ROWS_AT..NUMBERS_AT].iter().map(|&row| row as usize).collect(),
+        named: buses_of(&rec[NUMBERS_AT..]),
     })
 }
 
 impl Record {
-    // active buses rising, below the size at making, as many as the present size, and 0 behind them
     pub fn sound(&self) -> bool {
+        self.sound_rows() && self.sound_numbers()
+    }
+
+    // active rows rising, below the size at making, as many as the present size, and 0 behind them
+    fn sound_rows(&self) -> bool {
         if self.n_buses > LIMIT {
             return false;
         }
@@ -49,8 +62,23 @@ impl Record {
             && behind.iter().all(|&b| b == 0)
     }
 
+    // no number twice, and 0 behind them
+    fn sound_numbers(&self) -> bool {
+        let (own, behind) = self.named.split_at(self.made.min(LIMIT));
+        !repeats(own) && behind.iter().all(|&number| number == 0)
+    }
+
     pub fn active(&self) -> &[usize] {
         &self.places[..self.n_buses]
+    }
+
+    pub fn numbers(&self) -> &[u32] {
+        &self.named[..self.made.min(LIMIT)]
+    }
+
+    // the row that the Rust is asked for: one that it never has for a number that no row has
+    pub fn row(&self, bus: u32) -> usize {
+        buses::row(self.numbers(), bus).unwrap_or(usize::MAX)
     }
 }
 
@@ -71,25 +99,23 @@ pub fn refusals(call: &Call, long_list: bool, fits: impl Fn(u128) -> bool) -> Ve
     }
 }
 
-// The Rust's reducer with the record's buses and the rows of slice 1; none where the record has no counterpart there.
-pub fn reducer(call: &Call) -> Option<KronReducer> {
-    let r = record(call, 0)?;
-    if !r.sound() {
-        return None;
-    }
-    let k = r.n_buses;
-    Some(reach::reducer(r.active().to_vec(), rows_of(&call.slices[1], k, k)))
+// The record, and the Rust's reducer with its rows and the matrix of slice 1; none where it has no counterpart there.
+pub fn reducer(call: &Call) -> Option<(Record, KronReducer)> {
+    let record = record(call, 0).filter(Record::sound)?;
+    let k = record.n_buses;
+    let r = reach::reducer(record.active().to_vec(), rows_of(&call.slices[1], k, k));
+    Some((record, r))
 }
 
 // what record and matrix slice hold after removals
-pub fn left(made: usize, length: usize, r: &KronReducer) -> (Vec<u64>, Vec<u64>) {
+pub fn left(before: &Record, length: usize, r: &KronReducer) -> (Vec<u8>, Vec<u64>) {
     (
-        record_words(made, reach::active(r)),
+        bytes(before.numbers(), reach::active(r)),
         padded(words_of_rows(&r.y_full), length),
     )
 }
 
-// all of so many buses, or some
+// all of so many rows, or some
 pub fn some(s: &mut Source, made: usize) -> Vec<usize> {
     let gone = if s.one_in(2) { 0 } else { s.below(made + 1) };
     let mut active: Vec<usize> = s.shuffled(made).into_iter().skip(gone).collect();
@@ -97,21 +123,38 @@ pub fn some(s: &mut Source, made: usize) -> Vec<usize> {
     active
 }
 
-// A record and matrix of `made` buses of which some may be gone, with anything behind the present rows.
-pub fn random(s: &mut Source, made: usize) -> (Vec<u8>, Vec<u8>, Vec<usize>) {
+// A reducer some of whose buses may be gone, with anything behind the present rows of its matrix.
+pub struct Drawn {
+    pub rec: Vec<u8>,
+    pub y: Vec<u8>,
+    pub numbers: Vec<u32>,
+    // the numbers of the buses that are left
+    pub left: Vec<u32>,
+}
+
+pub fn random(s: &mut Source, made: usize) -> Drawn {
+    let numbers = numbers(s, made);
     let active = some(s, made);
     let mut y = matrix(s, active.len());
     let behind = if s.one_in(2) { 0.0 } else { s.unit() };
     y.resize(2 * made * made, behind);
-    (bytes(made, &active), bytes_of_reals(&y), active)
+    Drawn {
+        rec: bytes(&numbers, &active),
+        y: bytes_of_reals(&y),
+        left: active.iter().map(|&row| numbers[row]).collect(),
+        numbers,
+    }
 }
 
-// mostly an active bus, now and then any number
-pub fn bus(s: &mut Source, made: usize, active: &[usize]) -> usize {
-    match s.below(12) {
-        0 => s.below(made + 2),
-        1 if s.one_in(8) => s.pick(&[usize::MAX, 64, 65, 1 << 32]),
-        _ if active.is_empty() => 0,
-        _ => s.pick(active),
+impl Drawn {
+    // mostly one of these buses, now and then a removed one, a row, or any number
+    pub fn bus(&self, s: &mut Source, of: &[u32]) -> u32 {
+        match s.below(12) {
+            0 if s.one_in(2) && !self.numbers.is_empty() => s.pick(&self.numbers),
+            0 => s.below(self.numbers.len() + 2) as u32,
+            1 if s.one_in(8) => s.pick(&[u32::MAX, 0, LIMIT as u32, 1 << 31, 0x0100_0000]),
+            _ if of.is_empty() => 0,
+            _ => s.pick(of),
+        }
     }
 }

@@ -1,5 +1,5 @@
 // thevenin_impedance(rec, y, bus_i, bus_j, work, z_re, z_im)
-use super::reducer;
+use super::reducer::{self, Record};
 use crate::ask::{ask, Asked};
 use crate::call::{dirty, Call, Function};
 use crate::elimination::identity;
@@ -14,11 +14,11 @@ const WORK: usize = 2;
 // real, then imaginary
 const Z: usize = 3;
 
-pub fn of(rec: Vec<u8>, y: Vec<u8>, bus_i: usize, bus_j: usize) -> Call {
+pub fn of(rec: Vec<u8>, y: Vec<u8>, bus_i: u32, bus_j: u32) -> Call {
     let work = dirty(2 * (y.len() / 8));
     Call {
         function: Function::TheveninImpedance,
-        wholes: vec![bus_i as u64, bus_j as u64],
+        wholes: vec![bus_i.into(), bus_j.into()],
         reals: Vec::new(),
         slices: vec![rec, y, work, dirty(1), dirty(1)],
     }
@@ -30,7 +30,10 @@ pub fn expected(call: &Call) -> Expected {
     }));
     let asked = match reducer::reducer(call) {
         None => Asked::NotAsked,
-        Some(r) => ask(|| r.thevenin_impedance(call.wholes[0] as usize, call.wholes[1] as usize)),
+        Some((before, r)) => {
+            let [i, j] = rows(call, &before);
+            ask(|| r.thevenin_impedance(i, j))
+        }
     };
     expected::by_pivots(
         call,
@@ -42,17 +45,23 @@ pub fn expected(call: &Call) -> Expected {
     )
 }
 
+// the rows of the two buses
+fn rows(call: &Call, before: &Record) -> [usize; 2] {
+    [0, 1].map(|i| before.row(call.wholes[i] as u32))
+}
+
 fn model(call: &Call) -> Option<Model<Pair>> {
-    let r = reducer::reducer(call)?;
-    let at = |bus: u64| reach::active(&r).iter().position(|&b| b as u64 == bus);
-    let (i, j) = (at(call.wholes[0])?, at(call.wholes[1])?);
+    let (before, r) = reducer::reducer(call)?;
+    let at = |row: usize| reach::active(&r).iter().position(|&active| active == row);
+    let [i, j] = rows(call, &before).map(at);
+    let (i, j) = (i?, j?);
     let y = r.reduced_matrix();
     let across = |z: Rows| csub(cadd(z[i][i], z[j][j]), cmul((2.0, 0.0), z[i][j]));
     Some(Model::of(&y, &identity(y.len()), across))
 }
 
 pub fn random(s: &mut Source, made: usize) -> Call {
-    let (rec, y, active) = reducer::random(s, made);
-    let (i, j) = (reducer::bus(s, made, &active), reducer::bus(s, made, &active));
-    of(rec, y, i, j)
+    let drawn = reducer::random(s, made);
+    let (i, j) = (drawn.bus(s, &drawn.left), drawn.bus(s, &drawn.left));
+    of(drawn.rec, drawn.y, i, j)
 }

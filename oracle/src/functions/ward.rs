@@ -1,25 +1,29 @@
 // What both Ward calls share: the study's lists, its refusals, and the Rust's answer in the entry's order.
 use super::{ASKED, LIMIT};
+use crate::buses::{self, repeats};
 use crate::call::Call;
 use crate::matrices::matrix;
 use crate::numbers::{kind, real, reals, Kind};
 use crate::source::Source;
-use crate::words::{bytes_of, bytes_of_reals, reals_of, rows_of, wholes_of, word, words_of_wholes, Rows};
+use crate::words::{buses_of, bytes_of_buses, bytes_of_reals, reals_of, rows_of, word, Rows};
 use reference::reduction::{WardEquivalent, WardEquivalentConfig, WardEquivalentResult};
 
 pub const Y: usize = 0;
-pub const INTERNAL: usize = 1;
-pub const EXTERNAL: usize = 2;
-pub const BOUNDARY: usize = 3;
-pub const P_EXT: usize = 4;
-pub const Q_EXT: usize = 5;
+pub const NUMBERS: usize = 1;
+pub const INTERNAL: usize = 2;
+pub const EXTERNAL: usize = 3;
+pub const BOUNDARY: usize = 4;
+pub const P_EXT: usize = 5;
+pub const Q_EXT: usize = 6;
 
 pub struct Study {
     pub n: usize,
     pub y: Vec<f64>,
-    pub internal: Vec<usize>,
-    pub external: Vec<usize>,
-    pub boundary: Vec<usize>,
+    // of each row
+    pub numbers: Vec<u32>,
+    pub internal: Vec<u32>,
+    pub external: Vec<u32>,
+    pub boundary: Vec<u32>,
     pub base: f64,
     pub p: Vec<f64>,
     pub q: Vec<f64>,
@@ -36,14 +40,14 @@ impl Study {
         2 * e * (e + self.retained() + 1)
     }
 
-    // matrix, lists and injections, as both calls take them
+    // matrix, numbers, lists and injections, as both calls take them
     pub fn given(&self) -> Vec<Vec<u8>> {
-        let list = |xs: &[usize]| bytes_of(&words_of_wholes(xs));
         vec![
             bytes_of_reals(&self.y),
-            list(&self.internal),
-            list(&self.external),
-            list(&self.boundary),
+            bytes_of_buses(&self.numbers),
+            bytes_of_buses(&self.internal),
+            bytes_of_buses(&self.external),
+            bytes_of_buses(&self.boundary),
             bytes_of_reals(&self.p),
             bytes_of_reals(&self.q),
         ]
@@ -66,16 +70,17 @@ pub fn refusals(call: &Call, at: &Places) -> Vec<(u32, bool)> {
     let (e, b) = (call.count(EXTERNAL) as u128, call.count(BOUNDARY) as u128);
     let r = call.count(INTERNAL) as u128 + b;
     let lengths = call.holds(Y, 2 * n as u128 * n as u128)
+        && call.holds(NUMBERS, n as u128)
         && call.holds(at.y_ward, 2 * r * r)
         && call.holds(at.p_ward, b)
         && call.holds(at.q_ward, b)
         && call.holds(at.work, 2 * e * (e + r + 1));
-    let mut buses: Vec<usize> = (INTERNAL..=BOUNDARY).flat_map(|i| wholes_of(&call.slices[i])).collect();
-    let missing = buses.iter().any(|&bus| bus >= n);
-    buses.sort();
-    let twice = buses.windows(2).any(|w| w[0] == w[1]);
+    let numbers = buses_of(&call.slices[NUMBERS]);
+    let listed: Vec<u32> = (INTERNAL..=BOUNDARY).flat_map(|i| buses_of(&call.slices[i])).collect();
+    let missing = listed.iter().any(|bus| !numbers.contains(bus));
+    let twice = repeats(&numbers) || repeats(&listed);
     let unmatched = call.count(P_EXT) as u128 != e || call.count(Q_EXT) as u128 != e;
-    let long = (INTERNAL..=Q_EXT).any(|i| call.count(i) > LIMIT);
+    let long = (NUMBERS..=Q_EXT).any(|i| call.count(i) > LIMIT);
     vec![
         (1, n > LIMIT || long),
         (2, !lengths),
@@ -83,6 +88,13 @@ pub fn refusals(call: &Call, at: &Places) -> Vec<(u32, bool)> {
         (7, missing),
         (8, twice),
     ]
+}
+
+// the rows of list i: for a number that no row has one that the matrix lacks
+pub fn rows(call: &Call, i: usize) -> Vec<usize> {
+    let numbers = buses_of(&call.slices[NUMBERS]);
+    let row = |bus: u32| buses::row(&numbers, bus).unwrap_or(call.size());
+    buses_of(&call.slices[i]).into_iter().map(row).collect()
 }
 
 // the Rust's study; none where it is too large to ask
@@ -93,11 +105,10 @@ pub fn study(call: &Call, include_load_transfer: bool) -> Option<WardEquivalent>
 
 // the same of another matrix
 pub fn study_of(call: &Call, y: Rows, include_load_transfer: bool) -> WardEquivalent {
-    let list = |i: usize| wholes_of(&call.slices[i]);
     let config = WardEquivalentConfig {
-        internal_buses: list(INTERNAL),
-        external_buses: list(EXTERNAL),
-        boundary_buses: list(BOUNDARY),
+        internal_buses: rows(call, INTERNAL),
+        external_buses: rows(call, EXTERNAL),
+        boundary_buses: rows(call, BOUNDARY),
         include_load_transfer,
         base_mva: call.reals[0],
     };
@@ -139,13 +150,14 @@ pub fn summary(w: &WardEquivalentResult) -> [u64; 3] {
 
 // Buses dealt to the three lists, a few to none.
 pub fn random(s: &mut Source, n: usize) -> Study {
+    let numbers = buses::numbers(s, n);
     let mut lists = [Vec::new(), Vec::new(), Vec::new()];
     let spare = s.one_in(4);
     let none_external = s.one_in(10);
-    for bus in s.shuffled(n) {
+    for row in s.shuffled(n) {
         let list = s.below(if spare { 4 } else { 3 });
         if list < 3 && !(list == 1 && none_external) {
-            lists[list].push(bus);
+            lists[list].push(numbers[row]);
         }
     }
     let [internal, external, boundary] = lists;
@@ -160,6 +172,7 @@ pub fn random(s: &mut Source, n: usize) -> Study {
     Study {
         n,
         y: matrix(s, n),
+        numbers,
         internal,
         external,
         boundary,

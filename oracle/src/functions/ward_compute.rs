@@ -1,4 +1,4 @@
-// ward_compute(n, y, internal, external, boundary, base_mva, p_ext, q_ext, y_ward, p_ward, q_ward, work,
+// ward_compute(n, y, numbers, internal, external, boundary, base_mva, p_ext, q_ext, y_ward, p_ward, q_ward, work,
 //     n_buses_reduced, n_buses_equivalent, reduction_ratio)
 use super::ward::{self, Places, Study};
 use super::ward_model;
@@ -12,11 +12,11 @@ use crate::words::{reals_of, words_of_reals, words_of_rows};
 use reference::reduction::WardEquivalentResult;
 
 pub const AT: Places = Places {
-    y_ward: 6,
-    p_ward: 7,
-    q_ward: 8,
-    work: 9,
-    summary: 10,
+    y_ward: 7,
+    p_ward: 8,
+    q_ward: 9,
+    work: 10,
+    summary: 11,
 };
 
 pub fn of(s: &Study) -> Call {

@@ -1,4 +1,4 @@
-// ward_compute_extended(n, y, internal, external, boundary, base_mva, p_ext, q_ext, v_ext,
+// ward_compute_extended(n, y, numbers, internal, external, boundary, base_mva, p_ext, q_ext, v_ext,
 //     y_ward, p_ward, q_ward, voltage_correction, q_compensation, work,
 //     n_buses_reduced, n_buses_equivalent, reduction_ratio)
 use super::ward::{self, Places, Study};
@@ -10,15 +10,15 @@ use crate::source::Source;
 use crate::words::{bytes_of_reals, reals_of, words_of_reals, words_of_rows};
 use reference::reduction::ExtendedWardEquivalentResult;
 
-const V_EXT: usize = 6;
-const CORRECTION: usize = 10;
-const COMPENSATION: usize = 11;
+const V_EXT: usize = 7;
+const CORRECTION: usize = 11;
+const COMPENSATION: usize = 12;
 pub const AT: Places = Places {
-    y_ward: 7,
-    p_ward: 8,
-    q_ward: 9,
-    work: 12,
-    summary: 13,
+    y_ward: 8,
+    p_ward: 9,
+    q_ward: 10,
+    work: 13,
+    summary: 14,
 };
 
 pub fn of(s: &Study) -> Call {

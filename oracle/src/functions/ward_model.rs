@@ -3,15 +3,14 @@ use super::ward::{self, BOUNDARY, EXTERNAL, INTERNAL, P_EXT, Q_EXT, Y};
 use crate::call::Call;
 use crate::elimination::identity;
 use crate::pivots::Model;
-use crate::words::{reals_of, rows_of, wholes_of, Rows};
+use crate::words::{reals_of, rows_of, Rows};
 use reference::reduction::reach::{cadd, cmul, csub};
 use reference::reduction::{ExtendedWardEquivalentResult, WardEquivalentResult};
 
 pub fn study(call: &Call) -> Option<Model<WardEquivalentResult>> {
     let n = call.size();
     let y = rows_of(&call.slices[Y], n, n);
-    let list = |i: usize| wholes_of(&call.slices[i]);
-    let (internal, external, boundary) = (list(INTERNAL), list(EXTERNAL), list(BOUNDARY));
+    let [internal, external, boundary] = [INTERNAL, EXTERNAL, BOUNDARY].map(|i| ward::rows(call, i));
     if external.is_empty() {
         return None;
     }
@@ -50,7 +49,7 @@ pub fn extended(call: &Call, v: &[f64]) -> Option<Model<ExtendedWardEquivalentRe
     let model = study(call)?;
     let n = call.size();
     let mut y = rows_of(&call.slices[Y], n, n);
-    let external = wholes_of(&call.slices[EXTERNAL]);
+    let external = ward::rows(call, EXTERNAL);
     let one = identity(n);
     for &i in &external {
         for &j in &external {

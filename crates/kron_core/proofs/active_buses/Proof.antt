@@ -1,12 +1,12 @@
 -- `kron_core::active_buses` meets its contract.
 -- Assumes nothing.
-use mathlib.Core.Path.{_≡_, sym, _∙_}
+use mathlib.Core.Path.{_≡_, sym, ap, _∙_}
 use native.Mathlib.Omega.{arith}
-use lib.ListN.{length}
+use lib.ListN.{length, take}
 use Rattle.refusals.specs.Refusals.{limit}
 use Rattle.kron_core.specs.Reading.{activeRefusal}
 use borrow.Author.Needs.{needs}
-use Rattle.kron_core.proofs.Active.{active-refused, active-accepted, active-done}
+use Rattle.kron_core.proofs.Active.{Accepted, active-refused, active-accepted, active-done}
 use Rattle.kron_core.proofs.active_buses.Statement.{statement}
 use Rattle.kron_core.proofs.active_buses.Tie as tie
 
@@ -23,20 +23,31 @@ full c = search needs
 accepted : (c : tie.After-active-refusal) → c .active-refusal .result ≡ 0 → activeRefusal (c .before .before .args .r) (length (c .before .before .args .out .now)) ≡ 0
 accepted c e = sym (c .active-refusal .ensures) ∙ e
 
+-- an accepted call
+module _ (c : tie.Else1) where
+  abbrev start : tie.Start
+  start = c .before .before .before
+
+  had : Accepted (start .args .r) (length (start .args .out .now))
+  had = active-accepted (start .args .r) (length (start .args .out .now)) (accepted (c .before) (c .if1 .left))
+
+active-numbers-requires : tie.Need-active-numbers-requires
+active-numbers-requires c κs = (had c .room, had c .good)
+
 copy-places-requires : tie.Need-copy-places-requires
 copy-places-requires c κs =
     let test = c .before .before .before in
-    let run = test .before in
-    let s = run .before .before in
-    let h = active-accepted (s .args .r) (length (s .args .out .now)) (accepted run (test .if1 .left)) in
-    omega (arith, h .room, h .long, full s)
+    let e : length (c .before .before .active-numbers .result) ≡ limit = search needs in
+    omega (arith, had test .room, had test .long, e)
 
 returns-2 : tie.Need-returns-2
 returns-2 c =
-    let test = c .before .before .before .before .before .before in
-    let run = test .before in
-    let s = run .before .before in
-    active-done (s .args .r) (s .args .out .now) (accepted run (test .if1 .left)) (full s) _ (c .before .before .copy-places .ensures)
+    let run = c .before .before in
+    let list = run .before .before .before in
+    let test = list .before in
+    let s = start test in
+    active-done (s .args .r) (s .args .out .now) (accepted (test .before) (test .if1 .left)) (full s) _
+    (run .copy-places .ensures ∙ ap (take (length (s .args .out .now))) (list .active-numbers .ensures))
 
 pub active-buses-spec : {M : Type 1} → statement M
-active-buses-spec = tie.close (tie.spec (λ c. search needs) (λ c. search needs) returns (λ c. search needs) copy-places-requires (λ c. search needs) returns-2)
+active-buses-spec = tie.close (tie.spec (λ c. search needs) (λ c. search needs) returns active-numbers-requires (λ c. search needs) copy-places-requires (λ c. search needs) returns-2)

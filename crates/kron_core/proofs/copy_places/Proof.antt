@@ -1,12 +1,11 @@
 -- `kron_core::copy_places` meets its contract. The invariant: the first i places are copied.
 -- Assumes nothing.
 use mathlib.Core.Path.{_≡_, refl, sym, ap, _∙_}
-use mathlib.Core.List.{List, [], _∷_, _++_}
 use Prim.Native.Nat.{ℕ, _-_, _≤_, _<_}
-use native.Mathlib.Numerals.{add-one}
 use native.Mathlib.Omega.{arith}
 use lib.ListN.{length, take, getD, length-set}
-use lib.Seq.{take-all, take-suc, take-suc-set}
+use lib.Seq.{take-all}
+use Rattle.buses.proofs.Scans.{copied-more}
 use borrow.Author.Needs.{needs}
 use Rattle.kron_core.proofs.copy_places.Statement.{statement}
 use Rattle.kron_core.proofs.copy_places.Tie as tie
@@ -47,7 +46,7 @@ loop-again c =
     let within : l .i < length places = omega arith in (
       length-set (l .out) (l .i) x ∙ l .inv .0,
       simp length-set (omega arith),
-      rw add-one (take-suc-set (l .out) (l .i) x (omega arith) ∙ ap (λ (f : List ℕ). f ++ (x ∷ [])) (l .inv .2) ∙ sym (take-suc places (l .i) 0 within)),
+      copied-more places (l .out) (l .i) within (omega arith) (l .inv .2),
     )
 
 same-length : tie.Need-same-length Inv-loop μ-loop

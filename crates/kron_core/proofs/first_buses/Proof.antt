@@ -25,8 +25,8 @@ abbrev μ-loop : tie.MeasureT-loop
 loop-holds : tie.Need-loop-holds Inv-loop μ-loop
 loop-holds c = (omega arith, refl, λ (k : ℕ) (l : k < 0). absurd (omega arith), λ (k : ℕ) (l : 0 ≤ k). getD-zeros limit k)
 
-mul-active : tie.Need-mul-active Inv-loop μ-loop
-mul-active c = omega (arith, c .before .before .pre)
+cast-active : tie.Need-cast-active Inv-loop μ-loop
+cast-active c = omega (arith, c .before .before .pre)
 
 array-write-active : tie.Need-array-write-active Inv-loop μ-loop
 array-write-active c = omega (arith, c .before .before .pre)
@@ -70,7 +70,7 @@ first-buses-spec =
     Inv-loop
     μ-loop
     loop-holds
-    mul-active
+    cast-active
     array-write-active
     add-i
     loop-less

@@ -23,14 +23,21 @@ mul-if2-2 c = let h = c .if1 .left in omega (arith, mul-le-mul (c .before .pre) 
 returns-2 : tie.Need-returns-2
 returns-2 c = λ (ys : List Float) (e : length ys ≡ c .before .before .args .len). reading-room (c .before .before .args .per) (c .before .before .args .r) ys (c .before .before .args .m) (c .before .if1 .left) (c .if2 .taken)
 
+slice-aggregate-input-refusal : tie.Need-slice-aggregate-input-refusal
+slice-aggregate-input-refusal c = search needs
+
+slice-aggregate-input-refusal-2 : tie.Need-slice-aggregate-input-refusal-2
+slice-aggregate-input-refusal-2 c = search needs
+
 input-refusal-requires : tie.Need-input-refusal-requires
 input-refusal-requires c κs = search needs
 
 returns-3 : tie.Need-returns-3
 returns-3 c =
-    let s = c .before .before .before in
-    λ (ys : List Float) (e : length ys ≡ s .args .len). c .input-refusal .ensures ys e ∙ reading-rest (s .args .per) (s .args .r) ys (s .args .m) (c .before .before .if1 .left) (c .before .if2 .left)
+    let test = c .before .before .before .before .before in
+    let s = test .before .before in
+    λ (ys : List Float) (e : length ys ≡ s .args .len). c .input-refusal .ensures ys e ∙ reading-rest (s .args .per) (s .args .r) ys (s .args .m) (test .before .if1 .left) (test .if2 .left)
 
 pub reading-refusal-spec : {M : Type 1} → statement M
 reading-refusal-spec =
-    tie.close (tie.spec returns mul-if2 mul-if2-2 returns-2 input-refusal-requires returns-3)
+    tie.close (tie.spec returns mul-if2 mul-if2-2 returns-2 slice-aggregate-input-refusal slice-aggregate-input-refusal-2 input-refusal-requires returns-3)

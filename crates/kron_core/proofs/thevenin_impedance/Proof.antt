@@ -1,18 +1,18 @@
 -- `kron_core::thevenin_impedance` meets its contract: the input is refused, a bus is not found, or the matrix is inverted.
 -- Assumes nothing.
-use mathlib.Core.Path.{_≡_, refl, sym, ap, _∙_}
-use Prim.Native.Nat.{ℕ, _-_}
-use native.Mathlib.Nat.{sub-zero}
-use native.Mathlib.Omega.{arith}
+use mathlib.Core.Path.{_≡_, refl, sym, _∙_}
+use Prim.Native.Nat.{ℕ, _≤_}
 use borrow.Author.Needs.{needs}
-use lib.ListN.{length, take}
+use lib.Dec.{T}
+use lib.ListN.{length}
 use Rattle.refusals.specs.Refusals.{limit}
-use Rattle.kron_rows.specs.declared.Found.the-variants.{At}
-use Rattle.kron_core.specs.Reducer.{activeOf}
-use Rattle.kron_rows.specs.Removal.{foundIn, Holds}
+use Rattle.buses.specs.declared.Found.the-variants.{At}
+use Rattle.buses.specs.Buses.{foundIn}
+use Rattle.kron_core.specs.Reducer.{activeOf, sound, rowOf}
+use Rattle.kron_rows.specs.Removal.{Holds}
 use Rattle.kron_core.specs.Reading.{readingRefusal}
 use Rattle.kron_rows.proofs.Taking.{took-lt}
-use Rattle.kron_core.proofs.Across.{impedance-refused, impedance-first, impedance-second, impedance-found, impedance-holds, impedance-room}
+use Rattle.kron_core.proofs.Across.{impedance-refused, impedance-first, impedance-second, impedance-found, impedance-holds, impedance-room, impedance-sound}
 use Rattle.kron_core.proofs.thevenin_impedance.Statement.{statement}
 use Rattle.kron_core.proofs.thevenin_impedance.Tie as tie
 
@@ -39,21 +39,11 @@ module _ (c : tie.Else1) where
   holds : Holds (begun .args .r .«n_buses») (begun .args .r .«active_buses») (begun .args .y .now)
   holds = impedance-holds (begun .args .r) (begun .args .y .now) (begun .args .bus-i) (begun .args .bus-j) (begun .args .work .now) accepted (full begun)
 
-  -- the buses that are searched
-  whole : (k : ℕ) → foundIn k (activeOf (begun .args .r)) ≡ foundIn k (take (begun .args .r .«n_buses» - 0) (begun .args .r .«active_buses»))
-  whole k = ap (λ (w : ℕ). foundIn k (take w (begun .args .r .«active_buses»))) (sym (sub-zero (begun .args .r .«n_buses»)))
+  sure : (begun .args .r .made ≤ limit) × T (sound (begun .args .r))
+  sure = impedance-sound (begun .args .r) (begun .args .y .now) (begun .args .bus-i) (begun .args .bus-j) (begun .args .work .now) accepted
 
-sub-find-bus : tie.Need-sub-find-bus
-sub-find-bus c = search needs
-
-part-find-bus-start : tie.Need-part-find-bus-start
-part-find-bus-start c = search needs
-
-part-find-bus-end : tie.Need-part-find-bus-end
-part-find-bus-end c = let b = begun (c .before .before) in omega (arith, holds (c .before .before) .room, full b)
-
-find-bus-requires : tie.Need-find-bus-requires
-find-bus-requires c κs = search needs
+find-number-requires : tie.Need-find-number-requires
+find-number-requires c κs = sure c
 
 enum-known-i : tie.Need-enum-known-i
 enum-known-i c = search needs
@@ -63,14 +53,14 @@ enum-told c = search needs
 
 returns-2 : tie.Need-returns-2
 returns-2 c =
-    let e = c .before .before .before .before .before .before in
+    let e = c .before .before .before in
     let s = begun e in
-    impedance-first (s .args .r) (s .args .y .now) (s .args .bus-i) (s .args .bus-j) (s .args .work .now) (accepted e) (whole e (s .args .bus-i) ∙ sym (c .before .before .find-bus .ensures) ∙ c .enum-told .given .1)
+    impedance-first (s .args .r) (s .args .y .now) (s .args .bus-i) (s .args .bus-j) (s .args .work .now) (accepted e) (sym (c .before .before .find-number .ensures) ∙ c .enum-told .given .1)
 
 -- where the first bus is found
 module _ (c : tie.After-known-told) where
   abbrev test : tie.Else1
-  test = c .before .before .before .before .before .before .before
+  test = c .before .before .before .before
 
   abbrev start : tie.Start
   start = begun test
@@ -78,20 +68,11 @@ module _ (c : tie.After-known-told) where
   abbrev first : ℕ
   first = c .before .i .given .0 .0
 
-  found : foundIn (start .args .bus-i) (activeOf (start .args .r)) ≡ At first
-  found = whole test (start .args .bus-i) ∙ sym (c .before .before .before .find-bus .ensures) ∙ c .before .i .given .1
+  found : foundIn (rowOf (start .args .r) (start .args .bus-i)) (activeOf (start .args .r)) ≡ At first
+  found = sym (c .before .before .before .find-number .ensures) ∙ c .before .i .given .1
 
-sub-find-bus-2 : tie.Need-sub-find-bus-2
-sub-find-bus-2 c = search needs
-
-part-find-bus-start-2 : tie.Need-part-find-bus-start-2
-part-find-bus-start-2 c = search needs
-
-part-find-bus-end-2 : tie.Need-part-find-bus-end-2
-part-find-bus-end-2 c = let t = test (c .before) in omega (arith, holds t .room, full (begun t))
-
-find-bus-requires-2 : tie.Need-find-bus-requires-2
-find-bus-requires-2 c κs = search needs
+find-number-requires-2 : tie.Need-find-number-requires-2
+find-number-requires-2 c κs = sure (test c)
 
 enum-known-j : tie.Need-enum-known-j
 enum-known-j c = search needs
@@ -101,21 +82,20 @@ enum-told-2 c = search needs
 
 returns-3 : tie.Need-returns-3
 returns-3 c =
-    let k = c .before .before .before .before .before in
+    let k = c .before .before .before in
     let s = start k in
-    impedance-second (s .args .r) (s .args .y .now) (s .args .bus-i) (s .args .bus-j) (s .args .work .now) (accepted (test k)) (first k) (found k)
-    (whole (test k) (s .args .bus-j) ∙ sym (c .before .before .find-bus2 .ensures) ∙ c .enum-told2 .given .1)
+    impedance-second (s .args .r) (s .args .y .now) (s .args .bus-i) (s .args .bus-j) (s .args .work .now) (accepted (test k)) (first k) (found k) (sym (c .before .before .find-number2 .ensures) ∙ c .enum-told2 .given .1)
 
 -- where the second is
 module _ (c : tie.After-known-told2) where
   abbrev one : tie.After-known-told
-  one = c .before .before .before .before .before .before
+  one = c .before .before .before .before
 
   abbrev second : ℕ
   second = c .before .j .given .0 .0
 
-  found-too : foundIn (start one .args .bus-j) (activeOf (start one .args .r)) ≡ At second
-  found-too = whole (test one) (start one .args .bus-j) ∙ sym (c .before .before .before .find-bus2 .ensures) ∙ c .before .j .given .1
+  found-too : foundIn (rowOf (start one .args .r) (start one .args .bus-j)) (activeOf (start one .args .r)) ≡ At second
+  found-too = sym (c .before .before .before .find-number2 .ensures) ∙ c .before .j .given .1
 
 between-requires : tie.Need-between-requires
 between-requires c κs =
@@ -123,8 +103,8 @@ between-requires c κs =
     let s = start k in
     let h = holds (test k) in (
       h .room,
-      took-lt (s .args .r .«n_buses») (s .args .r .«active_buses») (s .args .y .now) h (s .args .bus-i) (first k) (found k),
-      took-lt (s .args .r .«n_buses») (s .args .r .«active_buses») (s .args .y .now) h (s .args .bus-j) (second (c .before)) (found-too (c .before)),
+      took-lt (s .args .r .«n_buses») (s .args .r .«active_buses») (s .args .y .now) h (rowOf (s .args .r) (s .args .bus-i)) (first k) (found k),
+      took-lt (s .args .r .«n_buses») (s .args .r .«active_buses») (s .args .y .now) h (rowOf (s .args .r) (s .args .bus-j)) (second (c .before)) (found-too (c .before)),
       h .fits,
       impedance-room (s .args .r) (s .args .y .now) (s .args .bus-i) (s .args .bus-j) (s .args .work .now) (accepted (test k)) (full s),
     )
@@ -147,17 +127,11 @@ thevenin-impedance-spec =
     (tie.spec
     reading-refusal-requires
     returns
-    sub-find-bus
-    part-find-bus-start
-    part-find-bus-end
-    find-bus-requires
+    find-number-requires
     enum-known-i
     enum-told
     returns-2
-    sub-find-bus-2
-    part-find-bus-start-2
-    part-find-bus-end-2
-    find-bus-requires-2
+    find-number-requires-2
     enum-known-j
     enum-told-2
     returns-3

@@ -1,35 +1,27 @@
--- `kron_rows::all_zero` meets its contract. The loop's invariant: all are zero where what is left is.
+-- `kron_rows::all_zero` meets its contract: all are zero where those passed are and the rest is.
 -- Assumes nothing.
 use mathlib.Core.Path.{_≡_, refl, sym, ap, _∙_}
-use Prim.Native.Nat.{_-_, _≤_}
+use mathlib.Core.Bool.{Bool, _&&_}
+use Prim.Native.Nat.{_≤_, _-_}
 use native.Mathlib.Omega.{arith}
-use lib.ListN.{length, drop, drop-of-length-le}
-use Rattle.buses.specs.Buses.{allZero}
-use Rattle.kron_rows.proofs.Positions.{zero-on, zero-not}
 use borrow.Author.Needs.{needs}
+use lib.ListN.{length, drop}
+use Rattle.buses.specs.Buses.{allZero}
+use Rattle.buses.proofs.Lookups.{zero-step, zero-end, and-true}
 use Rattle.kron_rows.proofs.all_zero.Statement.{statement}
 use Rattle.kron_rows.proofs.all_zero.Tie as tie
 
 abbrev Inv-loop : tie.InvT-loop
-Inv-loop places i₀ i = (i ≤ length places) × (allZero places ≡ allZero (drop i places))
+Inv-loop places zero₀ i₀ zero i = (i ≤ length places) × (allZero places ≡ (zero && allZero (drop i places)))
 
 abbrev μ-loop : tie.MeasureT-loop
-μ-loop places i₀ i = length places - i
+μ-loop places zero₀ i₀ zero i = length places - i
 
 loop-holds : tie.Need-loop-holds Inv-loop μ-loop
 loop-holds c = (omega arith, refl)
 
-mul-if1 : tie.Need-mul-if1 Inv-loop μ-loop
-mul-if1 c = search needs
-
-shared-slice-read-if1 : tie.Need-shared-slice-read-if1 Inv-loop μ-loop
-shared-slice-read-if1 c = search needs
-
-returns : tie.Need-returns Inv-loop μ-loop
-returns c =
-    let xs = c .before .before .before .before .args .places .now in
-    let i = c .before .before .before .loop .i in
-    sym (c .before .before .before .loop .inv .1 ∙ zero-not xs i (omega arith) (c .if1 .taken))
+shared-slice-read-same : tie.Need-shared-slice-read-same Inv-loop μ-loop
+shared-slice-read-same c = search needs
 
 add-i : tie.Need-add-i Inv-loop μ-loop
 add-i c = search needs
@@ -39,13 +31,13 @@ loop-less c = search needs
 
 loop-again : tie.Need-loop-again Inv-loop μ-loop
 loop-again c =
-    let xs = c .before .before .before .before .args .places .now in
-    let i = c .before .before .before .loop .i in
-    (omega arith, c .before .before .before .loop .inv .1 ∙ zero-on xs i (omega arith) (c .if1 .left))
+    let l = c .before .before in
+    (omega arith, l .loop .inv .1 ∙ zero-step (l .before .args .places .now) (l .loop .i) (l .loop .zero) (c .before .loop-test .taken))
 
-returns-2 : tie.Need-returns-2 Inv-loop μ-loop
-unfolding allZero
-returns-2 c = sym (c .before .loop .inv .1 ∙ ap allZero (drop-of-length-le _ (c .loop-test .left)))
+returns : tie.Need-returns Inv-loop μ-loop
+returns c =
+    let l = c .before in
+    sym (l .loop .inv .1 ∙ ap (λ (b : Bool). l .loop .zero && b) (zero-end (l .before .args .places .now) (l .loop .i) (c .loop-test .left)) ∙ and-true (l .loop .zero))
 
 pub all-zero-spec : {M : Type 1} → statement M
 all-zero-spec =
@@ -54,10 +46,8 @@ all-zero-spec =
     Inv-loop
     μ-loop
     loop-holds
-    mul-if1
-    shared-slice-read-if1
-    returns
+    shared-slice-read-same
     add-i
     loop-less
     loop-again
-    returns-2)
+    returns)

@@ -30,14 +30,8 @@ add-loop c = search needs
 add-active : tie.Need-add-active Inv-loop μ-loop
 add-active c = search needs
 
-mul-active : tie.Need-mul-active Inv-loop μ-loop
-mul-active c = search needs
-
 slice-read-active : tie.Need-slice-read-active Inv-loop μ-loop
 slice-read-active c = search needs
-
-mul-active-2 : tie.Need-mul-active-2 Inv-loop μ-loop
-mul-active-2 c = search needs
 
 slice-write-active : tie.Need-slice-write-active Inv-loop μ-loop
 slice-write-active c = search needs
@@ -67,9 +61,6 @@ loop-again c =
 sub-active : tie.Need-sub-active Inv-loop μ-loop
 sub-active c = search needs
 
-mul-active-3 : tie.Need-mul-active-3 Inv-loop μ-loop
-mul-active-3 c = search needs
-
 slice-write-active-2 : tie.Need-slice-write-active-2 Inv-loop μ-loop
 slice-write-active-2 c = search needs
 
@@ -96,15 +87,12 @@ close-places-spec =
     loop-holds
     add-loop
     add-active
-    mul-active
     slice-read-active
-    mul-active-2
     slice-write-active
     add-p
     loop-less
     loop-again
     sub-active
-    mul-active-3
     slice-write-active-2
     same-length
     returns)

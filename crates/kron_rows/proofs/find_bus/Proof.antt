@@ -6,10 +6,9 @@ use Prim.Native.Nat.{_+_, _-_, _≤_}
 use native.Mathlib.Nat.{zero-add}
 use native.Mathlib.Omega.{arith}
 use lib.ListN.{length, drop, drop-of-length-le}
-use Rattle.buses.specs.Buses.{mem, place}
-use Rattle.kron_rows.specs.Removal.{foundIn}
+use Rattle.buses.specs.Buses.{mem, place, foundIn}
 use Rattle.buses.proofs.Ends.{mem-here, mem-next}
-use Rattle.kron_rows.proofs.Positions.{place-here, place-on}
+use Rattle.buses.proofs.Lookups.{place-here, place-on}
 use borrow.Author.Needs.{needs}
 use Rattle.kron_rows.proofs.find_bus.Statement.{statement}
 use Rattle.kron_rows.proofs.find_bus.Tie as tie
@@ -23,11 +22,11 @@ abbrev μ-loop : tie.MeasureT-loop
 loop-holds : tie.Need-loop-holds Inv-loop μ-loop
 loop-holds c = (omega arith, refl, sym (zero-add _))
 
-mul-if1 : tie.Need-mul-if1 Inv-loop μ-loop
-mul-if1 c = search needs
-
 shared-slice-read-if1 : tie.Need-shared-slice-read-if1 Inv-loop μ-loop
 shared-slice-read-if1 c = search needs
+
+cast-if1 : tie.Need-cast-if1 Inv-loop μ-loop
+cast-if1 c = omega (arith, c .shared-slice-known .given (c .before .before .loop .i))
 
 returns : tie.Need-returns Inv-loop μ-loop
 unfolding foundIn
@@ -69,8 +68,8 @@ find-bus-spec =
     Inv-loop
     μ-loop
     loop-holds
-    mul-if1
     shared-slice-read-if1
+    cast-if1
     returns
     add-i
     loop-less

@@ -20,11 +20,11 @@ abbrev μ-loop : tie.MeasureT-loop
 loop-holds : tie.Need-loop-holds Inv-loop μ-loop
 loop-holds c = (omega arith, rises-from _ _)
 
-mul-bus : tie.Need-mul-bus Inv-loop μ-loop
-mul-bus c = search needs
-
 shared-slice-read-bus : tie.Need-shared-slice-read-bus Inv-loop μ-loop
 shared-slice-read-bus c = search needs
+
+cast-bus : tie.Need-cast-bus Inv-loop μ-loop
+cast-bus c = omega (arith, c .shared-slice-known .given (c .before .before .loop .i))
 
 returns : tie.Need-returns Inv-loop μ-loop
 returns c =
@@ -65,8 +65,8 @@ in-order-spec =
     Inv-loop
     μ-loop
     loop-holds
-    mul-bus
     shared-slice-read-bus
+    cast-bus
     returns
     returns-2
     add-low

@@ -6,8 +6,8 @@ use native.Mathlib.Nat.{sub-zero}
 use native.Mathlib.Omega.{arith}
 use borrow.Author.Needs.{needs}
 use lib.ListN.{take}
-use Rattle.kron_rows.specs.declared.Found.the-variants.{At}
-use Rattle.kron_rows.specs.Removal.{foundIn}
+use Rattle.buses.specs.declared.Found.the-variants.{At}
+use Rattle.buses.specs.Buses.{foundIn}
 use Rattle.kron_rows.proofs.Taking.{holds-room, took-lt, took-absent, took-small, took}
 use Rattle.kron_rows.proofs.take_one.Statement.{statement}
 use Rattle.kron_rows.proofs.take_one.Tie as tie

@@ -1,39 +1,36 @@
 -- `record_entries::active_in` meets its contract.
 -- Assumes nothing.
-use mathlib.Core.Path.{refl}
-use denote.Ref.{now}
-use Rattle.record_entries.proofs.RecordsLaws.{active-read}
+use Rattle.record_entries.specs.Records.{activeIn}
 use borrow.Author.Needs.{needs}
 use Rattle.record_entries.proofs.active_in.Statement.{statement}
 use Rattle.record_entries.proofs.active_in.Tie as tie
 
-sub-read-words : tie.Need-sub-read-words
-sub-read-words c = search needs
+sub-copy : tie.Need-sub-copy
+sub-copy c = search needs
 
-part-read-words-start : tie.Need-part-read-words-start
-part-read-words-start c = search needs
+part-copy-start : tie.Need-part-copy-start
+part-copy-start c = search needs
 
-part-read-words-end : tie.Need-part-read-words-end
-part-read-words-end c = search needs
+part-copy-end : tie.Need-part-copy-end
+part-copy-end c = search needs
 
-slice-aggregate-read-words : tie.Need-slice-aggregate-read-words
-slice-aggregate-read-words c = search needs
+slice-aggregate-copy : tie.Need-slice-aggregate-copy
+slice-aggregate-copy c = search needs
 
-read-words-requires : tie.Need-read-words-requires
-read-words-requires c κs = search needs
+copy-requires : tie.Need-copy-requires
+copy-requires c κs = search needs
 
 returns : tie.Need-returns
-returns c =
-    let start = c .before .before .before .before .before in
-    active-read (now (start .args .s)) _ _ (start .pre) refl (c .before .read-words .ensures)
+unfolding activeIn
+returns c = c .before .copy .ensures
 
 pub active-in-spec : {M : Type 1} → statement M
 active-in-spec =
     tie.close
     (tie.spec
-    sub-read-words
-    part-read-words-start
-    part-read-words-end
-    slice-aggregate-read-words
-    read-words-requires
+    sub-copy
+    part-copy-start
+    part-copy-end
+    slice-aggregate-copy
+    copy-requires
     returns)

@@ -10,7 +10,7 @@ use Rattle.entries.proofs.ward.jeturipe_ward_compute.Tie as tie
 returns : tie.Need-returns
 returns c =
     let e = c .before .before .before .before .before .before .before .before .before .before .before .before .before .compute .ensures .0 in
-    let a = c .before .before .before .before .before .before .before .before .before .before .before .before .before .before .before .before .before .before .before .before .before .before .before .before .before .before .before .before .args in
+    let a = c .before .before .before .before .before .before .before .before .before .before .before .before .before .before .before .before .before .before .before .before .before .before .before .before .before .before .before .before .before .args in
     record {
       told = c .number-of .ensures ∙ ap (λ (w : AfterWard). number (w .answer)) e;
       left = ap (λ (w : AfterWard). w .room) e;

@@ -11,7 +11,7 @@ use Rattle.entries.proofs.ward.jeturipe_ward_compute_extended.Tie as ti
 returns : tie.Need-returns
 returns c =
     let e = c .before .before .before .before .before .before .before .before .before .before .before .before .before .before .before .before .before .compute-extended .ensures .0 in
-    let a = c .before .before .before .before .before .before .before .before .before .before .before .before .before .before .before .before .before .before .before .before .before .before .before .before .before .before .before .before .before .before .before .before .before .before .before .before .before .args in
+    let a = c .before .before .before .before .before .before .before .before .before .before .before .before .before .before .before .before .before .before .before .before .before .before .before .before .before .before .before .before .before .before .before .before .before .before .before .before .before .before .args in
     record {
       told = c .number-of .ensures ∙ ap (λ (w : AfterExtended). number (w .answer)) e;
       left = ap (λ (w : AfterExtended). w .room) e;

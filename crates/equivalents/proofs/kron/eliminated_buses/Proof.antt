@@ -27,7 +27,7 @@ use denote.RattleType.{owns}
 use denote.Memory.{mem, cellAt, partOf}
 use denote.Laws.{Is, shows}
 use denote.Lend.{lends-ref, ref-back}
-use denote.Builtin.{usize, f64}
+use denote.Builtin.{u32, f64}
 use denote.Ref.{RefT, MutRef}
 use denote.Slice.{sliceVal, MutSlice, ShrSlice, Room, finally, slice-vals, mut-slice-tells, shr-slice-tells, shr-slice-copy}
 use denote.Steps.{only, owned, peeks, heard, nothing}
@@ -62,7 +62,7 @@ use Rattle.equivalents.proofs.kron.eliminated_buses.Statement as stated
 use Rattle.equivalents.proofs.kron.eliminated_buses.Code as code
 
 abbrev stayed : Stays (f.ended .signature .params) (f.ended .kept)
-stayed = (stay-none (λ _. T.the-row) yes, (gave-slice (0 ∷ []) tt (plain (λ _. f64)), (stay-none-slice (1 ∷ []) tt (plain (λ _. usize)) yes, tt)))
+stayed = (stay-none (λ _. T.the-row) yes, (gave-slice (0 ∷ []) tt (plain (λ _. f64)), (stay-none-slice (1 ∷ []) tt (plain (λ _. u32)) yes, tt)))
 
 -- the contract that the proof cites
 abbrev G : {M : Type 1} (𝓤 : URA M) (H : Heap 𝓤) (A : Atoms 𝓤) (mem : Memory → SProp 𝓤) (run : Routine → Fun 𝓤) → Contract 𝓤
@@ -123,7 +123,7 @@ module _ {M : Type 1} (𝓤 : URA M) (H : Heap 𝓤) (A : Atoms 𝓤) (W : Given
 
   -- what the list owns
   abbrev List-own : Fml
-  List-own = ShrSlice (named 1) κ″ usize .own z (t ∷ [])
+  List-own = ShrSlice (named 1) κ″ u32 .own z (t ∷ [])
 
   abbrev vals : List Val × (List Val × (List Val × Unit {0}))
   vals = (rec-val h ∷ [], (s ∷ [], (t ∷ [], tt)))
@@ -159,9 +159,9 @@ module _ {M : Type 1} (𝓤 : URA M) (H : Heap 𝓤) (A : Atoms 𝓤) (W : Given
       owned ! Rm.the-row (Is Rm.the-row) (LL.makes Rm.the-type Rm′.the-plain 𝓤 H A) (out c r) _ (made c r is-c is-r) $ move ! (1 ∷ 0 ∷ []) $ done !
 
   module _ (C : Calls 𝓤 H) (Λ : Loops 𝓤 H) (fm : FmC 𝓤 H (W .laws) C) (known : Triple 𝓤 (C #equivalents·eliminate-buses) (G 𝓤 H A at-mem run)) where
-    walk : Room f64 (length ys) → Room usize (length ns) → ent 𝓤 (onEntry 𝓤 H A f.signature (κ, (κ″, tt)) (q, (q″, tt)) a vals) (WpFn 𝓤 H C Λ code.function (rec-val h ∷ s ∷ t ∷ []) Post)
+    walk : Room f64 (length ys) → Room u32 (length ns) → ent 𝓤 (onEntry 𝓤 H A f.signature (κ, (κ″, tt)) (q, (q″, tt)) a vals) (WpFn 𝓤 H C Λ code.function (rec-val h ∷ s ∷ t ∷ []) Post)
     walk room room″ =
-        qed W ((‵ (flft κ q) ⊛ ‵ (flft κ″ q″) ⊛ ‵ ftrue) ∷ ‵ (owns (T.the-row ∷ MutSlice (named 0) κ f64 ∷ ShrSlice (named 1) κ″ usize ∷ []) a vals) ∷ []) ∵ enter ! C Λ code.function (rec-val h ∷ s ∷ t ∷ []) _ $
+        qed W ((‵ (flft κ q) ⊛ ‵ (flft κ″ q″) ⊛ ‵ ftrue) ∷ ‵ (owns (T.the-row ∷ MutSlice (named 0) κ f64 ∷ ShrSlice (named 1) κ″ u32 ∷ []) a vals) ∷ []) ∵ enter ! C Λ code.function (rec-val h ∷ s ∷ t ∷ []) _ $
         alloc1 ! (λ l₀. alloc1 ! (λ l₁. alloc1 ! (λ l₂. alloc1 ! (λ l₃. alloc1 ! (λ l₄. alloc1 ! (λ l₅. alloc1 ! (λ l₆. alloc1 ! (λ l₇. alloc1 ! (λ l₈. alloc1 ! (λ l₉. alloc0 ! $ params1 ! $
         pass1 ! (init ! 16 refl (LL.lawful T.the-type T′.the-laws 𝓤 H A W .typed h _ is .0)) $ pass1 ! (init ! 14 refl (tt, (tt, (record { fits = room .0 }, tt)))) $ pass1 ! (init ! 12 refl (tt, (tt, (record { fits = room″ .0 }, tt)))) $ pass0 ! $
         -- [_9; …; _8 2; _7 4; _6 6; _5 8; _4 10; _3 12; _2 14; _1 16; room for _0 18; …; the token 20; what r, y and bus own 21]
@@ -174,7 +174,7 @@ module _ {M : Type 1} (𝓤 : URA M) (H : Heap 𝓤) (A : Atoms 𝓤) (W : Given
         use2 W (‵ (mem T.the-row .lies h l₄ 0)) (lie-in 𝓤 H A W h l₄) $
         use1 W (later (some (λ (δ : GName). ‵ (lent-own ν l₄ δ) ⊛ ‵ (flent (ν ∷ []) (Body (mem T.the-row) l₄ 0 δ))))) (lends-ref 𝓤 H A W T.the-row (named 0) (ν ∷ []) h l₄ 0) $ await ! tt $ pick ! (λ δ. split ! $
         -- [the `&mut`; the lender's part; ν's token; _9 at 3; _8 5; _7 7; _6 9; _5 11; what frees _4 13; _3 14; _2 16; _1 18; room for _0 20; y's token 22; what r, y and bus own 23]
-        move ! (23 ∷ []) $ fsplit ! $ drop ! $ fsplit ! $ move ! (1 ∷ []) $ fsplit ! $ use1 W (‵ List-own ⊛ ‵ List-own) (shr-slice-copy 𝓤 H A W (named 1) κ″ usize .twice z (t ∷ [])) $ split ! $ move ! (2 ∷ []) $ drop ! $
+        move ! (23 ∷ []) $ fsplit ! $ drop ! $ fsplit ! $ move ! (1 ∷ []) $ fsplit ! $ use1 W (‵ List-own ⊛ ‵ List-own) (shr-slice-copy 𝓤 H A W (named 1) κ″ u32 .twice z (t ∷ [])) $ split ! $ move ! (2 ∷ []) $ drop ! $
         move ! (5 ∷ 25 ∷ []) $ join ! $ move ! (1 ∷ 4 ∷ []) $ join ! $ move ! (1 ∷ 0 ∷ 3 ∷ []) $ use3 W (raw (G 𝓤 H A at-mem run .pre (to-g ν l₄ δ))) (goes ν l₄ δ) $
         -- [the callee's pre; what bus owns; the lender's part 2; _9 at 3; _8 5; _7 7; _6 9; _5 11; what frees _4 13; _3 14; _2 16; _1 18; room for _0 20]
         calls-at ! fm (G 𝓤 H A at-mem run) known (to-g ν l₄ δ) (and-then ! (load ! (from ! (stop !)) (look ! 9 refl)) (and-then ! (load ! (from ! (stop !)) (look ! 5 refl)) (and-then ! (load ! (from ! (stop !)) (look ! 14 refl)) (no-more !)))) (λ w.
@@ -200,14 +200,14 @@ module _ {M : Type 1} (𝓤 : URA M) (H : Heap 𝓤) (A : Atoms 𝓤) (W : Given
 module _ {M : Type 1} (𝓤 : URA M) (H : Heap 𝓤) (A : Atoms 𝓤) (W : Given 𝓤 H A) (mem : Memory → SProp 𝓤) (run : Routine → Fun 𝓤) where
   f-walks : (C : Calls 𝓤 H) (Λ : Loops 𝓤 H) → FmC 𝓤 H (W .laws) C → Triple 𝓤 (C #equivalents·eliminate-buses) (G 𝓤 H A mem run) → Walks 𝓤 H A f.ended stayed (WpFn 𝓤 H C Λ code.function) (f.clauses 𝓤 H A mem run)
   f-walks C Λ fm known = walked 𝓤 H A f.ended stayed (f.clauses 𝓤 H A mem run) (WpFn 𝓤 H C Λ code.function)
-      (λ κs. (LL.vals T.the-type T′.the-laws, (slice-vals, (slice-vals, tt)))) (λ κs. (LL.tells T.the-type T′.the-laws, (mut-slice-tells (named 0) (κs .0) f64, (shr-slice-tells (named 1) (κs .1 .0) usize, tt))))
+      (λ κs. (LL.vals T.the-type T′.the-laws, (slice-vals, (slice-vals, tt)))) (λ κs. (LL.tells T.the-type T′.the-laws, (mut-slice-tells (named 0) (κs .0) f64, (shr-slice-tells (named 1) (κs .1 .0) u32, tt))))
       (λ κs qs bounds a g are. via 𝓤 _ (fst∗ 𝓤 _ (emp 𝓤))
       (walk 𝓤 H A W mem run (κs .0) (κs .1 .0) (qs .0) (qs .1 .0) (a .0) (are .0) (a .1 .0 .ptr .0) (a .1 .0 .ptr .1) (a .1 .0 .name) (a .1 .0 .now) (a .1 .1 .0 .ptr .0) (a .1 .1 .0 .ptr .1) (a .1 .1 .0 .name) (a .1 .1 .0 .now) C Λ fm known (are .1 .0 .0 .1) (are .1 .1 .0 .0 .1)))
 
 f-meets : {M : Type 1} (𝓤 : URA M) (H : Heap 𝓤) (A : Atoms 𝓤) → Given 𝓤 H A → (mem : Memory → SProp 𝓤) (run : Routine → Fun 𝓤) (𝓣 : Tables 𝓤 H) → Triple 𝓤 (𝓣 .C #equivalents·eliminate-buses) (G 𝓤 H A mem run)
     → Meets 𝓤 H A f.signature (WpFn 𝓤 H (𝓣 .C) (𝓣 .Λ) code.function) (f.spec 𝓤 H A mem run)
 f-meets 𝓤 H A W mem run 𝓣 known =
-    walk-meets 𝓤 H A f.ended stayed W (goes-none 𝓤 H A W 2 (λ _. T.the-row) yes (λ κs x f. refl), (goes-gave-slice 𝓤 H A W 2 0 tt (plain (λ _. f64)), (goes-none-slice 𝓤 H A W 2 (1 ∷ []) tt (plain (λ _. usize)) yes, tt))) (f.clauses 𝓤 H A mem run)
+    walk-meets 𝓤 H A f.ended stayed W (goes-none 𝓤 H A W 2 (λ _. T.the-row) yes (λ κs x f. refl), (goes-gave-slice 𝓤 H A W 2 0 tt (plain (λ _. f64)), (goes-none-slice 𝓤 H A W 2 (1 ∷ []) tt (plain (λ _. u32)) yes, tt))) (f.clauses 𝓤 H A mem run)
     (WpFn 𝓤 H (𝓣 .C) (𝓣 .Λ) code.function) (WpFn-mono 𝓤 H (W .laws) 𝓣 code.function) (f-walks 𝓤 H A W mem run (𝓣 .C) (𝓣 .Λ) (fmOf 𝓤 H (W .laws) 𝓣) known)
 
 pub eliminated-buses-spec : {M : Type 1} → stated.statement M

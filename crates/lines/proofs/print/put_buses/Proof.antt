@@ -29,10 +29,13 @@ mul-put-line : tie.Need-mul-put-line Inv-loop μ-loop
 mul-put-line c =
     let l = c .before .before .before in
     let s = l .before .before .before in
-    scaled-fits (l .loop .i) (length (s .args .buses .now)) 8 (omega arith) (s .good .1 .1 .0 .1)
+    scaled-fits (l .loop .i) (length (s .args .buses .now)) 4 (omega arith) (s .good .1 .1 .0 .1)
 
 shared-slice-read-put-line : tie.Need-shared-slice-read-put-line Inv-loop μ-loop
 shared-slice-read-put-line c = omega arith
+
+cast-put-line : tie.Need-cast-put-line Inv-loop μ-loop
+cast-put-line c = omega (arith, c .shared-slice-known2 .given (c .before .before .before .before .loop .i))
 
 put-line-requires : tie.Need-put-line-requires Inv-loop μ-loop
 put-line-requires c κs =
@@ -78,6 +81,7 @@ put-buses-spec =
     slice-aggregate-put-line
     mul-put-line
     shared-slice-read-put-line
+    cast-put-line
     put-line-requires
     add-i
     loop-less

@@ -5,22 +5,25 @@ use mathlib.Core.Path.{_≡_, refl, sym, ap, _∙_}
 use native.Mathlib.Omega.{arith}
 use lib.ListN.{length, drop, length-drop}
 use borrow.Author.Needs.{needs}
-use Rattle.lines.specs.Lines.{lines}
-use Rattle.lines.specs.Reading.{drops}
+use Rattle.words.specs.Bytes.{ascii}
+use Rattle.lines.specs.Lines.{lineAt}
+use Rattle.lines.specs.Reading.{Onward, drops}
+use Rattle.lines.specs.Steps.{behind}
 use Rattle.lines.proofs.LineLaws.{span-le}
-use Rattle.lines.proofs.ReadLaws.{drops-end, drops-bad, drops-refused, drops-done, ran}
+use Rattle.lines.proofs.NumberSizes.{number-below}
+use Rattle.lines.proofs.ReadLaws.{drops-end, drops-bad, drops-refused, drops-done}
 use Rattle.lines.proofs.read.drops.Statement.{statement}
 use Rattle.lines.proofs.read.drops.Tie as tie
 
 abbrev Inv-loop : tie.InvT-loop
 Inv-loop input from place y₀ r₀ at₀ p₀ t13 y r at p =
-    (p + from ≤ place + at) × (length y ≡ length y₀) × (drops place r₀ y₀ (lines (drop from input)) ≡ drops p r y (lines (drop at input)))
+    (p + from ≤ place + at) × (length y ≡ length y₀) × ((rest : Onward) → drops rest place r₀ y₀ (behind input from) ≡ drops rest p r y (behind input at))
 
 abbrev μ-loop : tie.MeasureT-loop
 μ-loop input from place y₀ r₀ at₀ p₀ t13 y r at p = length input - at
 
 loop-holds : tie.Need-loop-holds Inv-loop μ-loop
-loop-holds c = (omega arith, refl, refl)
+loop-holds c = (omega arith, refl, λ rest. refl)
 
 slice-aggregate-number-at : tie.Need-slice-aggregate-number-at Inv-loop μ-loop
 slice-aggregate-number-at c = search needs
@@ -39,13 +42,20 @@ same-length c = c .before .before .before .before .before .loop .inv .1
 
 returns : tie.Need-returns Inv-loop μ-loop
 returns c =
-    let v = c .before .before in
-    let t = v .before .before in
-    let l = t .before .loop in
-    let s = t .before .before .before .before in
-    ran
-    (l .inv .2
-    ∙ drops-bad (s .args .input .now) (l .at) (l .p) (l .r) (l .y) (t .loop-test .taken) (sym (v .number-at .ensures) ∙ c .enum-told .given .1))
+    let t = c .before .before in
+    let u = t .before .before in
+    let v = u .before in
+    let s = v .before .before .before in
+    let l = v .loop in
+    λ rest. l .inv .2 rest ∙ drops-bad rest (s .args .input .now) (l .at) (l .p) (l .r) (l .y) (u .loop-test .taken) (sym (t .number-at .ensures) ∙ c .enum-told .given .1)
+
+cast-take-bus : tie.Need-cast-take-bus Inv-loop μ-loop
+cast-take-bus c =
+    let s = c .before .before in
+    let t = s .before .before in
+    let u = t .before .before .before in
+    let v = u .before .before .before in
+    omega (arith, number-below (ascii "drop ") (lineAt (v .args .input .now) (u .loop .at)) (s .bus .given .0 .0) (sym (t .number-at .ensures) ∙ s .bus .given .1))
 
 take-bus-requires : tie.Need-take-bus-requires Inv-loop μ-loop
 take-bus-requires c κs = search needs
@@ -58,30 +68,18 @@ same-length-2 c = search needs
 
 returns-2 : tie.Need-returns-2 Inv-loop μ-loop
 returns-2 c =
-    let a = c .before in
-    let tb = a .before .before .before .before .before in
-    let b = tb .before .before .before in
-    let v = b .before .before in
-    let t = v .before .before in
-    let l = t .before .loop in
-    let s = t .before .before .before .before in
-    ran
-    (l .inv .2
-    ∙ drops-refused
-    (s .args .input .now)
-    (l .at)
-    (l .p)
-    (l .r)
-    (l .y)
-    (t .loop-test .taken)
-    (b .bus .given .0 .0)
-    (sym (v .number-at .ensures) ∙ b .bus .given .1)
-    (tb .take-bus .result)
-    (tb .take-bus .last .1 .0)
-    (tb .take-bus .ensures .0)
-    (tb .take-bus .ensures .1)
-    (a .answer .given .0 .0)
-    (a .answer .given .1))
+    let t = c .before .before .before .before .before .before in
+    let u = t .before .before .before in
+    let v = u .before .before in
+    let w = v .before .before in
+    let x = w .before in
+    let s = x .before .before .before in
+    let l = x .loop in
+    let b = u .bus in
+    let o = t .take-bus in
+    λ rest.
+    l .inv .2 rest
+    ∙ drops-refused rest (s .args .input .now) (l .at) (l .p) (l .r) (l .y) (w .loop-test .taken) (b .given .0 .0) (sym (v .number-at .ensures) ∙ b .given .1) (o .result) (o .last .1 .0) (o .ensures .0) (o .ensures .1) (c .before .answer .given .0 .0) (c .before .answer .given .1)
 
 enum-told-2 : tie.Need-enum-told-2 Inv-loop μ-loop
 enum-told-2 c = search needs
@@ -90,15 +88,14 @@ line-end-requires : tie.Need-line-end-requires Inv-loop μ-loop
 line-end-requires c κs = omega arith
 
 -- the line ends within the input
-within : (c : tie.After-line-end Inv-loop μ-loop)
-    → (c .line-end .result ≤ length (c .before .before .before .before .before .before .before .before .before .before .before .before .before .before .before .before .before .args .input .now))
-    × (c .before .before .before .before .before .before .before .before .before .before .before .before .before .before .loop .at ≤ c .line-end .result)
+within : (c : tie.After-line-end Inv-loop μ-loop) → (c .line-end .result ≤ length (c .before .before .before .before .before .before .before .before .before .before .before .before .before .before .before .before .before .args .input .now)) × (c .before .before .before .before .before .before .before .before .before .before .before .before .before .before .loop .at ≤ c .line-end .result)
 within c =
-    let t = c .before .before .before .before .before .before .before .before .before .before .before .before .before in
-    let l = t .before .loop in
-    let s = t .before .before .before .before in
-    let d = s .args .input .now in
-    let h = t .loop-test .taken in
+    let s = c .before .before .before .before .before .before .before .before .before .before .before .before .before in
+    let t = s .before in
+    let u = t .before .before .before in
+    let l = t .loop in
+    let d = u .args .input .now in
+    let h = s .loop-test .taken in
     (omega (arith, h, c .line-end .ensures, span-le (drop (l .at) d), length-drop (l .at) d), omega (arith, c .line-end .ensures))
 
 add-at : tie.Need-add-at Inv-loop μ-loop
@@ -108,42 +105,34 @@ add-at c =
 
 add-p : tie.Need-add-p Inv-loop μ-loop
 add-p c =
-    let t = c .before .before .before .before .before .before .before .before .before .before .before .before .before in
-    let s = t .before .before .before .before in
-    omega (arith, t .loop-test .taken, t .before .loop .inv .0, s .good .0 .1, s .pre)
+    let s = c .before .before .before .before .before .before .before .before .before .before .before .before .before in
+    let t = s .before in
+    let u = t .before .before .before in
+    omega (arith, s .loop-test .taken, t .loop .inv .0, u .good .0 .1, u .pre)
 
 loop-less : tie.Need-loop-less Inv-loop μ-loop
 loop-less c =
-    let t = c .before .before .before .before .before .before .before .before .before .before .before .before .before in
-    omega (arith, t .loop-test .taken, within c .1)
+    let s = c .before .before .before .before .before .before .before .before .before .before .before .before .before in
+    omega (arith, s .loop-test .taken, within c .1)
 
 loop-again : tie.Need-loop-again Inv-loop μ-loop
 loop-again c =
-    let e = c .before in
-    let tb = e .before .before .before .before .before in
-    let b = tb .before .before .before in
-    let v = b .before .before in
-    let t = v .before .before in
-    let l = t .before .loop in
-    let s = t .before .before .before .before in (
+    let t = c .before .before .before .before .before .before in
+    let u = t .before .before .before in
+    let v = u .before .before in
+    let w = v .before .before in
+    let x = w .before in
+    let s = x .before .before .before in
+    let l = x .loop in
+    let b = u .bus in
+    let o = t .take-bus in
+    let d = s .args .input .now in (
       omega (arith, l .inv .0, within c .1),
-      tb .take-bus .kept .1 .0 ∙ l .inv .1,
-      l .inv .2
-          ∙ drops-done
-          (s .args .input .now)
-          (l .at)
-          (l .p)
-          (l .r)
-          (l .y)
-          (t .loop-test .taken)
-          (b .bus .given .0 .0)
-          (sym (v .number-at .ensures) ∙ b .bus .given .1)
-          (tb .take-bus .result)
-          (tb .take-bus .last .1 .0)
-          (tb .take-bus .ensures .0)
-          (tb .take-bus .ensures .1)
-          (e .enum-told2 .given .1)
-          ∙ ap (λ (k : ℕ). drops (l .p + 1) (tb .take-bus .result .rec) (tb .take-bus .last .1 .0) (lines (drop (k + 1) (s .args .input .now)))) (sym (c .line-end .ensures)),
+      o .kept .1 .0 ∙ l .inv .1,
+      λ rest.
+          l .inv .2 rest
+          ∙ drops-done rest d (l .at) (l .p) (l .r) (l .y) (w .loop-test .taken) (b .given .0 .0) (sym (v .number-at .ensures) ∙ b .given .1) (o .result) (o .last .1 .0) (o .ensures .0) (o .ensures .1) (c .before .enum-told2 .given .1)
+          ∙ ap (λ (k : ℕ). drops rest (l .p + 1) (o .result .rec) (o .last .1 .0) (behind d (k + 1))) (sym (c .line-end .ensures)),
     )
 
 same-length-3 : tie.Need-same-length-3 Inv-loop μ-loop
@@ -152,8 +141,7 @@ same-length-3 c = c .before .loop .inv .1
 returns-3 : tie.Need-returns-3 Inv-loop μ-loop
 returns-3 c =
     let l = c .before .loop in
-    let s = c .before .before .before .before in
-    ran (l .inv .2 ∙ drops-end (s .args .input .now) (l .at) (l .p) (l .r) (l .y) (c .loop-test .left))
+    λ rest. l .inv .2 rest ∙ drops-end rest (c .before .before .before .before .args .input .now) (l .at) (l .p) (l .r) (l .y) (c .loop-test .left)
 
 pub drops-spec : {M : Type 1} → statement M
 drops-spec =
@@ -168,6 +156,7 @@ drops-spec =
     enum-told
     same-length
     returns
+    cast-take-bus
     take-bus-requires
     enum-known-answer
     same-length-2

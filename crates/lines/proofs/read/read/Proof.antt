@@ -1,117 +1,85 @@
--- `lines::read::read` meets its contract: the first line, then the rest.
+-- `lines::read::read` meets its contract: the reducer, then the drops.
 -- Assumes nothing.
-use Prim.Native.Nat.{ℕ, _+_, _*_}
-use mathlib.Core.Path.{refl, sym, ap, _∙_}
-use mathlib.Core.List.{[]}
+use Prim.Native.Nat.{_*_}
+use mathlib.Core.Path.{_≡_, sym, ap, subst, _∙_}
+use mathlib.Core.List.{List, _++_}
 use native.Mathlib.Omega.{arith}
-use lib.ListN.{drop, length-drop}
-use Rattle.lines.specs.Lines.{lines}
-use Rattle.lines.specs.Reading.{most, entries}
-use Rattle.lines.proofs.LineLaws.{span-le}
-use Rattle.lines.proofs.ReadLaws.{ran-in, ran-as, ran-same, run-none, run-bad, run-over, run-go}
+use lib.ListN.{length, take, drop}
+use lib.Ieee.{Float}
 use borrow.Author.Needs.{needs}
+use Rattle.lines.specs.declared.read.End.the-variants.{BadLine}
+use Rattle.lines.specs.declared.read.Next.{Next}
+use Rattle.lines.specs.Reading.{Run, ended, drops, finish, run}
+use Rattle.lines.specs.Steps.{onNext, behind, placeBehind, Full, Ended}
+use Rattle.lines.proofs.ReadLaws.{ran-in, ran-on, front-is′}
 use Rattle.lines.proofs.read.read.Statement.{statement}
 use Rattle.lines.proofs.read.read.Tie as tie
 
-bad-requires : tie.Need-bad-requires
-bad-requires c κs = search needs
+made-requires : tie.Need-made-requires
+made-requires c κs = search needs
 
-returns : tie.Need-returns
-returns c =
-    let t = c .before in
-    ran-as (c .bad .ensures) (ran-in (run-none (t .before .before .before .args .input .now) (t .if1 .taken)) refl)
+enum-known-next : tie.Need-enum-known-next
+enum-known-next c = search needs
 
-slice-aggregate-number-at : tie.Need-slice-aggregate-number-at
-slice-aggregate-number-at c = search needs
+enum-known-next-2 : tie.Need-enum-known-next-2
+enum-known-next-2 c = search needs
 
-number-at-requires : tie.Need-number-at-requires
-number-at-requires c κs = search needs
-
-enum-known-n : tie.Need-enum-known-n
-enum-known-n c = search needs
-
-enum-told : tie.Need-enum-told
-enum-told c = search needs
-
-bad-requires-2 : tie.Need-bad-requires-2
-bad-requires-2 c κs = search needs
-
-returns-2 : tie.Need-returns-2
-returns-2 c =
-    let e = c .before in
-    let v = e .before .before in
-    let t = v .before .before in
-    let s = t .before .before .before in
-    ran-as (c .bad2 .ensures)
-    (ran-in (run-bad (s .args .input .now) (omega (arith, t .if1 .left)) (sym (v .number-at .ensures) ∙ e .enum-told .given .1)) refl)
-
-bad-requires-3 : tie.Need-bad-requires-3
-bad-requires-3 c κs = search needs
-
-returns-3 : tie.Need-returns-3
-unfolding most
-returns-3 c =
-    let o = c .before in
-    let m = o .before .before in
-    let v = m .before .before in
-    let t = v .before .before in
-    let s = t .before .before .before in
-    ran-as (c .bad3 .ensures)
-    (ran-in (run-over (s .args .input .now) (omega (arith, t .if1 .left)) (m .n .given .0 .0) (sym (v .number-at .ensures) ∙ m .n .given .1) (o .if2 .taken)) refl)
-
-line-end-requires : tie.Need-line-end-requires
-line-end-requires c κs = search needs
-
-add-entries : tie.Need-add-entries
-add-entries c =
-    let s = c .before .before .before .before .before .before .before .before .before .before in
-    omega (arith, c .line-end .ensures, span-le (drop 0 (s .args .input .now)), length-drop 0 (s .args .input .now), s .good .0 .0)
-
-entries-requires : tie.Need-entries-requires
-unfolding most
-entries-requires c κs =
-    let e = c .before in
-    let s = e .before .before .before .before .before .before .before .before .before .before in (
-      e .before .if2 .left,
-      s .pre,
-      omega (arith, e .line-end .ensures, span-le (drop 0 (s .args .input .now)), length-drop 0 (s .args .input .now)),
-    )
+after-entries-requires : tie.Need-after-entries-requires
+after-entries-requires c κs =
+    let s = c .before .before .before .before .before .before .before in
+    let t = s .before .before .before .before in
+    (s .made .ensures .few, omega (arith, s .made .kept .1 .0, t .pre))
 
 same-length : tie.Need-same-length
 same-length c = search needs
 
-returns-4 : tie.Need-returns-4
-unfolding most
-returns-4 c =
-    let d = c .before .before in
-    let e = d .before .before in
-    let o = e .before in
-    let m = o .before .before in
-    let v = m .before .before in
-    let t = v .before .before in
-    let s = t .before .before .before in
-    let n = m .n .given .0 .0 in
-    ran-same
-    (run-go (s .args .input .now) (omega (arith, t .if1 .left)) n (sym (v .number-at .ensures) ∙ m .n .given .1) (o .if2 .left)
-    ∙ ap (λ (k : ℕ). entries n (n * n) 2 [] (lines (drop (k + 1) (s .args .input .now)))) (sym (e .line-end .ensures)))
-    (d .entries .ensures)
+returns : tie.Need-returns
+unfolding run
+returns c =
+    let s = c .before .before .before .before .before .before in
+    let t = s .before .before .before .before in
+    let B = s .made .ensures in
+    let o = s .made .result in
+    let d = t .args .input .now in
+    ran-in
+    (B .goes (drops finish)
+    ∙ ap (λ (x : Next). onNext x (λ at. drops finish (placeBehind (o .n)) (o .rec) (B .ys) (behind d at)) (λ p. ended (BadLine p) (o .rec) (B .ys))) (c .before .next .given .1))
+    (B .leaves)
+
+same-length-2 : tie.Need-same-length-2
+same-length-2 c = search needs
+
+returns-2 : tie.Need-returns-2
+unfolding run
+returns-2 c =
+    let s = c .before .before in
+    let u = s .before .before .before in
+    let v = u .before .before .before .before .before in
+    let w = v .before .before .before .before in
+    let B = v .made .ensures in
+    let o = v .made .result in
+    let n = o .n in
+    let ys = B .ys in
+    let d = w .args .input .now in
+    let M = w .args .matrix .now in
+    let t = u .next2 .given .1 in
+    let at = u .next2 .given .0 .0 in
+    let full : length ys ≡ 2 * (n * n) = subst (Full n ys) t (B .full) in
+    ran-on ys (2 * (n * n)) full
+    (B .goes (drops finish)
+    ∙ ap (λ (x : Next). onNext x (λ at. drops finish (placeBehind n) (o .rec) ys (behind d at)) (λ p. ended (BadLine p) (o .rec) ys)) t
+    ∙ ap (λ (zs : List Float). drops finish (placeBehind n) (o .rec) zs (behind d at)) (sym (ap (take (2 * (n * n))) (B .leaves) ∙ front-is′ ys (drop (length ys) M) (2 * (n * n)) full)))
+    (subst (λ (zs : List Float). Ended zs (2 * (n * n)) (drops finish (placeBehind n) (o .rec) (take (2 * (n * n)) (v .made .last .1 .0)) (behind d at)) (s .after-entries .result) (s .after-entries .last .1 .1 .1 .1 .0)) (B .leaves) (s .after-entries .ensures))
 
 pub read-spec : {M : Type 1} → statement M
 read-spec =
     tie.close
     (tie.spec
-    bad-requires
-    returns
-    slice-aggregate-number-at
-    number-at-requires
-    enum-known-n
-    enum-told
-    bad-requires-2
-    returns-2
-    bad-requires-3
-    returns-3
-    line-end-requires
-    add-entries
-    entries-requires
+    made-requires
+    enum-known-next
+    enum-known-next-2
+    after-entries-requires
     same-length
-    returns-4)
+    returns
+    same-length-2
+    returns-2)

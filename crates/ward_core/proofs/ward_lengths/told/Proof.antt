@@ -3,8 +3,8 @@
 use mathlib.Core.Path.{sym, _∙_}
 use borrow.Author.Needs.{needs}
 use borrow.Author.Tests.{eq-eqb, ne-eqb}
-use Rattle.ward_studies.specs.WardCalls.{crowded, uneven, told}
-use Rattle.ward_studies.proofs.WardTold.{few}
+use Rattle.ward_core.specs.WardLengths.{crowded, uneven, told}
+use Rattle.ward_core.proofs.WardTold.{few}
 use Rattle.ward_core.proofs.ward_lengths.told.Statement.{statement}
 use Rattle.ward_core.proofs.ward_lengths.told.Tie as tie
 
@@ -18,7 +18,7 @@ returns c = rw (sym (c .before .crowded .ensures) ∙ c .if1 .taken)
 uneven-requires : tie.Need-uneven-requires
 uneven-requires c κs =
     let a = c .before .before .args in
-    let f = few (a .n) (a .i) (a .e) (a .b) (a .p) (a .q) (sym (c .before .crowded .ensures) ∙ c .if1 .left) in
+    let f = few (a .n) (a .c) (a .i) (a .e) (a .b) (a .p) (a .q) (sym (c .before .crowded .ensures) ∙ c .if1 .left) in
     (f .size, f .internal, f .external, f .boundary)
 
 returns-2 : tie.Need-returns-2

@@ -3,8 +3,8 @@
 use mathlib.Core.Path.{sym, _∙_}
 use borrow.Author.Needs.{needs}
 use borrow.Author.Tests.{lt-ltb, le-ltb, eq-eqb, ne-eqb}
-use Rattle.ward_studies.specs.WardCalls.{toldX}
-use Rattle.ward_studies.proofs.WardTold.{few}
+use Rattle.ward_core.specs.WardLengths.{toldX}
+use Rattle.ward_core.proofs.WardTold.{few}
 use Rattle.ward_core.proofs.ward_lengths.told_extended.Statement.{statement}
 use Rattle.ward_core.proofs.ward_lengths.told_extended.Tie as tie
 
@@ -22,7 +22,7 @@ returns-2 c = simp (sym (c .before .before .crowded .ensures) ∙ c .before .if1
 uneven-requires : tie.Need-uneven-requires
 uneven-requires c κs =
     let a = c .before .before .before .args in
-    let f = few (a .n) (a .i) (a .e) (a .b) (a .p) (a .q) (sym (c .before .before .crowded .ensures) ∙ c .before .if1 .left) in
+    let f = few (a .n) (a .c) (a .i) (a .e) (a .b) (a .p) (a .q) (sym (c .before .before .crowded .ensures) ∙ c .before .if1 .left) in
     (f .size, f .internal, f .external, f .boundary)
 
 returns-3 : tie.Need-returns-3

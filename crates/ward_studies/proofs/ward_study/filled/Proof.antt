@@ -14,7 +14,7 @@ use Rattle.ward_studies.specs.declared.WardAnswer.the-variants.{Done}
 use Rattle.ward_products.specs.WardArithmetic.{injectedP, injectedQ}
 use Rattle.ward_products.specs.WardWork.{product}
 use Rattle.ward_studies.specs.WardCalls.{filledBy}
-use Rattle.ward_studies.proofs.Scans.{rest-is}
+use Rattle.buses.proofs.Scans.{rest-is}
 use Rattle.ward_studies.proofs.WardSolved.{listing-take, listing-drop}
 use Rattle.ward_studies.proofs.WardStudied.{same-after, matrix-of}
 use Rattle.ward_studies.proofs.ward_study.filled.Statement.{statement}

@@ -1,0 +1,2 @@
+pub mod WardLengths
+pub mod WardNumbers
