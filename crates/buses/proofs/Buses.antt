@@ -78,17 +78,6 @@ stays a ks (x ∷ xs) h = go (mem x ks) (λ (t : x isOneOf ks). t) (λ (t : a is
       | inr t ↦ (in-tail a x xs (ih t .0), ih t .1)
     ]
 
-pub remains : (a : ℕ) (ks xs : List ℕ) → a isOneOf xs → (a isOneOf ks → ⊥) → a isOneOf others ks xs
-unfolding others
-remains a ks [] h out = absurd h
-remains a ks (x ∷ xs) h out = go (mem x ks) (λ (t : T (mem x ks)). t) (λ (t : a isOneOf xs). remains a ks xs t out) (or-cases (eqb a x) (mem a xs) h)
-  where
-    go : (b : Bool) → (T b → x isOneOf ks) → (a isOneOf xs → a isOneOf others ks xs) → T (eqb a x) ⊎ (a isOneOf xs) → a isOneOf cond b (others ks xs) (x ∷ others ks xs)
-    go true f ih (inl t) = absurd (out (subst (λ (z : ℕ). z isOneOf ks) (sym (eqb→eq a x t)) (f tt)))
-    go true f ih (inr t) = ih t
-    go false f ih (inl t) = or-left (eqb a x) (mem a (others ks xs)) t
-    go false f ih (inr t) = or-right (eqb a x) (mem a (others ks xs)) (ih t)
-
 pub others-nil : (xs : List ℕ) → others [] xs ≡ xs
 unfolding others
 others-nil [] = refl
@@ -171,12 +160,6 @@ rising-snoc (x ∷ xs) n r h = rising-cons x (xs ++ (n ∷ [])) above (rising-sn
       | inl t ↦ rising-above x xs r k t
       | inr t ↦ elim (in-cases k n [] t) [ inl p ↦ rw p (h x (in-head x xs)) | inr u ↦ absurd u ]
     ]
-
-pub rising-lt : (xs : List ℕ) → T (rising xs) → (i j : ℕ) → i < j → j < length xs → getD xs i 0 < getD xs j 0
-rising-lt [] r i j h l = absurd (not-suc-le-zero l)
-rising-lt (x ∷ xs) r i zero h l = absurd (not-suc-le-zero h)
-rising-lt (x ∷ xs) r zero (suc j) h l = rising-above x xs r (getD xs j 0) (getD-in xs j (le-of-suc-le-suc l))
-rising-lt (x ∷ xs) r (suc i) (suc j) h l = rising-lt xs (rising-tail x xs r) i j (le-of-suc-le-suc h) (le-of-suc-le-suc l)
 
 -- rising buses from lo up, below n
 rising-room : (lo n : ℕ) (xs : List ℕ) → lo ≤ n → T (rising xs) → ((k : ℕ) → k isOneOf xs → lo ≤ k) → T (allBelow n xs) → length xs + lo ≤ n

@@ -1,19 +1,19 @@
 -- Numbers name rows: where no number stands twice, each row has one number and each number one row. What is asked of buses by number is asked of their rows.
 -- Assumes nothing.
 use mathlib.Core.Path.{_≡_, refl, sym, ap, ap₂, subst, _∙_}
-use mathlib.Core.Bool.{Bool, true, false, not, _&&_, _||_, cond}
-use mathlib.Core.Logic.{_⊎_, inl, inr}
+use mathlib.Core.Bool.{Bool, true, false, _&&_, _||_, cond}
+use mathlib.Core.Logic.{inl, inr}
 use mathlib.Core.List.{List, [], _∷_, _++_}
-use Prim.Native.Nat.{ℕ, zero, suc, _≤_, _<_}
-use native.Mathlib.Nat.{lt-irrefl, le-of-suc-le-suc, not-suc-le-zero}
+use Prim.Native.Nat.{ℕ, zero, suc, _<_}
+use native.Mathlib.Nat.{le-of-suc-le-suc, not-suc-le-zero}
 use native.Mathlib.Omega.{arith}
-use lib.Dec.{T, eqb, ltb, eqb→eq, eqb-refl, lt→ltb}
+use lib.Dec.{T, eqb, ltb, eqb→eq, eqb-refl}
 use lib.ListN.{length, getD}
-use lib.Ieee.Fits.{and-i, and-l, and-r, eq→eqb}
+use lib.Ieee.Fits.{and-l, and-r, eq→eqb}
 use lib.Ieee.Bits.{is-true}
 use borrow.Author.Tests.{ne-eqb, lt-ltb, le-ltb}
 use Rattle.buses.specs.Buses.{mem, _isOneOf_, place, allBelow, repeats, within, rowsIn}
-use Rattle.buses.proofs.Buses.{or-cases, or-left, or-right, in-head, in-tail, in-cases, in-or-out, getD-in, place-lt, place-none, getD-place}
+use Rattle.buses.proofs.Buses.{in-or-out, getD-in, place-lt, place-none, getD-place}
 
 -- ---- a list that repeats none
 

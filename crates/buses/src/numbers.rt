@@ -1,7 +1,6 @@
 // The numbers that buses have on a drawing, one for each row: looked up, and looked through for one that stands twice.
 use crate::Found;
 ghost use mathlib.Core.Path.{_≡_};
-ghost use Prim.Native.Nat.{_≤_};
 ghost use lib.ListN.{length};
 ghost use Rattle.buses.specs.Buses as buses;
 

@@ -24,9 +24,6 @@ use Rattle.claims.specs.Accounts.{Call, bus, buses, stepHeld, leftFrom, 
 pub made-has : (M : Making) → Made M → Makes (M .size) (M .given) (M .numbers)
 made-has M h = makes-has (M .size) (M .given) (M .numbers) (eqb→eq (makingRefusal M) 0 h)
 
-pub made-small : (M : Making) → Made M → M .size ≤ limit
-made-small M h = made-has M h .size
-
 pub made-length : (M : Making) → Made M → length (M .given) ≡ 2 * (M .size * M .size)
 made-length M h = made-has M h .slice
 

@@ -21,7 +21,7 @@ use Rattle.kron_rows.specs.Removal.{padded}
 use Rattle.kron_rows.proofs.States.{Accepted, accepted-active}
 use Rattle.kron_core.specs.Reducer.{Making, Made, Held, laid}
 use Rattle.kron_core.specs.Reading.{activeNumbers}
-use Rattle.claims.specs.Accounts.{Call, buses, left, Account, fresh, stateOf, removes, account, kept, rowAt, busAt, numbersAt}
+use Rattle.claims.specs.Accounts.{Call, bus, buses, left, Account, fresh, stateOf, removes, account, kept, rowAt, busAt, numbersAt}
 use Rattle.claims.specs.ByNumber.{oldBetween, AlikeByNumber}
 use Rattle.claims.proofs.Bridge.{made-has, account-size, account-numbers, regular-state, left-is, all-accepted, kept-is}
 
@@ -141,6 +141,10 @@ taken-by-row n s (k ∷ ks) h = elim (in-or-out k (upTo n)) [
   | inl m ↦ rw (row-place n k (below-upTo n k m)) (ap (λ (ts : List ℕ). cond (accepts s k) (k ∷ ts) []) (taken-by-row n (remove s k) ks (all-below-others n (k ∷ []) (s .active) h)))
   | inr m ↦ rw (place-none k (upTo n) m ∙ length-upTo n, refused s n (λ (t : n isOneOf s .active). lt-irrefl n (below-all n (s .active) h n t)), refused s k (λ (t : k isOneOf s .active). m (in-upTo n k (below-all n (s .active) h k t)))) refl
 ]
+
+pub removes-bus-by-row : (a : Account) → a .numbers ≡ upTo (a .size) → (k : ℕ) → removes a (bus k) ≡ taken (stateOf a) (k ∷ [])
+unfolding removes
+removes-bus-by-row a e k = ap (λ (ns : List ℕ). taken (stateOf a) (rowsIn ns (k ∷ []))) e ∙ taken-by-row (a .size) (stateOf a) (k ∷ []) (regular-state a .below)
 
 pub removes-by-row : (a : Account) → a .numbers ≡ upTo (a .size) → (ks : List ℕ) → removes a (buses ks) ≡ cond (leb (length ks) limit) (taken (stateOf a) ks) []
 unfolding removes

@@ -1,4 +1,5 @@
-// Kron reduction as the Rust offers it: the record changed behind a `&mut`, over the cores by value.
+// Kron reduction as the Rust offers it: the record changed behind a `&mut`, over the cores by value. Buses are named by the numbers given
+// at making; admittances are in per unit.
 pub use kron_core::Impedance;
 pub use kron_core::KronReducer;
 pub use kron_core::NewReducer;

@@ -3,7 +3,7 @@ use Prim.Native.Nat.{ℕ, _*_, _-_}
 use mathlib.Core.Bool.{Bool, not, _&&_, _||_, cond}
 use mathlib.Core.List.{List, [], _∷_, _++_}
 use lib.Dec.{T, eqb, leb, ltb}
-use lib.ListN.{length, take, drop, replicate}
+use lib.ListN.{length, take, drop}
 use lib.Ieee.{Float}
 use Rattle.complex.specs.Matrices.{Matrix, upTo, entryAt, rows, zeros}
 use Rattle.refusals.specs.Refusals.{limit, tooMany, wrongLength, busTwice, badRecord, refuse, outcome}

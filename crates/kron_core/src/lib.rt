@@ -34,7 +34,7 @@ mod thevenin;
 
 const ROW: usize = 2 * LIMIT;
 
-// The size at making, the present size, the active buses by their rows at making, rising, and the number of each of these rows;
+// The size at making, the present size, the active buses by their rows at making, rising, and the number of each row at making;
 // 0 in the places behind both. Only here a bus is a row: the calls and their answers, `active_buses` too, name it by number.
 pub struct KronReducer {
     pub made: usize,

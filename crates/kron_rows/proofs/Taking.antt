@@ -1,7 +1,7 @@
 -- What one removal, and a list of them, answers and leaves, from what the code finds: the row of the bus, its own entry, the places and the rows closed up.
 -- Assumes nothing.
 use mathlib.Core.Path.{_≡_, refl, sym, ap, ap₂, _∙_}
-use mathlib.Core.Bool.{Bool, true, false, cond}
+use mathlib.Core.Bool.{true, false}
 use mathlib.Core.List.{List, [], _∷_, _++_, append-nil, append-assoc}
 use Prim.Native.Nat.{ℕ, suc, _+_, _*_, _-_, _≤_, _<_}
 use native.Mathlib.Nat.{le-trans, add-zero, mul-le-mul, mul-le-mul-left}
@@ -16,7 +16,7 @@ use lib.Ieee.Bits.{is-true}
 use Rattle.complex.specs.Matrices.{entryAt}
 use Rattle.refusals.specs.Refusals.{limit, notActive, smallEntry}
 use Rattle.buses.specs.declared.Found.the-variants.{At, Nothing}
-use Rattle.buses.specs.Buses.{mem, _isOneOf_, place, rising, foundIn}
+use Rattle.buses.specs.Buses.{mem, _isOneOf_, rising, foundIn}
 use Rattle.kron_rows.specs.Kron.{kron, State, remove, tooSmall, refusal, accepts, eliminate, taken, stop}
 use Rattle.kron_rows.specs.Removal.{kept, padded, shown, Shows, Holds, TookOne, TookAll}
 use Rattle.buses.proofs.Buses.{place-lt, rising-others}

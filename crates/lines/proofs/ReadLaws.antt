@@ -35,7 +35,7 @@ use Rattle.words.specs.Bytes.{Bytes}
 use Rattle.words.specs.Words.{decimalOf, spare}
 use Rattle.words.proofs.WordSizes.{not-is}
 use Rattle.lines.specs.Lines.{lines, span, lineAt, busesOf, numberOf, dropOf, entryOf}
-use Rattle.lines.specs.Reading.{most, Run, ended, noReducer, Onward, onNumber, onOutcome, onEntry, ofWord, afterDrop, drops, finish, entries, badAt, named, first}
+use Rattle.lines.specs.Reading.{most, Run, ended, noReducer, Onward, onNumber, onOutcome, ofWord, afterDrop, drops, finish, entries, badAt, named, first}
 use Rattle.lines.specs.Steps.{noStart, behind, Begun, onStop, endOf, Ended, RanIn}
 use Rattle.lines.proofs.LineLaws.{lines-first, span-le, entry-length}
 

@@ -49,7 +49,7 @@ two-bus-finite : Finite (making two-bus) (calls two-bus)
 unfolding two-bus making busNumbers namesOf calls callsOf sizeOf numbersOf Lines.lines Lines.startsWith Lines.numberAfter Lines.entryOf Words.decimalOf Words.hexOf Reducer.makingRefusal Buses.repeats Buses.rowsIn Matrices.upTo Kron.eliminate Kron.taken Kron.refusal Kron.tooSmall Kron.kron Buses.others Buses.place Entries.entry Matrices.entryAt Arithmetic.cmul Arithmetic.csub Arithmetic.cdiv Constants.plus0 Ieee.ofBits Ieee.sub Ieee.mul Ieee.div Ieee.lt Accounts.fresh Accounts.stateOf Accounts.removes Accounts.step Accounts.accountFrom allFinite ofAccount Kron.ofRemovals Kron.ofRow Kron.ofRows
 two-bus-finite = record { made = tt; given = tt; computed = tt }
 
--- ---- two buses with nothing between them, and numbers that are no rows of theirs
+-- ---- two buses with nothing between them, neither with its own row as number
 
 apart : Bytes
 apart = ascii "buses 2\n7\n0\n3ff0000000000000 0000000000000000\n0000000000000000 8000000000000000\n0000000000000000 0000000000000000\n4000000000000000 0000000000000000\ndrop 0\n"

@@ -6,7 +6,7 @@ use Prim.Native.Nat.{ℕ, _*_}
 use native.Mathlib.Omega.{arith}
 use borrow.Author.Tests.{eq-eqb, ne-eqb}
 use lib.ListN.{length, take, drop, replicate, length-append, length-drop, drop-of-length-le}
-use lib.Seq.{take-all, take-at, drop-at, length-take-le}
+use lib.Seq.{take-at, drop-at, length-take-le}
 use Rattle.refusals.specs.Refusals.{limit}
 use Rattle.kron_core.specs.declared.KronReducer.{KronReducer}
 use Rattle.entry_slices.specs.Bytes.{word, words, putWord, ofWords}

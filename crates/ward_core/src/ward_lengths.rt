@@ -66,6 +66,8 @@ fn uneven(
     w != 2 * (e * (e + r + 1))
 }
 
+// The refusals 1, 2 and 3, or 0, of n buses with y numbers in the matrix and c bus numbers, i internal, e external and b boundary buses, p and q
+// injections, and the lengths of the slices that are written.
 pub fn told(
     n: usize,
     y: usize,

@@ -5,7 +5,7 @@ use complex::slices::clear;
 use elimination::gauss_jordan;
 use ward_products::ward_rows;
 ghost use mathlib.Core.Path.{_≡_};
-ghost use Prim.Native.Nat.{_+_, _*_, _<_, _≤_};
+ghost use Prim.Native.Nat.{_+_, _<_, _≤_};
 ghost use Rattle.refusals.specs.Refusals.{limit};
 ghost use Rattle.ward_studies.specs.Ward as ward;
 ghost use Rattle.ward_studies.specs.WardCalls as spec;

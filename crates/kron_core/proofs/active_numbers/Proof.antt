@@ -10,7 +10,6 @@ use Rattle.refusals.specs.Refusals.{limit}
 use Rattle.kron_rows.specs.Removal.{padded}
 use Rattle.kron_rows.proofs.Positions.{lt-or-ge, written-more}
 use Rattle.kron_rows.proofs.Showing.{getD-zeros, length-padded, getD-padded, getD-behind}
-use Rattle.kron_core.specs.declared.KronReducer.{KronReducer}
 use Rattle.kron_core.specs.Reading.{activeNumbers}
 use Rattle.kron_core.proofs.Reducer.{sound-has}
 use Rattle.kron_core.proofs.Active.{count-numbers, number-at, row-below}

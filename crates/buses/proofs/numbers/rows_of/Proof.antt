@@ -1,10 +1,9 @@
 -- `buses::numbers::rows_of` meets its contract. The invariant: what stands before i are the rows of the buses passed.
 -- Assumes nothing.
-use mathlib.Core.Path.{_≡_, refl, sym, ap, _∙_}
-use mathlib.Core.List.{List, map}
-use Prim.Native.Nat.{ℕ, _+_, _-_, _≤_, _<_}
+use mathlib.Core.Path.{_≡_, refl, sym, _∙_}
+use Prim.Native.Nat.{ℕ, _-_, _≤_, _<_}
 use native.Mathlib.Omega.{arith}
-use lib.ListN.{length, getD, length-set, length-map}
+use lib.ListN.{length, getD, length-set}
 use lib.Seq.{ext-getD}
 use borrow.Author.Needs.{needs}
 use Rattle.buses.specs.Buses.{place, rowsIn}

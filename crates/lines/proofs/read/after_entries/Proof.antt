@@ -2,12 +2,11 @@
 -- Assumes nothing.
 use Prim.Native.Nat.{ℕ, _+_, _-_, _*_, _≤_}
 use mathlib.Core.Path.{_≡_, sym, ap, _∙_}
-use mathlib.Core.List.{List, _++_}
+use mathlib.Core.List.{_++_}
 use native.Mathlib.Omega.{arith}
 use native.Mathlib.Nat.{mul-le-mul, sub-zero}
 use lib.ListN.{length, take, drop}
 use lib.Seq.{length-front, length-take-le}
-use lib.Ieee.{Float}
 use borrow.Author.Needs.{needs}
 use Rattle.lines.specs.declared.read.End.{End}
 use Rattle.lines.specs.Reading.{most, Run, ended, drops, finish}

@@ -1,7 +1,5 @@
 -- `lines::read::end_of` meets its contract.
 -- Assumes nothing.
-use mathlib.Core.Path.{sym}
-use native.Mathlib.Omega.{arith}
 use borrow.Author.Tests.{lt-ltb, le-ltb}
 use borrow.Author.Needs.{needs}
 use Rattle.lines.proofs.read.end_of.Statement.{statement}

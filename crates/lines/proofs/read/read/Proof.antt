@@ -2,14 +2,14 @@
 -- Assumes nothing.
 use Prim.Native.Nat.{_*_}
 use mathlib.Core.Path.{_≡_, sym, ap, subst, _∙_}
-use mathlib.Core.List.{List, _++_}
+use mathlib.Core.List.{List}
 use native.Mathlib.Omega.{arith}
 use lib.ListN.{length, take, drop}
 use lib.Ieee.{Float}
 use borrow.Author.Needs.{needs}
 use Rattle.lines.specs.declared.read.End.the-variants.{BadLine}
 use Rattle.lines.specs.declared.read.Next.{Next}
-use Rattle.lines.specs.Reading.{Run, ended, drops, finish, run}
+use Rattle.lines.specs.Reading.{ended, drops, finish, run}
 use Rattle.lines.specs.Steps.{onNext, behind, placeBehind, Full, Ended}
 use Rattle.lines.proofs.ReadLaws.{ran-in, ran-on, front-is′}
 use Rattle.lines.proofs.read.read.Statement.{statement}
