@@ -1,7 +1,7 @@
 #!/usr/bin/env python3
-"""Writes the table of roots that the program crate `roots` reads: a line each, the bits of a number and of its root.
+"""Writes the table of roots that the program crate `root_replay` reads: a line each, the bits of a number and of its root.
 
-usage: python3 oracle/roots/make.py > crates/roots/stdin
+usage: python3 oracle/roots/make.py > crates/root_replay/stdin
 
 The answers are those of math.sqrt, which is the processor's own square root instruction, correctly rounded by IEEE 754.
 Every answer is checked here once more with whole numbers alone. A NaN is written 7ff8000000000000.

@@ -1,22 +1,17 @@
 -- Values that a format holds, up to the sign of a zero: x ≐ y where they are the same or both zero. The operations respect it.
 -- `≐→eq` and `eq→≐`: between finite values that fit it is the machine's ==.
--- Assumes nothing.
-use mathlib.Core.Path.{_≡_, refl, sym, ap, _∙_}
-use mathlib.Core.Logic.{_⊎_, inl, inr}
-use mathlib.Core.Bool.{Bool, true, false, not, _&&_, _||_, Bool·beq, true≢false}
-use Prim.Native.Nat.{ℕ, zero, suc, _+_, _-_, _*_, _/_, _%_, _^_, _≤_, _<_}
-use native.Mathlib.Nat.{zero-mul, mul-zero, zero-add, add-zero, sub-zero, mul-pos, mul-one, one-mul, mul-comm, mul-assoc, mul-left-comm, mul-right-comm, lt-irrefl, zero-lt-suc, lt-of-mul-lt-mul-right, not-le-of-lt, sub-add-cancel, mul-lt-mul-of-pos-right}
-use native.Mathlib.Omega.{arith}
-use lib.IntN.{ℤ, pos, negsuc}
-use lib.Dec.{T, leb, ltb, eqb, eqb→eq, ltb→lt, lt→ltb, leb→le, leb·suc-zero, eqb·suc-zero, eqb-refl}
-use borrow.Author.Tests.{le-ltb}
+use Rattle.prelude.proofs.Prelude.{_≡_, refl, sym, ap, _∙_, Bool, true, false, not, _&&_, _||_, _⊎_, inl, inr, ℕ, zero, suc, _+_, _-_, _*_, _≤_, _<_, arith, T, eqb, ltb, Float, nan, true≢false, _/_, _%_, _^_, zero-mul, zero-add, add-zero, sub-zero, mul-pos, mul-comm, lt-irrefl, zero-lt-suc, not-le-of-lt, mul-lt-mul-of-pos-right, ℤ, leb, eqb→eq, ltb→lt, lt→ltb, leb→le, le-ltb, inf, fin, Format, up, down, round, sum, neg, add, sub, mul, div, eq, binary64, fits, toBits, ofBits, and-i, and-l, and-r, down-pos, is-true, finite}
+use mathlib.Core.Bool.{Bool·beq}
+use native.Mathlib.Nat.{mul-zero, mul-one, one-mul, mul-assoc, mul-left-comm, mul-right-comm, lt-of-mul-lt-mul-right, sub-add-cancel}
+use lib.IntN.{pos, negsuc}
+use lib.Dec.{leb·suc-zero, eqb·suc-zero, eqb-refl}
 use lib.Pow.{pow-add, pow-pos, pow-lt}
-use lib.Ieee.{Float, nan, inf, fin, Format, prec, emax, low, up, down, unlike, round, sum, neg, add, sub, mul, div, eq, ne, binary64, fits, isNan, nanBits, toBits, ofBits}
-use lib.Ieee.Fits.{and-i, and-l, and-r, up-pos, down-pos, round-fits, neg-fits}
-use lib.Ieee.Bits.{ofBits-toBits, nanBits-above, is-true}
+use lib.Ieee.{prec, emax, low, unlike, ne, isNan, nanBits}
+use lib.Ieee.Fits.{up-pos, round-fits, neg-fits}
+use lib.Ieee.Bits.{ofBits-toBits, nanBits-above}
 use lib.Ieee.Exact.{HasValue, round-exact}
 use lib.Ieee.Nearest.{div-same}
-use lib.Ieee.Scale.{finite, round-same}
+use lib.Ieee.Scale.{round-same}
 
 -- ---- zero, of either sign
 

@@ -2,15 +2,11 @@
 --     square-not-negative, sum-not-negative  squares, and sums of two such numbers, are such numbers
 --     lt-asym, lt-irrefl                     where x is below y, y is not below x; no x is below itself
 --     lt-apart                               where x is below z, y is above x, below z, or NaN
--- Assumes nothing.
-use mathlib.Core.Path.{_≡_, refl, sym, subst}
-use mathlib.Core.Logic.{_⊎_, inl, inr}
-use mathlib.Core.Bool.{Bool, true, false, not, cond}
-use Prim.Native.Nat.{ℕ, zero, suc, _+_, _*_, _^_, _≤_, _<_}
-use native.Mathlib.Nat.{mul-right-comm, mul-le-mul-right, mul-lt-mul-of-pos-right, lt-of-mul-lt-mul-right, lt-of-le-of-lt, not-le-of-lt, le-of-lt}
-use lib.Dec.{T, T-not, not-T, ltb, ltb→lt, lt→ltb, nltb→le}
-use lib.Ieee.{Float, nan, inf, fin, Format, low, prec, emax, up, down, odd, units, round, sum, add, mul, lt}
-use lib.Ieee.Fits.{down-pos, round-is}
+use Rattle.prelude.proofs.Prelude.{_≡_, refl, sym, subst, Bool, true, false, not, cond, _⊎_, inl, inr, ℕ, zero, suc, _+_, _*_, _≤_, _<_, T, ltb, Float, nan, _^_, mul-le-mul-right, mul-lt-mul-of-pos-right, not-le-of-lt, ltb→lt, lt→ltb, inf, fin, Format, up, down, odd, units, round, sum, add, mul, lt, down-pos}
+use native.Mathlib.Nat.{mul-right-comm, lt-of-mul-lt-mul-right, lt-of-le-of-lt, le-of-lt}
+use lib.Dec.{T-not, not-T, nltb→le}
+use lib.Ieee.{low, prec, emax}
+use lib.Ieee.Fits.{round-is}
 
 abbrev pub NotNegative : Float → Type 0
 NotNegative nan = Unit {0}

@@ -1,11 +1,7 @@
 -- Some roots computed by the checker, by their bits, and what the second step hands on for them.
--- Assumes nothing.
-use mathlib.Core.Path.{_≡_, refl}
-use Prim.Native.Nat.{ℕ, _^_, _<_}
+use Rattle.prelude.proofs.Prelude.{_≡_, refl, ℕ, _<_, _^_, lit≤, lit<, binary64, odd, ofBits, ofFields, size, span, climb}
 use lib.Count.{trailingZeros}
-use lib.Dec.{lit≤, lit<}
-use lib.Ieee.{binary64, odd, ofBits, ofFields, size, span, climb}
-use Rattle.binary64.specs.Root.{Rooted, Steps, firstAlone, allThree, root, rootOf, radicand, half, wholeRoot, movedBack}
+use Rattle.binary64.specs.Root.{Rooted, RootSteps, firstAlone, allThree, root, rootOf, radicand, half, wholeRoot, movedBack}
 use Rattle.binary64.proofs.RootRounding.{nearest-whole}
 
 -- to open this is to open all that the cases compute with
@@ -45,18 +41,18 @@ three : (9 < 12) × (12 < 25)
 three = nearest-whole 1 2 (lit< tt) (lit≤ tt)
 
 -- by the three steps: of 2, of -0, of -1, whose root is NaN, and of infinity
-two-steps : Steps (ofBits binary64 0x4000000000000000) (ofBits binary64 0x3ff6a09e667f3bcd)
+two-steps : RootSteps (ofBits binary64 0x4000000000000000) (ofBits binary64 0x3ff6a09e667f3bcd)
 unfolding opened
 two-steps = allThree refl 6369051672525772 7192236498376048 538 (two .0) refl
 
-minus-zero : Steps (ofBits binary64 0x8000000000000000) (ofBits binary64 0x8000000000000000)
+minus-zero : RootSteps (ofBits binary64 0x8000000000000000) (ofBits binary64 0x8000000000000000)
 unfolding opened
 minus-zero = firstAlone refl
 
-minus-one : Steps (ofBits binary64 0xbff0000000000000) (ofBits binary64 0x7ff8000000000000)
+minus-one : RootSteps (ofBits binary64 0xbff0000000000000) (ofBits binary64 0x7ff8000000000000)
 unfolding opened
 minus-one = firstAlone refl
 
-infinite : Steps (ofBits binary64 0x7ff0000000000000) (ofBits binary64 0x7ff0000000000000)
+infinite : RootSteps (ofBits binary64 0x7ff0000000000000) (ofBits binary64 0x7ff0000000000000)
 unfolding opened
 infinite = firstAlone refl

@@ -1,21 +1,16 @@
 -- The whole root and its remainder: how many digits a number has, those of a number of binary64 and its bits, how they are moved for the whole
 -- root without loss, and what the second step promises by that (`rooted-of`, `rooted-only`).
--- Assumes nothing.
-use mathlib.Core.Path.{_≡_, refl, sym, ap, ap₂, subst₂, _∙_}
-use mathlib.Core.Bool.{Bool, true, false, not}
-use Prim.Native.Nat.{ℕ, zero, suc, _+_, _-_, _*_, _/_, _%_, _^_, _≤_, _<_}
-use native.Mathlib.Nat.{lt-trans, mod-eq-of-lt, pow-suc, one-le-pow, zero-add, sub-add-cancel, mul-pos, mul-assoc, mul-comm, mul-right-comm, zero-lt-suc, not-le-of-lt, lt-of-lt-of-le, lt-of-le-of-lt, le-trans, le-of-eq, mul-le-mul-right, mul-lt-mul-of-pos-right, lt-of-mul-lt-mul-right, mul-le-mul, eq-of-mul-eq-mul-right, div-eq-of-eq-mul-left, le-div-iff-mul-le}
-use native.Mathlib.Omega.{arith}
-use lib.IntN.{ℤ}
-use lib.Dec.{T, lit<, lit≤, eqb, ltb, leb, ltb→lt, leb→le}
+use Rattle.prelude.proofs.Prelude.{_≡_, refl, sym, ap, _∙_, Bool, true, false, not, ℕ, zero, suc, _+_, _-_, _*_, _≤_, _<_, arith, T, eqb, ltb, Float, nan, ap₂, _/_, _%_, _^_, zero-add, mul-pos, mul-comm, zero-lt-suc, not-le-of-lt, lt-of-lt-of-le, le-trans, le-of-eq, mul-le-mul-right, mul-lt-mul-of-pos-right, mul-le-mul, ℤ, lit<, lit≤, leb, ltb→lt, leb→le, inf, fin, binary64, up, down, size, fits, toBits, down-pos}
+use mathlib.Core.Path.{subst₂}
+use native.Mathlib.Nat.{lt-trans, mod-eq-of-lt, pow-suc, one-le-pow, sub-add-cancel, mul-assoc, mul-right-comm, lt-of-le-of-lt, lt-of-mul-lt-mul-right, eq-of-mul-eq-mul-right, div-eq-of-eq-mul-left, le-div-iff-mul-le}
 use lib.Count.{leadingZeros, leading-top}
 use lib.Pow.{shl-lt, pow-add, pow-pos, pow-mono}
-use lib.Ieee.{Float, nan, inf, fin, binary64, up, down, size, fits, isNan, toBits}
+use lib.Ieee.{isNan}
 use lib.Ieee.Digits.{size-lt, size-le, size-reaches}
-use lib.Ieee.Fits.{down-pos, kept-lt}
+use lib.Ieee.Fits.{kept-lt}
 use lib.Ieee.Positive.{num, den, positive, den-pos}
 use Rattle.binary64.specs.Root.{square, Rooted, count, half, radicand}
-use Rattle.binary64.specs.RootDigits.{Digits, Scaled, WholeRoot}
+use Rattle.binary64.specs.Inner.RootDigits.{Digits, Scaled, WholeRoot}
 use Rattle.binary64.proofs.Floats.{exponent, four}
 use Rattle.binary64.proofs.WholeRoots.{same-root, root-below, root-above}
 
@@ -192,9 +187,7 @@ radicand-is n m k d =
 pub rooted-of : (x : Float) (n m h q r : ℕ) → num x * 2 ^ 1074 ≡ n * den x → Scaled n m h → WholeRoot (m * 2 ^ 52) q r → Rooted x q r h
 rooted-of x n m h q r e s w =
     let M = m * 2 ^ 52 in
-    let enough = s .enough in
-    let few = s .few in
-    let small = w .small in
+    let enough = s .enough in let few = s .few in let small = w .small in
     record {
       exact = exact (num x) (den x) M (4 ^ h) (2 ^ 1074) (4 ^ 53) (4 ^ 590) e (s .exact) refl ∙ ap (λ (y : ℕ). y * 4 ^ h * den x) (sym (w .whole));
       rest = omega arith;

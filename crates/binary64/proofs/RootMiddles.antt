@@ -1,14 +1,7 @@
 -- On whole numbers: of the root of M = q * q + r and multiples of t, where nothing lies strictly between q t and (q + 1) t, the one that `nearestWhole` picks is
 -- on the root's side of every middle.
--- Assumes nothing.
-use mathlib.Core.Path.{_≡_, refl, sym}
-use mathlib.Core.Logic.{_⊎_, inl, inr}
-use mathlib.Core.Bool.{Bool, true, false, cond}
-use Prim.Native.Nat.{ℕ, _+_, _*_, _≤_, _<_}
-use native.Mathlib.Nat.{mul-pos, mul-le-mul, mul-le-mul-left, mul-le-mul-right, mul-lt-mul-of-pos-right, le-trans, le-of-eq, le-of-lt, lt-of-le-of-lt, lt-of-lt-of-le, not-le-of-lt}
-use native.Mathlib.Omega.{arith}
-use lib.Dec.{ltb}
-use borrow.Author.Tests.{ltb-true, ltb-false}
+use Rattle.prelude.proofs.Prelude.{_≡_, refl, sym, Bool, true, false, cond, _⊎_, inl, inr, ℕ, _+_, _*_, _≤_, _<_, arith, ltb, mul-pos, mul-le-mul, mul-le-mul-left, mul-le-mul-right, mul-lt-mul-of-pos-right, le-trans, le-of-eq, lt-of-lt-of-le, not-le-of-lt, ltb-true, ltb-false}
+use native.Mathlib.Nat.{le-of-lt, lt-of-le-of-lt}
 use Rattle.binary64.specs.Root.{square, nearestWhole}
 
 square-lt : (a b : ℕ) → a < b → a * a < b * b

@@ -1,21 +1,13 @@
 -- The root is the binary64 nearest the exact root, and nothing else is: `root-is` and `root-only`. It follows from what the three steps promise:
 -- `root-of-steps`.
--- Assumes nothing.
-use mathlib.Core.Path.{_≡_, refl, sym, ap, subst, _∙_}
-use mathlib.Core.Logic.{inl, inr}
-use mathlib.Core.Bool.{true, false}
-use Prim.Native.Nat.{ℕ, zero, suc, _+_, _-_, _*_, _^_, _≤_, _<_, zero-le}
-use native.Mathlib.Nat.{zero-mul, mul-pos, mul-assoc, mul-comm, mul-left-comm, mul-le-mul, mul-le-mul-left, mul-le-mul-right, lt-of-mul-lt-mul-right, mul-lt-mul-of-pos-right, le-trans, le-of-eq, le-of-lt, not-le-of-lt, lt-of-not-le, sub-add-cancel, zero-lt-suc, pow-suc, lt-irrefl, lt-trans, add-comm, mul-mul-mul-comm}
+use Rattle.prelude.proofs.Prelude.{_≡_, refl, sym, ap, _∙_, subst, true, false, inl, inr, ℕ, zero, suc, _+_, _-_, _*_, _≤_, _<_, arith, T, Float, nan, _^_, zero-mul, mul-pos, mul-comm, mul-le-mul, mul-le-mul-left, mul-le-mul-right, mul-lt-mul-of-pos-right, le-trans, le-of-eq, not-le-of-lt, zero-lt-suc, lt-irrefl, ℤ, ltb→lt, lt→ltb, inf, fin, binary64, up, down, fits, lt, down-pos}
+use Prim.Native.Nat.{zero-le}
+use native.Mathlib.Nat.{mul-assoc, mul-left-comm, lt-of-mul-lt-mul-right, le-of-lt, lt-of-not-le, sub-add-cancel, pow-suc, lt-trans, add-comm, mul-mul-mul-comm}
 use native.Mathlib.Decide.{decLe}
-use native.Mathlib.Omega.{arith}
-use lib.IntN.{ℤ}
-use lib.Dec.{T, ltb→lt, lt→ltb}
 use lib.Pow.{pow-add, pow-pos, pow-mono}
-use lib.Ieee.{Float, nan, inf, fin, binary64, up, down, fits, lt}
-use lib.Ieee.Fits.{down-pos}
 use lib.Ieee.Positive.{num, den, positive, den-pos, value→cross, positive-of-value}
-use Rattle.binary64.specs.Root.{square, middleBelow, middleAbove, NearestRoot, Root, Rooted, Steps, firstAlone, allThree, wholeRoot, count, half, radicand, nearestWhole, movedBack, rootOf, root}
-use Rattle.binary64.specs.RootDigits.{WholeRoot}
+use Rattle.binary64.specs.Root.{square, middleBelow, middleAbove, NearestRoot, Root, Rooted, RootSteps, firstAlone, allThree, wholeRoot, count, half, radicand, nearestWhole, movedBack, rootOf, root}
+use Rattle.binary64.specs.Inner.RootDigits.{WholeRoot}
 use Rattle.binary64.proofs.WholeRoots.{whole-root}
 use Rattle.binary64.proofs.RootSpecial.{special-is, ordinary-is}
 use Rattle.binary64.proofs.RootDigits.{moved, counted, four-is, radicand-is, rooted-of}
@@ -160,8 +152,7 @@ module _ (x : Float) (q s h : ℕ) (w : Rooted x q s h) where
   rooted-nearest : NearestRoot x r
   rooted-nearest =
       let (ge, le) = nearest-le q s in
-      let least = w .least in
-      let most = w .most in
+      let least = w .least in let most = w .most in
       let p : T (positive r) = positive-of-value r (Q * u) (2 ^ 1074) (moved-value Q h) (mul-pos (omega arith) (pow-pos (h + 484))) in
       record {
         held = moved-fits Q h (omega arith) (w .few);
@@ -171,7 +162,7 @@ module _ (x : Float) (q s h : ℕ) (w : Rooted x q s h) where
       }
 
 -- what the three steps promise is what is asked for
-steps-are : (x r : Float) → Steps x r → Root x r
+steps-are : (x r : Float) → RootSteps x r → Root x r
 steps-are x r (firstAlone e) = special-is x r e
 steps-are x r (allThree e q s h w p) = ordinary-is x r e (subst (NearestRoot x) (sym p) (rooted-nearest x q s h w))
 
@@ -188,7 +179,7 @@ root-rooted x p f =
     let few = s .few in
     rooted-of x n z (half n) q (M - square q) units s (subst (λ (y : ℕ). WholeRoot y q (M - square q)) e (whole-root 53 M (omega arith)))
 
-root-steps : (x : Float) → T (fits binary64 x) → Steps x (root x)
+root-steps : (x : Float) → T (fits binary64 x) → RootSteps x (root x)
 unfolding root rootOf
 root-steps nan f = firstAlone refl
 root-steps (inf true) f = firstAlone refl
@@ -246,5 +237,5 @@ root-least x r n e v f h l =
 
 -- ---- the root follows from what the three steps promise, and from nothing else
 
-pub root-of-steps : (x r : Float) → T (fits binary64 x) → Steps x r → (r ≡ root x) × Root x r
+pub root-of-steps : (x r : Float) → T (fits binary64 x) → RootSteps x r → (r ≡ root x) × Root x r
 root-of-steps x r f s = (root-only x r f (steps-are x r s), steps-are x r s)

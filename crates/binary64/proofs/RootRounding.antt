@@ -1,17 +1,9 @@
 -- The one rounding: the whole number nearest a root, and its bits put together.
--- Assumes nothing.
-use mathlib.Core.Path.{_≡_, refl, sym, ap, _∙_}
-use mathlib.Core.Logic.{_⊎_, inl, inr}
-use mathlib.Core.Bool.{Bool, true, false, not, cond}
-use Prim.Native.Nat.{ℕ, _+_, _-_, _*_, _/_, _^_, _≤_, _<_}
-use native.Mathlib.Nat.{add-zero, eq-or-lt-of-le, pow-suc, zero-add, lt-of-lt-of-le, lt-of-le-of-lt, le-trans, le-of-eq, div-eq-of-eq-mul-left}
-use native.Mathlib.Omega.{arith}
-use borrow.Author.Tests.{ltb-true, ltb-false, lt-ltb, le-ltb}
-use native.Mathlib.Numerals.{add-one}
-use lib.Dec.{T, lit<, lit≤, ltb}
+use Rattle.prelude.proofs.Prelude.{_≡_, refl, sym, ap, _∙_, Bool, true, false, not, cond, _⊎_, inl, inr, ℕ, _+_, _-_, _*_, _≤_, _<_, add-one, arith, T, ltb, Float, nan, _/_, _^_, add-zero, eq-or-lt-of-le, zero-add, lt-of-lt-of-le, le-trans, le-of-eq, ltb-true, ltb-false, lt-ltb, le-ltb, lit<, lit≤, inf, fin, binary64, up, down, size, odd, fits, toBits, ofBits, down-pos}
+use native.Mathlib.Nat.{pow-suc, lt-of-le-of-lt, div-eq-of-eq-mul-left}
 use lib.Pow.{shl-lt, shl-shr, pow-mono}
-use lib.Ieee.{Float, nan, inf, fin, binary64, up, down, size, odd, fits, nanBits, toBits, ofBits}
-use lib.Ieee.Fits.{down-pos, odd-fits}
+use lib.Ieee.{nanBits}
+use lib.Ieee.Fits.{odd-fits}
 use lib.Ieee.Bits.{ofBits-toBits}
 use lib.Ieee.Exact.{HasValue, odd-sign}
 use Rattle.binary64.specs.Root.{square, nearestWhole, movedBack}

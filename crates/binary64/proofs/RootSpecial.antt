@@ -1,14 +1,6 @@
 -- The special operands: what the code's tests tell of a number, and that the root of a special one is as it is asked for.
--- Assumes nothing.
-use mathlib.Core.Path.{_≡_, refl, sym, ap}
-use mathlib.Core.Bool.{Bool, true, false, true≢false}
-use Prim.Native.Nat.{ℕ, zero, suc, _+_, _*_}
-use native.Mathlib.Nat.{mul-pos, zero-lt-suc}
-use native.Mathlib.Omega.{arith}
-use borrow.Author.Tests.{ltb-true, ltb-false}
-use lib.IntN.{ℤ, pos}
-use lib.Dec.{T, lt→ltb}
-use lib.Ieee.{Float, nan, inf, fin, up, down, lt}
+use Rattle.prelude.proofs.Prelude.{_≡_, refl, sym, ap, Bool, true, false, ℕ, zero, suc, _+_, _*_, arith, T, Float, nan, true≢false, mul-pos, zero-lt-suc, ltb-true, ltb-false, ℤ, lt→ltb, inf, fin, up, down, lt}
+use lib.IntN.{pos}
 use lib.Ieee.Fits.{up-pos}
 use lib.Ieee.Positive.{positive}
 use Rattle.binary64.specs.declared.steps.Operand.{Operand}

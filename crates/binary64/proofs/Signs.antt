@@ -1,12 +1,8 @@
 -- A turned sign passes through a product and a quotient, to the bit.
 --     neg-mul, mul-neg, neg-div  (-x) y and x (-y) are -(x y), and (-x) / y is -(x / y)
 --     neg-neg                    a sign turned twice is as it was
--- Assumes nothing.
-use mathlib.Core.Path.{_≡_, refl, ap, _∙_}
-use mathlib.Core.Bool.{Bool, true, false, not, cond}
-use Prim.Native.Nat.{ℕ, zero, suc, _+_, _*_, _^_}
-use lib.Dec.{eqb, ltb}
-use lib.Ieee.{Float, nan, inf, fin, Format, low, prec, emax, up, down, unlike, odd, units, round, neg, mul, div}
+use Rattle.prelude.proofs.Prelude.{_≡_, refl, ap, _∙_, Bool, true, false, not, cond, ℕ, zero, suc, _+_, _*_, eqb, ltb, Float, nan, _^_, inf, fin, Format, up, down, odd, units, round, neg, mul, div}
+use lib.Ieee.{low, prec, emax, unlike}
 
 pub neg-neg : (x : Float) → neg (neg x) ≡ x
 unfolding neg

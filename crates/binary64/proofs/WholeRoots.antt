@@ -1,14 +1,9 @@
 -- The whole root of a natural number: there is one, `wholeRoot` computes it, and one division finds the second half of its digits.
--- Assumes nothing.
-use mathlib.Core.Path.{_≡_, refl, ap}
-use mathlib.Core.Bool.{Bool, true, false, cond}
-use Prim.Native.Nat.{ℕ, zero, suc, _+_, _-_, _*_, _/_, _%_, _^_, _≤_, _<_}
-use native.Mathlib.Nat.{mul-le-mul, mul-le-mul-left, mul-le-mul-right, le-of-lt, pow-suc, div-lt-iff-lt-mul, div-add-mod', mod-lt, zero-lt-suc}
-use native.Mathlib.Omega.{arith}
-use lib.Dec.{leb}
+use Rattle.prelude.proofs.Prelude.{_≡_, refl, ap, Bool, true, false, cond, ℕ, zero, suc, _+_, _-_, _*_, _≤_, _<_, arith, _/_, _%_, _^_, mul-le-mul, mul-le-mul-left, mul-le-mul-right, zero-lt-suc, leb}
+use native.Mathlib.Nat.{le-of-lt, pow-suc, div-lt-iff-lt-mul, div-add-mod', mod-lt}
 use borrow.Author.Tests.{leb-true, leb-false}
 use Rattle.binary64.specs.Root.{square, lastDigit, wholeRoot}
-use Rattle.binary64.specs.RootDigits.{WholeRoot}
+use Rattle.binary64.specs.Inner.RootDigits.{WholeRoot}
 
 -- ---- there is one
 

@@ -1,2 +1,3 @@
 pub mod Root
-pub mod RootDigits
+pub mod Values
+pub mod Inner

@@ -4,7 +4,7 @@ ghost use Prim.Native.Nat.{_+_, _*_, _^_, _≤_, _<_};
 ghost use lib.Dec.{T};
 ghost use lib.Ieee.Positive.{positive};
 ghost use Rattle.binary64.specs.Root.{count};
-ghost use Rattle.binary64.specs.RootDigits.{Digits, Scaled, WholeRoot};
+ghost use Rattle.binary64.specs.Inner.RootDigits.{Digits, Scaled, WholeRoot};
 
 // The number m * 2^k, in units of binary64's smallest positive value, 2^-1074.
 pub struct Units {

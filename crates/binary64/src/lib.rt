@@ -1,10 +1,11 @@
-// The root of a binary64 number, from its bits and whole numbers.
+// The root of a binary64 number, from its bits and whole numbers; `words` has a number as a 64-bit word, and back.
 use crate::steps::Operand;
 ghost use mathlib.Core.Path.{_≡_};
 ghost use Rattle.binary64.specs.Root.{root, Root};
 
 mod digits;
 mod steps;
+pub mod words;
 
 // The binary64 nearest the exact root: special operands, then the whole root and its remainder, then one rounding.
 pub fn sqrt(x: f64) -> f64

@@ -1,5 +1,5 @@
-// The root in three steps, in the order in which it is checked against IEEE 754-2019, whose clauses are named: special operands, the whole root and
-// its remainder, one rounding. What a step requires, those before it ensure.
+// The root in three steps, in the order in which it is checked against IEEE 754-2019, whose clauses are named: special operands, the whole
+// root and its remainder, one rounding. What a step requires, those before it ensure.
 use crate::digits::long_root;
 use crate::digits::parts;
 use crate::digits::scaled;
@@ -50,8 +50,8 @@ pub fn whole_root(x: f64) -> RootAndRest
     }
 }
 
-// One rounding (4.3.1): the whole number nearest the root of q * q + r, times 2^(half - 590). The exponent's field is half + 485, and the leading
-// one of the 53 digits adds the last of it; a carry out of them, which no number's root has, would add another.
+// One rounding (4.3.1): the whole number nearest the root of q * q + r, times 2^(half - 590). The exponent's field is half + 485, and the
+// leading one of the 53 digits adds the last of it; a carry out of them, which no number's root has, would add another.
 pub fn rounded(q: u64, r: u64, half: u64) -> f64
     requires { ⌜ (2 ^ 52 ≤ q) × (q < 2 ^ 53) × (r ≤ 2 * q) × (half ≤ 1049) ⌝ }
     ensures { λ y. ⌜ y ≡ spec.rounded q r half ⌝ }

@@ -1,29 +1,19 @@
 -- Buses told by number: what is said of numbers is said of their rows. Where the numbers are the rows, calls remove what they name.
--- Assumes nothing.
-use mathlib.Core.Path.{_≡_, refl, sym, ap, ap₂, subst, subst₂, _∙_}
-use mathlib.Core.Bool.{Bool, true, false, cond}
-use mathlib.Core.Logic.{inl, inr}
-use mathlib.Core.List.{List, [], _∷_, _++_, map}
-use Prim.Native.Nat.{ℕ, zero, suc, _-_, _<_}
-use native.Mathlib.Nat.{lt-irrefl}
-use lib.Dec.{T, eqb, leb, ltb, ltb→lt}
-use lib.ListN.{length, getD, replicate}
-use lib.Ieee.Fits.{and-l, and-r}
-use Rattle.complex.specs.Matrices.{upTo}
-use Rattle.complex.specs.Values.{_≈_}
-use Rattle.complex.proofs.Matrices.{length-upTo, getD-upTo}
+use Rattle.prelude.proofs.Prelude.{_≡_, refl, sym, ap, _∙_, subst, true, false, cond, inl, inr, List, [], _∷_, _++_, ℕ, zero, suc, _<_, T, eqb, ltb, length, getD, replicate, ap₂, map, lt-irrefl, leb, ltb→lt, and-l, and-r}
+use mathlib.Core.Path.{subst₂}
+use Rattle.lists.specs.Buses.{upTo, mem, _isOneOf_, place, allBelow, repeats, within, rowsIn}
+use Rattle.complex.specs.{_≈_, tooSmall}
+use Rattle.lists.proofs.Order.{length-upTo, getD-upTo}
 use Rattle.refusals.specs.Refusals.{limit, notActive, smallEntry}
-use Rattle.buses.specs.Buses.{mem, _isOneOf_, place, allBelow, repeats, within, rowsIn}
-use Rattle.buses.proofs.Buses.{in-head, in-tail, in-cases, in-or-out, getD-in, below-all, all-below, all-below-others, place-none, getD-place, place-getD, below-upTo, in-upTo, rising-upTo, all-below-upTo}
-use Rattle.buses.proofs.Naming.{place-number, below-within}
-use Rattle.kron_rows.specs.Kron.{State, start, tooSmall, refusal, accepts, remove, taken}
-use Rattle.kron_rows.specs.Removal.{padded}
-use Rattle.kron_rows.proofs.States.{Accepted, accepted-active}
-use Rattle.kron_core.specs.Reducer.{Making, Made, Held, laid}
-use Rattle.kron_core.specs.Reading.{activeNumbers}
-use Rattle.claims.specs.Accounts.{Call, bus, buses, left, Account, fresh, stateOf, removes, account, kept, rowAt, busAt, numbersAt}
+use Rattle.lists.proofs.Buses.{in-head, in-tail, in-cases, in-or-out, getD-in, below-all, all-below, all-below-others, place-none, getD-place, place-getD, below-upTo, in-upTo, rising-upTo, all-below-upTo}
+use Rattle.lists.proofs.Naming.{place-number, below-within}
+use Rattle.kron_reduction.specs.Kron.{State, start, removalRefusal, accepts, remove, carriedOut}
+use Rattle.kron_reduction.specs.Reducer.{ReducerInput, AcceptedMaking, stored}
+use Rattle.kron_reduction.proofs.States.{Accepted, accepted-active}
+use Rattle.kron_reduction.specs.Reading.{activeNumbers}
+use Rattle.claims.specs.Accounts.{Call, bus, buses, left, Account, fresh, stateAfter, removes, account, kept, rowAt, busAt, numbersAt}
 use Rattle.claims.specs.ByNumber.{oldBetween, AlikeByNumber}
-use Rattle.claims.proofs.Bridge.{made-has, account-size, account-numbers, regular-state, left-is, all-accepted, kept-is}
+use Rattle.claims.proofs.Bridge.{made-has, account-kept, account-numbers, regular-state, left-is, all-accepted, kept-is}
 
 -- ---- numbers and rows
 
@@ -67,13 +57,13 @@ accepted-below n s (x ∷ ks) h ok k m = elim (in-cases k x ks m) [
   | inr t ↦ accepted-below n (remove s x) ks (all-below-others n (x ∷ []) (s .active) h) (ok .1) k t
 ]
 
-module _ (M : Making) (calls : List Call) (made : Made M) where
+module _ (M : ReducerInput) (calls : List Call) (made : AcceptedMaking M) where
   abbrev a : Account
   a = account M calls
 
   pub account-many : length (a .numbers) ≡ a .size
   unfolding fresh
-  account-many = ap length (account-numbers (fresh M) calls) ∙ made-has M made .many ∙ sym (account-size (fresh M) calls)
+  account-many = ap length (account-numbers (fresh M) calls) ∙ made-has M made .many ∙ sym (account-kept (fresh M) calls .0)
 
   pub account-distinct : repeats (a .numbers) ≡ false
   unfolding fresh
@@ -101,10 +91,6 @@ module _ (M : Making) (calls : List Call) (made : Made M) where
 
 -- ---- the record's numbers
 
-map-same : (f g : ℕ → ℕ) → ((i : ℕ) → f i ≡ g i) → (is : List ℕ) → map f is ≡ map g is
-map-same f g h [] = refl
-map-same f g h (i ∷ is) = ap₂ (λ (x : ℕ) (xs : List ℕ). x ∷ xs) (h i) (map-same f g h is)
-
 getD-padded : (ns : List ℕ) (m i : ℕ) → getD (ns ++ replicate m 0) i 0 ≡ getD ns i 0
 getD-padded [] zero i = refl
 getD-padded [] (suc m) zero = refl
@@ -113,12 +99,9 @@ getD-padded (n ∷ ns) m zero = refl
 getD-padded (n ∷ ns) m (suc i) = getD-padded ns m i
 
 -- the active buses that the record tells are the kept ones
-pub kept-numbers : (M : Making) (calls : List Call) → Made M → activeNumbers (left M calls .rec) ≡ numbersAt (account M calls) (kept (account M calls))
-unfolding laid fresh
-kept-numbers M calls made =
-    ap₂ (λ (ns is : List ℕ). map (λ (i : ℕ). getD ns i 0) is) (ap (λ (h : Held). h .rec .numbers) (left-is M calls made)) (kept-is M calls made)
-    ∙ map-same (λ (i : ℕ). getD (padded (M .numbers)) i 0) (λ (i : ℕ). getD (account M calls .numbers) i 0)
-    (λ (i : ℕ). getD-padded (M .numbers) (limit - length (M .numbers)) i ∙ ap (λ (ns : List ℕ). getD ns i 0) (sym (account-numbers (fresh M) calls))) (kept (account M calls))
+pub kept-numbers : (M : ReducerInput) (calls : List Call) → AcceptedMaking M → activeNumbers (left M calls .rec) ≡ numbersAt (account M calls) (kept (account M calls))
+unfolding stored fresh
+kept-numbers M calls made = rw (kept-is M calls made) (simp (left-is M calls made, getD-padded, account-numbers (fresh M) calls))
 
 -- ---- numbers that are the rows
 
@@ -126,34 +109,31 @@ row-place : (n k : ℕ) → k < n → place k (upTo n) ≡ k
 row-place n k h = subst (λ (z : ℕ). place z (upTo n) ≡ k) (getD-upTo n k 0 h) (place-getD (upTo n) k (rising-upTo n) (rw length-upTo h))
 
 refused : (s : State) (k : ℕ) → (k isOneOf s .active → ⊥) → accepts s k ≡ false
-unfolding refusal
-refused s k out = go (mem k (s .active)) out
-  where
-    go : (b : Bool) → (T b → ⊥) → eqb (cond b (cond (tooSmall (s .entries k k)) smallEntry 0) notActive) 0 ≡ false
-    go true f = absurd (f tt)
-    go false f = refl
+unfolding removalRefusal
+refused s k out = (elim (mem k (s .active)) as (λ b. (T b → ⊥) → eqb (cond b (cond (tooSmall (s .entries k k)) smallEntry 0) notActive) 0 ≡ false)
+    [ true ↦ λ f. absurd (f tt) | false ↦ λ f. refl ]) out
 
--- a list of buses told by row is taken as it stands
-pub taken-by-row : (n : ℕ) (s : State) (ks : List ℕ) → T (allBelow n (s .active)) → taken s (rowsIn (upTo n) ks) ≡ taken s ks
-unfolding taken rowsIn
+-- a list of buses told by row is carried out as it stands
+pub taken-by-row : (n : ℕ) (s : State) (ks : List ℕ) → T (allBelow n (s .active)) → carriedOut s (rowsIn (upTo n) ks) ≡ carriedOut s ks
+unfolding carriedOut rowsIn
 taken-by-row n s [] h = refl
 taken-by-row n s (k ∷ ks) h = elim (in-or-out k (upTo n)) [
   | inl m ↦ rw (row-place n k (below-upTo n k m)) (ap (λ (ts : List ℕ). cond (accepts s k) (k ∷ ts) []) (taken-by-row n (remove s k) ks (all-below-others n (k ∷ []) (s .active) h)))
   | inr m ↦ rw (place-none k (upTo n) m ∙ length-upTo n, refused s n (λ (t : n isOneOf s .active). lt-irrefl n (below-all n (s .active) h n t)), refused s k (λ (t : k isOneOf s .active). m (in-upTo n k (below-all n (s .active) h k t)))) refl
 ]
 
-pub removes-bus-by-row : (a : Account) → a .numbers ≡ upTo (a .size) → (k : ℕ) → removes a (bus k) ≡ taken (stateOf a) (k ∷ [])
+pub removes-bus-by-row : (a : Account) → a .numbers ≡ upTo (a .size) → (k : ℕ) → removes a (bus k) ≡ carriedOut (stateAfter a) (k ∷ [])
 unfolding removes
-removes-bus-by-row a e k = ap (λ (ns : List ℕ). taken (stateOf a) (rowsIn ns (k ∷ []))) e ∙ taken-by-row (a .size) (stateOf a) (k ∷ []) (regular-state a .below)
+removes-bus-by-row a e k = ap (λ (ns : List ℕ). carriedOut (stateAfter a) (rowsIn ns (k ∷ []))) e ∙ taken-by-row (a .size) (stateAfter a) (k ∷ []) (regular-state a .below)
 
-pub removes-by-row : (a : Account) → a .numbers ≡ upTo (a .size) → (ks : List ℕ) → removes a (buses ks) ≡ cond (leb (length ks) limit) (taken (stateOf a) ks) []
+pub removes-by-row : (a : Account) → a .numbers ≡ upTo (a .size) → (ks : List ℕ) → removes a (buses ks) ≡ cond (leb (length ks) limit) (carriedOut (stateAfter a) ks) []
 unfolding removes
 removes-by-row a e ks =
-    ap (λ (ts : List ℕ). cond (leb (length ks) limit) ts []) (ap (λ (ns : List ℕ). taken (stateOf a) (rowsIn ns ks)) e ∙ taken-by-row (a .size) (stateOf a) ks (regular-state a .below))
+    ap (λ (ts : List ℕ). cond (leb (length ks) limit) ts []) (ap (λ (ns : List ℕ). carriedOut (stateAfter a) (rowsIn ns ks)) e ∙ taken-by-row (a .size) (stateAfter a) ks (regular-state a .below))
 
 -- ---- two accounts
 
-module _ (M M' : Making) (calls calls' : List Call) (made : Made M) (made' : Made M') (G : List ℕ) (same : AlikeByNumber (account M calls) (account M' calls') G) where
+module _ (M M' : ReducerInput) (calls calls' : List Call) (made : AcceptedMaking M) (made' : AcceptedMaking M') (G : List ℕ) (same : AlikeByNumber (account M calls) (account M' calls') G) where
   abbrev b : Account
   b = account M calls
 
@@ -162,12 +142,6 @@ module _ (M M' : Making) (calls calls' : List Call) (made : Made M) (made' : Mad
 
   abbrev grouped : List ℕ
   grouped = rowsIn (b .numbers) G
-
-  same-size : b' .size ≡ b .size
-  same-size = sym (account-many M' calls' made') ∙ ap length (same .numbers) ∙ account-many M calls made
-
-  same-removed : b' .removed ≡ b .removed
-  same-removed = sym (removed-rows M' calls' made') ∙ ap₂ rowsIn (same .numbers) (same .removed) ∙ removed-rows M calls made
 
   number-below : (i : ℕ) → i < b .size → i < length (b .numbers)
   number-below i h = rw (account-many M calls made) h
@@ -182,15 +156,14 @@ module _ (M M' : Making) (calls calls' : List Call) (made : Made M) (made' : Mad
   pub alike-by-number : (b' .size ≡ b .size) × (b' .removed ≡ b .removed) × ((i : ℕ) → i isOneOf grouped → i isOneOf b .removed)
       × ((i j : ℕ) → i < b .size → j < b .size → (i isOneOf grouped → ⊥) → (j isOneOf grouped → ⊥) → b .old i j ≈ b' .old i j)
   unfolding oldBetween
-  alike-by-number = (same-size, same-removed, among, outside)
-    where
-      among : (i : ℕ) → i isOneOf grouped → i isOneOf b .removed
-      among i m = subst (λ (is : List ℕ). i isOneOf is) (removed-rows M calls made) (rows-among (b .numbers) G (numbersAt b (b .removed)) (same .group) i m)
-
-      outside : (i j : ℕ) → i < b .size → j < b .size → (i isOneOf grouped → ⊥) → (j isOneOf grouped → ⊥) → b .old i j ≈ b' .old i j
-      outside i j x y o o' =
-          let k = getD (b .numbers) i 0 in
-          let l = getD (b .numbers) j 0 in
-          let e = same .outside k l (getD-in (b .numbers) i (number-below i x)) (getD-in (b .numbers) j (number-below j y)) (not-grouped i x o) (not-grouped j y o') in
-          subst₂ (λ (p q : ℕ). b .old p q ≈ b' .old p q) (row-back i x) (row-back j y)
-          (subst (λ (ns : List ℕ). b .old (place k (b .numbers)) (place l (b .numbers)) ≈ b' .old (place k ns) (place l ns)) (same .numbers) e)
+  alike-by-number = (
+    sym (account-many M' calls' made') ∙ ap length (same .numbers) ∙ account-many M calls made,
+    sym (removed-rows M' calls' made') ∙ ap₂ rowsIn (same .numbers) (same .removed) ∙ removed-rows M calls made,
+    λ i m. rw (removed-rows M calls made) at (rows-among (b .numbers) G (numbersAt b (b .removed)) (same .group) i m),
+    λ i j x y o o'.
+        let k = getD (b .numbers) i 0 in
+        let l = getD (b .numbers) j 0 in
+        let e = same .outside k l (getD-in (b .numbers) i (number-below i x)) (getD-in (b .numbers) j (number-below j y)) (not-grouped i x o) (not-grouped j y o') in
+        subst₂ (λ (p q : ℕ). b .old p q ≈ b' .old p q) (row-back i x) (row-back j y)
+        (subst (λ (ns : List ℕ). b .old (place k (b .numbers)) (place l (b .numbers)) ≈ b' .old (place k ns) (place l ns)) (same .numbers) e),
+  )

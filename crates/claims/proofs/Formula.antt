@@ -1,11 +1,8 @@
 -- Kron's formula respects equality up to the sign of a zero, and changes nothing where one of the factors of its product is zero.
--- Assumes nothing.
-use mathlib.Core.Logic.{_⊎_, inl}
-use Prim.Native.Nat.{ℕ}
-use Rattle.complex.specs.Arithmetic.{cmul, cdiv}
-use Rattle.complex.specs.Matrices.{Matrix}
+use Rattle.prelude.proofs.Prelude.{_⊎_, inl, ℕ}
+use Rattle.complex.specs.{cmul, cdiv, Matrix}
 use Rattle.complex.proofs.SameValue.{Finite, Number, _≋_, Null, congruent, all-zero, cmul-cong, cmul-null, sqmag-cong, Divisor, cdiv-cong, cdiv-null, cdiv-fits, csub-null, csub-cong, csub-number}
-use Rattle.kron_rows.specs.Kron.{newEntry, kron}
+use Rattle.kron_reduction.specs.Kron.{newEntry, kron}
 
 -- the new entry at i and j when k is removed can be worked out
 pub record Ready (k : ℕ) (Y : Matrix) (i j : ℕ) : Type 0 where
@@ -28,8 +25,7 @@ kron-stays k Y i j r z =
 pub kron-cong : (k : ℕ) (Y Y' : Matrix) (i j : ℕ) → Ready k Y i j → Ready k Y' i j → Y i j ≋ Y' i j → Y i k ≋ Y' i k → Y k j ≋ Y' k j → Y k k ≋ Y' k k → kron k Y i j ≋ kron k Y' i j
 unfolding kron newEntry
 kron-cong k Y Y' i j r r' ij ik kj kk =
-    let d = r .divisor in
-    let d' = r' .divisor in
+    let d = r .divisor in let d' = r' .divisor in
     let p = cmul (Y i k) (Y k j) in
     let p' = cmul (Y' i k) (Y' k j) in
     csub-cong (r .entry) (r' .entry) (cdiv-fits p (Y k k) d) (cdiv-fits p' (Y' k k) d') ij

@@ -1,18 +1,13 @@
 -- Where the removal of a list of buses by Kron's formula changes an entry, and what the entry can depend on.
--- Assumes nothing.
-use mathlib.Core.Path.{sym, subst}
-use mathlib.Core.Logic.{_⊎_, inl, inr}
-use mathlib.Core.List.{List, [], _∷_}
-use Prim.Native.Nat.{ℕ, _<_}
-use lib.Dec.{T}
-use Rattle.complex.specs.declared.Complex.{Complex}
-use Rattle.complex.specs.Matrices.{Matrix, upTo}
-use Rattle.complex.specs.Values.{_≈_, NonZero, allFinite}
+use Rattle.prelude.proofs.Prelude.{sym, subst, _⊎_, inl, inr, List, [], _∷_, ℕ, _<_, T}
+use mathlib.Core.Logic.{⊎-map}
+use Rattle.complex.specs.{Complex, Matrix, _≈_, NonZero}
+use Rattle.lists.specs.Buses.{upTo, _isOneOf_, others}
+use Rattle.binary64.specs.Values.{allFinite}
 use Rattle.complex.proofs.SameValue.{Number, _≋_, ≋-refl, ≋-sym, ≋-trans, ≋→≈, ≈→≋, Null, nulls, decide, nonzero-of}
-use Rattle.buses.specs.Buses.{_isOneOf_, others}
-use Rattle.kron_rows.specs.Kron.{kron, State, start, remove, tooSmall, accepts, eliminate, ofRemovals}
-use Rattle.buses.proofs.Buses.{in-head, in-tail, in-cases, in-or-out, stays, below-upTo}
-use Rattle.kron_rows.proofs.States.{accepted-active, accepted-big, Accepted, eliminate-active}
+use Rattle.kron_reduction.specs.Kron.{kron, State, start, remove, accepts, eliminate, ofRemovals}
+use Rattle.lists.proofs.Buses.{in-head, in-tail, in-cases, in-or-out, stays, below-upTo}
+use Rattle.kron_reduction.proofs.States.{accepted-active, accepted-big, Accepted, eliminate-active}
 use Rattle.claims.specs.Chains.{Linked, Chain, Into, Out, SameOutside}
 use Rattle.claims.proofs.Formula.{Ready, kron-stays, kron-cong, kron-number}
 use Rattle.claims.proofs.Walks.{Links, Walk, last, join, map-walk, chain, IntoBy, OutBy, into-steps, out-steps, Either, SameLinks, into-one, out-one}
@@ -39,7 +34,6 @@ abbrev Good : State → Type 0
 Good s = (i j : ℕ) → i isOneOf s .active → j isOneOf s .active → Number (s .entries i j)
 
 ready : (s : State) (k : ℕ) → Good s → T (accepts s k) → FiniteRemoval s k → (i j : ℕ) → i isOneOf remove s k .active → j isOneOf remove s k .active → Ready k (s .entries) i j
-unfolding tooSmall
 ready s k good ok finite i j x y =
     let x' = stays i (k ∷ []) (s .active) x .0 in
     let y' = stays j (k ∷ []) (s .active) y .0 in
@@ -57,12 +51,10 @@ abbrev Factors : Complex → Complex → Type 0
 Factors a b = (Null a ⊎ Null b) ⊎ (NonZero a × NonZero b)
 
 factors : (a b : Complex) → Factors a b
-factors a b = go (decide a) (decide b)
-  where
-    go : Null a ⊎ NonZero a → Null b ⊎ NonZero b → Factors a b
-    go (inl z) y = inl (inl z)
-    go (inr n) (inl z) = inl (inr z)
-    go (inr n) (inr m) = inr (n, m)
+factors a b = elim (decide a) [
+  | inl z ↦ inl (inl z)
+  | inr n ↦ elim (decide b) [ inl z ↦ inl (inr z) | inr m ↦ inr (n, m) ]
+]
 
 -- ---- one matrix: an entry has its old value, or a walk leads from its row bus to its column bus through a removed one
 
@@ -133,6 +125,12 @@ module _ (Y Y' : Matrix) (R G : List ℕ) where
   after {k} w m (inl h) = inr (k, h, w)
   after w m (inr (g, h, v)) = inr (g, h, join v m w)
 
+  in-first : {a b : ℕ} → Walk (Linked Y) R b a → Walk LinkedIn R b a
+  in-first = map-walk (λ (a b : ℕ) (l : Linked Y a b). inl l)
+
+  in-second : {a b : ℕ} → Walk (Linked Y') R b a → Walk LinkedIn R b a
+  in-second = map-walk (λ (a b : ℕ) (l : Linked Y' a b). inr l)
+
   abbrev Same : Matrix → Matrix → ℕ → ℕ → Type 0
   Same M M' i j = (M i j ≋ M' i j) ⊎ (Before i × After j)
 
@@ -152,33 +150,24 @@ module _ (Y Y' : Matrix) (R G : List ℕ) where
 
   same-step : {act : List ℕ} {M M' : Matrix} {k : ℕ} {ks : List ℕ} → Run Y R (at act M) (k ∷ ks) → Run Y' R (at act M') (k ∷ ks) → AllSame act M M'
       → AllSame (others (k ∷ []) act) (kron k M) (kron k M')
-  same-step {act} {M} {M'} {k} run run' same i j x y = go (factors (M i k) (M k j)) (factors (M' i k) (M' k j)) (same i j x' y')
-    where
-      x' : i isOneOf act
-      x' = stays i (k ∷ []) act x .0
-
-      y' : j isOneOf act
-      y' = stays j (k ∷ []) act y .0
-
-      z : k isOneOf act
-      z = accepted-active (at act M) k (run .ok .0)
-
-      r : Ready k M i j
-      r = ready (at act M) k (run .good) (run .ok .0) (run .finite .0) i j x y
-
-      r' : Ready k M' i j
-      r' = ready (at act M') k (run' .good) (run' .ok .0) (run' .finite .0) i j x y
-
-      linked : Walk LinkedIn R k i → Walk LinkedIn R j k → M i j ≋ M' i j → Same (kron k M) (kron k M') i j
-      linked v w p = same-linked k M M' i j (first Y R run) r r' v w p (same i k x' z) (same k j z y') (same k k z z)
-
-      go : Factors (M i k) (M k j) → Factors (M' i k) (M' k j) → Same M M' i j → Same (kron k M) (kron k M') i j
-      go f f' (inr h) = inr h
-      go (inl n) (inl n') (inl p) = inl (≋-trans (kron-stays k M i j r n) (≋-trans p (≋-sym (kron-stays k M' i j r' n'))))
-      go (inr (n, o)) f' (inl p) =
-          linked (map-walk (λ (a b : ℕ) (l : Linked Y a b). inl l) (walk-of Y R (run .old i k x' z) n)) (map-walk (λ (a b : ℕ) (l : Linked Y a b). inl l) (walk-of Y R (run .old k j z y') o)) p
-      go (inl n) (inr (n', o')) (inl p) =
-          linked (map-walk (λ (a b : ℕ) (l : Linked Y' a b). inr l) (walk-of Y' R (run' .old i k x' z) n')) (map-walk (λ (a b : ℕ) (l : Linked Y' a b). inr l) (walk-of Y' R (run' .old k j z y') o')) p
+  same-step {act} {M} {M'} {k} run run' same i j x y =
+      let x' = stays i (k ∷ []) act x .0 in
+      let y' = stays j (k ∷ []) act y .0 in
+      let z = accepted-active (at act M) k (run .ok .0) in
+      let r = ready (at act M) k (run .good) (run .ok .0) (run .finite .0) i j x y in
+      let r' = ready (at act M') k (run' .good) (run' .ok .0) (run' .finite .0) i j x y in
+      let linked : Walk LinkedIn R k i → Walk LinkedIn R j k → M i j ≋ M' i j → Same (kron k M) (kron k M') i j =
+      λ v w p. same-linked k M M' i j (first Y R run) r r' v w p (same i k x' z) (same k j z y') (same k k z z) in
+      elim (same i j x' y') [
+        | inr h ↦ inr h
+        | inl p ↦ elim (factors (M i k) (M k j)) [
+          | inr (n, o) ↦ linked (in-first (walk-of Y R (run .old i k x' z) n)) (in-first (walk-of Y R (run .old k j z y') o)) p
+          | inl n ↦ elim (factors (M' i k) (M' k j)) [
+            | inl n' ↦ inl (≋-trans (kron-stays k M i j r n) (≋-trans p (≋-sym (kron-stays k M' i j r' n'))))
+            | inr (n', o') ↦ linked (in-second (walk-of Y' R (run' .old i k x' z) n')) (in-second (walk-of Y' R (run' .old k j z y') o')) p
+          ]
+        ]
+      ]
 
   same-end : (act : List ℕ) (M M' : Matrix) (ks : List ℕ) → Run Y R (at act M) ks → Run Y' R (at act M') ks → AllSame act M M'
       → AllSame (eliminate (at act M) ks .active) (eliminate (at act M) ks .entries) (eliminate (at act M') ks .entries)
@@ -221,18 +210,19 @@ module _ (n : ℕ) (Y Y' : Matrix) (G : List ℕ)
   alike i j x y o o' = (nonzero-of (same-outside i j x y o o'), nonzero-of (≋-sym (same-outside i j x y o o')))
 
   same-begin : (R : List ℕ) → AllSame Y Y' R G (upTo n) Y Y'
-  same-begin R i j x y = go (in-or-out i G) (in-or-out j G)
-    where
-      touch : (Linked Y i j → Before Y Y' R G i × After Y Y' R G j) → (Linked Y' i j → Before Y Y' R G i × After Y Y' R G j) → Same Y Y' R G Y Y' i j
-      touch f f' = elim (decide (Y i j)) [
-        | inr l ↦ inr (f l)
-        | inl z ↦ elim (decide (Y' i j)) [ inr l ↦ inr (f' l) | inl z' ↦ inl (nulls z z') ]
+  same-begin R i j x y =
+      let touch : (Linked Y i j ⊎ Linked Y' i j → Before Y Y' R G i × After Y Y' R G j) → Same Y Y' R G Y Y' i j =
+      λ f. elim (decide (Y i j)) [
+        | inr l ↦ inr (f (inl l))
+        | inl z ↦ elim (decide (Y' i j)) [ inr l ↦ inr (f (inr l)) | inl z' ↦ inl (nulls z z') ]
+      ] in
+      elim (in-or-out i G) [
+        | inl g ↦ touch (λ l. (inl g, inr (i, g, last l)))
+        | inr o ↦ elim (in-or-out j G) [
+          | inl g ↦ touch (λ l. (inr (j, g, last l), inl g))
+          | inr o' ↦ inl (same-outside i j (below-upTo n i x) (below-upTo n j y) o o')
+        ]
       ]
-
-      go : (i isOneOf G) ⊎ (i isOneOf G → ⊥) → (j isOneOf G) ⊎ (j isOneOf G → ⊥) → Same Y Y' R G Y Y' i j
-      go (inl g) t = touch (λ (l : Linked Y i j). (inl g, inr (i, g, last (inl l)))) (λ (l : Linked Y' i j). (inl g, inr (i, g, last (inr l))))
-      go (inr o) (inl g) = touch (λ (l : Linked Y i j). (inr (j, g, last (inl l)), inl g)) (λ (l : Linked Y' i j). (inr (j, g, last (inr l)), inl g))
-      go (inr o) (inr o') = inl (same-outside i j (below-upTo n i x) (below-upTo n j y) o o')
 
 -- (2) in two matrices that differ only at a group of removed buses, an entry between kept buses has one value,
 -- or in one of them its row bus has a chain into the group, and in one of them its column bus has one out of it
@@ -240,35 +230,21 @@ pub same-or-chains : (n : ℕ) (Y Y' : Matrix) (R G : List ℕ) → Carried n Y 
     → (a b : ℕ) → a isOneOf after-all n Y R .active → b isOneOf after-all n Y R .active
     → (after-all n Y R .entries a b ≈ after-all n Y' R .entries a b) ⊎ ((Into Y R G a ⊎ Into Y' R G a) × (Out Y R G b ⊎ Out Y' R G b))
 same-or-chains n Y Y' R G h h' inside outside a b x y =
-    finish (same-end Y Y' R G (upTo n) Y Y' R (begin n Y R h) (begin n Y' R h') (same-begin n Y Y' G (h .given) (h' .given) outside R) a b x y)
-  where
-    here : (c : ℕ) → c isOneOf after-all n Y R .active → c < n
-    here c z = below-upTo n c (survives (start n Y) R c z .0)
-
-    out : (c : ℕ) → c isOneOf after-all n Y R .active → c isOneOf G → ⊥
-    out c z g = survives (start n Y) R c z .1 (inside c g)
-
-    removed-bus : (k : ℕ) → k isOneOf R → k < n
-    removed-bus k m = below-upTo n k (was-active (start n Y) R k (h .accepted) m)
-
-    links : SameLinks (λ (i : ℕ). i < n) G (Linked Y) (Linked Y')
-    links = alike n Y Y' G (h .given) (h' .given) outside
-
-    into : Before Y Y' R G a → Into Y R G a ⊎ Into Y' R G a
-    into (inl g) = absurd (out a x g)
-    into (inr (g, m, w)) = elim (into-one (λ (i : ℕ). i < n) R G removed-bus (Linked Y) (Linked Y') links (here a x) (out a x) m w) [
-      | inl v ↦ inl (into-steps Y R G a v)
-      | inr v ↦ inr (into-steps Y' R G a v)
+    let start-in : (c : ℕ) → c isOneOf after-all n Y R .active → c < n = λ c z. below-upTo n c (survives (start n Y) R c z .0) in
+    let away : (c : ℕ) → c isOneOf after-all n Y R .active → c isOneOf G → ⊥ = λ c z g. survives (start n Y) R c z .1 (inside c g) in
+    let removed : (k : ℕ) → k isOneOf R → k < n = λ k m. below-upTo n k (was-active (start n Y) R k (h .accepted) m) in
+    let links = alike n Y Y' G (h .given) (h' .given) outside in
+    let into : Before Y Y' R G a → Into Y R G a ⊎ Into Y' R G a = λ u. elim u [
+      | inl g ↦ absurd (away a x g)
+      | inr (g, m, w) ↦ ⊎-map (into-steps Y R G a) (into-steps Y' R G a)
+          (into-one (λ (i : ℕ). i < n) R G removed (Linked Y) (Linked Y') links (start-in a x) (away a x) m w)
+    ] in
+    let out-of : After Y Y' R G b → Out Y R G b ⊎ Out Y' R G b = λ u. elim u [
+      | inl g ↦ absurd (away b y g)
+      | inr (g, m, w) ↦ ⊎-map (out-steps Y R G b) (out-steps Y' R G b)
+          (out-one (λ (i : ℕ). i < n) R G removed (Linked Y) (Linked Y') links (start-in b y) (away b y) m w)
+    ] in
+    elim (same-end Y Y' R G (upTo n) Y Y' R (begin n Y R h) (begin n Y' R h') (same-begin n Y Y' G (h .given) (h' .given) outside R) a b x y) [
+      | inl p ↦ inl (≋→≈ (end Y R (start n Y) R (begin n Y R h) .good a b x y .0) p)
+      | inr (u, v) ↦ inr (into u, out-of v)
     ]
-
-    out-of : After Y Y' R G b → Out Y R G b ⊎ Out Y' R G b
-    out-of (inl g) = absurd (out b y g)
-    out-of (inr (g, m, w)) = elim (out-one (λ (i : ℕ). i < n) R G removed-bus (Linked Y) (Linked Y') links (here b y) (out b y) m w) [
-      | inl v ↦ inl (out-steps Y R G b v)
-      | inr v ↦ inr (out-steps Y' R G b v)
-    ]
-
-    finish : Same Y Y' R G (after-all n Y R .entries) (after-all n Y' R .entries) a b
-        → (after-all n Y R .entries a b ≈ after-all n Y' R .entries a b) ⊎ ((Into Y R G a ⊎ Into Y' R G a) × (Out Y R G b ⊎ Out Y' R G b))
-    finish (inl p) = inl (≋→≈ (end Y R (start n Y) R (begin n Y R h) .good a b x y .0) p)
-    finish (inr (u, v)) = inr (into u, out-of v)

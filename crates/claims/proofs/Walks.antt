@@ -1,11 +1,8 @@
 -- Walks along links: joined, turned round, cut at the first bus of a group, and written as the chains of the statement.
--- Assumes nothing.
-use mathlib.Core.Logic.{_⊎_, inl, inr, ⊎-elim}
-use mathlib.Core.List.{List, [], _∷_}
-use Prim.Native.Nat.{ℕ}
-use Rattle.complex.specs.Matrices.{Matrix}
-use Rattle.buses.specs.Buses.{_isOneOf_}
-use Rattle.buses.proofs.Buses.{in-or-out}
+use Rattle.prelude.proofs.Prelude.{_⊎_, inl, inr, List, [], _∷_, ℕ, ⊎-elim}
+use Rattle.complex.specs.{Matrix}
+use Rattle.lists.specs.Buses.{_isOneOf_}
+use Rattle.lists.proofs.Buses.{in-or-out}
 use Rattle.claims.specs.Chains.{Linked, Steps, Within, Chain, Into, Out}
 
 abbrev pub Links : Type 1
@@ -38,18 +35,12 @@ Listed Y R a b = (ks : List ℕ) × Within ks R × Steps Y a ks b
 
 steps : (Y : Matrix) {R : List ℕ} {a b : ℕ} → Walk (Linked Y) R b a → Listed Y R a b
 steps Y (last l) = ([], tt, l)
-steps Y {R} {a} {b} (via {k = x} l m w) = more (steps Y w)
-  where
-    more : Listed Y R x b → Listed Y R a b
-    more t = (x ∷ t .0, (m, t .1), (l, t .2))
-
-made : (Y : Matrix) (R : List ℕ) (a b x : ℕ) → Linked Y a x → x isOneOf R → Listed Y R x b → Chain Y R a b
-made Y R a b x l m t = (x, t .0, (m, t .1), (l, t .2))
+steps Y (via {k = x} l m w) = (x ∷ steps Y w .0, (m, steps Y w .1), (l, steps Y w .2))
 
 -- through one bus at least
 pub chain : (Y : Matrix) {R : List ℕ} {a k b : ℕ} → Walk (Linked Y) R k a → k isOneOf R → Walk (Linked Y) R b k → Chain Y R a b
-chain Y {R} {a} {k} {b} (last l) m w = made Y R a b k l m (steps Y w)
-chain Y {R} {a} {k} {b} (via {k = x} l m' v) m w = made Y R a b x l m' (steps Y (join v m w))
+chain Y {k} (last l) m w = let t = steps Y w in (k, t .0, (m, t .1), (l, t .2))
+chain Y (via {k = x} l m' v) m w = let t = steps Y (join v m w) in (x, t .0, (m', t .1), (l, t .2))
 
 -- ---- into a group, and out of it
 
@@ -79,12 +70,11 @@ module _ (Bus : ℕ → Type 0) (R G : List ℕ) (bus : (k : ℕ) → k isOneOf 
   into-one L M alike {a} {g} here out h (last (inr l)) = inr (g, h, last l)
   into-one L M alike {a} {g} here out h (via {k = x} l m w) = elim (in-or-out x G) [
     | inl y ↦ elim l [ inl u ↦ inl (x, y, last u) | inr u ↦ inr (x, y, last u) ]
-    | inr y ↦ more (alike a x here (bus x m) out y) (into-one L M alike (bus x m) y h w)
+    | inr y ↦ let s = alike a x here (bus x m) out y in elim (into-one L M alike (bus x m) y h w) [
+      | inl (g, y, v) ↦ inl (g, y, via (⊎-elim (λ (u : L a x). u) (s .0) l) m v)
+      | inr (g, y, v) ↦ inr (g, y, via (⊎-elim (s .1) (λ (u : M a x). u) l) m v)
+    ]
   ]
-    where
-      more : (M a x → L a x) × (L a x → M a x) → IntoBy L R G x ⊎ IntoBy M R G x → IntoBy L R G a ⊎ IntoBy M R G a
-      more s (inl (g, y, v)) = inl (g, y, via (⊎-elim (λ (u : L a x). u) (s .0) l) m v)
-      more s (inr (g, y, v)) = inr (g, y, via (⊎-elim (s .1) (λ (u : M a x). u) l) m v)
 
   pub out-one : (L M : Links) → SameLinks Bus G L M → {b g : ℕ} → Bus b → (b isOneOf G → ⊥) → g isOneOf G → Walk (Either L M) R b g → OutBy L R G b ⊎ OutBy M R G b
   out-one L M alike here out h w =

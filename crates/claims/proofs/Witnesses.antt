@@ -1,25 +1,15 @@
 -- The premises of demand 3 can be met, with calls that are refused, several buses removed and large numbers, and its conclusions say something: entries that stay and entries that do not.
--- Assumes nothing.
-use mathlib.Core.Path.{_≡_, refl, sym, ap, _∙_}
-use mathlib.Core.Logic.{inl, inr}
-use mathlib.Core.List.{List, [], _∷_}
-use Prim.Native.Nat.{ℕ, zero, suc, _+_, _<_}
-use native.Mathlib.Omega.{arith}
-use lib.Dec.{lit<}
-use lib.ListN.{replicate}
-use lib.Ieee.{sub, mul, div, lt, eq, ofBits}
-use Rattle.complex.specs.Arithmetic.{csub, cmul, cdiv, sqmag}
-use Rattle.complex.specs.Entries.{entry as entryOf}
-use Rattle.complex.specs.Matrices.{Matrix, upTo, entryAt}
-use Rattle.complex.specs.Values.{_≈_, allFinite}
+use Rattle.prelude.proofs.Prelude.{_≡_, refl, sym, _∙_, inl, inr, List, [], _∷_, ℕ, _+_, _<_, arith, replicate, lit<, sub, mul, div, lt, eq, ofBits}
+use Rattle.complex.specs.{csub, cmul, cdiv, entry as entryOf, Matrix, entryAt, _≈_}
+use Rattle.lists.specs.Buses.{upTo, _isOneOf_, others, place, rising, allBelow, allZero, rowsIn}
+use Rattle.binary64.specs.Values.{allFinite}
 use Rattle.refusals.specs.Refusals.{limit}
-use Rattle.buses.specs.Buses.{_isOneOf_, others, place, rising, allBelow, allZero, rowsIn}
-use Rattle.buses.proofs.Buses.{in-cases}
-use Rattle.kron_rows.specs.Kron.{kron, tooSmall, refusal, eliminate, taken, ofRow, ofRows, ofRemovals}
-use Rattle.kron_core.specs.Reducer.{Making, makingOf, makingRefusal, Made, afterNew, soundRows, soundNumbers, inputRefusal, view, laid, leaves, removable, afterBus, afterBuses}
-use Rattle.claims.specs.Accounts.{Call, bus, buses, stepHeld, leftFrom, left, entry, fresh, stateOf, removes, step, accountFrom, Account, account, kept}
+use Rattle.lists.proofs.Buses.{in-cases, in-upTo}
+use Rattle.kron_reduction.specs.Kron.{kron, removalRefusal, eliminate, carriedOut, ofRow, ofRows, ofRemovals}
+use Rattle.kron_reduction.specs.Reducer.{ReducerInput, reducerInputOf, makingRefusal, AcceptedMaking, afterNew, soundRows, soundNumbers, inputRefusal, stateOf, stored, leaves, removedRows, afterBus, afterBuses}
+use Rattle.claims.specs.Accounts.{Call, bus, buses, stepHeld, leftFrom, left, entryIn, fresh, stateAfter, removes, step, accountFrom, Account, account, kept}
 use Rattle.claims.specs.Chains.{Linked, Steps, Within, Chain, Into, Out, SameOutside}
-use Rattle.claims.specs.Finite.{ofAccount, Finite, words}
+use Rattle.claims.specs.Finite.{ofAccount, Finite, ofBitPatterns}
 use Rattle.claims.specs.Removals.{Alike, NoInto}
 use Rattle.claims.specs.ByNumber.{oldBetween, AlikeByNumber}
 use Rattle.claims.proofs.Demand3.{demand3}
@@ -30,19 +20,26 @@ use Rattle.claims.proofs.ByNumber.{alike-by-number}
 unfoldable pub book-words : List ℕ
 book-words = 0x3ff0000000000000 ∷ 0 ∷ 0xbff0000000000000 ∷ 0 ∷ 0xbff0000000000000 ∷ 0 ∷ 0x4000000000000000 ∷ 0 ∷ []
 
-abbrev pub book : Making
-book = makingOf 2 (words book-words) (0 ∷ 1 ∷ [])
+-- to open this is to open all that lists of calls compute with
+unfoldable pub opened : Unit {0}
+unfolding book-words ofBitPatterns csub cmul cdiv upTo others place entryOf entryAt kron removalRefusal eliminate carriedOut fresh stateAfter
+    removes step accountFrom sub mul div lt ofBits eq stored makingRefusal afterNew rising allBelow allZero soundRows soundNumbers inputRefusal
+    stateOf leaves removedRows afterBus afterBuses stepHeld leftFrom left allFinite ofAccount ofRemovals ofRow ofRows
+opened = tt
+
+abbrev pub book : ReducerInput
+book = reducerInputOf 2 (ofBitPatterns book-words) (0 ∷ 1 ∷ [])
 
 -- a bus that is not there, a list too long, a list that is refused at its second bus, and a bus that is gone: one bus is removed
-book-calls : List Call
+abbrev book-calls : List Call
 book-calls = bus 7 ∷ buses (replicate (limit + 1) 1) ∷ buses (1 ∷ 1 ∷ 0 ∷ []) ∷ bus 1 ∷ []
 
 book-removed : account book book-calls .removed ≡ 1 ∷ []
-unfolding book-words book-calls words sqmag upTo others entryOf entryAt tooSmall refusal eliminate taken fresh stateOf removes step accountFrom sub mul lt ofBits
+unfolding opened
 book-removed = refl
 
 book-finite : Finite book book-calls
-unfolding book-words book-calls words csub cmul cdiv upTo others entryOf entryAt kron tooSmall refusal eliminate taken makingRefusal fresh stateOf removes step accountFrom allFinite ofAccount ofRemovals ofRow ofRows sub mul div lt ofBits
+unfolding opened
 book-finite = record { made = search tt; given = search tt; computed = tt }
 
 -- ---- claim 1: the buses of the rows 0 - 1 - 2 - 3 - 4 stand in a line, with no entry from bus 1 to bus 2, and one from bus 0 to bus 4; the three in the middle are removed
@@ -62,7 +59,7 @@ LL = 0x5540000000000000
 abbrev largest : ℕ
 largest = 0x7fefffffffffffff
 
-first-words : List ℕ
+abbrev first-words : List ℕ
 first-words =
     LL ∷ 0 ∷ -L ∷ 0 ∷ 0 ∷ 0 ∷ 0 ∷ 0 ∷ largest ∷ 0
     ∷ -L ∷ 0 ∷ LL ∷ 0 ∷ 0 ∷ 0 ∷ 0 ∷ 0 ∷ 0 ∷ 0
@@ -73,18 +70,18 @@ first-words =
 abbrev numbers : List ℕ
 numbers = 3 ∷ 4294967295 ∷ 0 ∷ 7 ∷ 1 ∷ []
 
-abbrev first : Making
-first = makingOf 5 (words first-words) numbers
+abbrev first : ReducerInput
+first = reducerInputOf 5 (ofBitPatterns first-words) numbers
 
 -- bus 2; then a number that is a row's and no bus's; then buses 1 and 3 and again 2, which is gone, so that bus 4 stays
-first-calls : List Call
+abbrev first-calls : List Call
 first-calls = bus 0 ∷ bus 2 ∷ buses (4294967295 ∷ 7 ∷ 0 ∷ 1 ∷ []) ∷ []
 
 abbrev a : Account
 a = account first first-calls
 
 first-finite : Finite first first-calls
-unfolding first-words first-calls words csub cmul cdiv upTo others entryOf entryAt kron tooSmall refusal eliminate taken fresh stateOf removes step accountFrom sub mul div lt ofBits makingRefusal allFinite ofAccount ofRemovals ofRow ofRows
+unfolding opened
 first-finite = record { made = search tt; given = search tt; computed = tt }
 
 -- the removed buses, in the order of the calls
@@ -92,12 +89,12 @@ abbrev gone : List ℕ
 gone = 2 ∷ 1 ∷ 3 ∷ []
 
 first-removed : a .removed ≡ gone
-unfolding first-words first-calls words csub cmul cdiv upTo others entryOf entryAt kron tooSmall refusal eliminate taken fresh stateOf removes step accountFrom sub mul div lt ofBits
+unfolding opened
 first-removed = refl
 
 first-kept : kept a ≡ 0 ∷ 4 ∷ []
-unfolding first-calls upTo others fresh step accountFrom
-first-kept = ap (λ (ks : List ℕ). others ks (upTo 5)) first-removed
+unfolding opened
+first-kept = refl
 
 -- P holds of each in a list
 abbrev pub Each : (ℕ → Type 0) → List ℕ → Type 0
@@ -129,31 +126,27 @@ module _ (Y : Matrix) (R : List ℕ) (rows : OnlyTo1 Y R 0 × OnlyTo1 Y R 1) whe
   no-into G among away (g, k ∷ ks, m, within, steps) =
       no-further g (λ l. away (rw (rows .1 g (among g m) l) at m)) ks (within .1) (rw (rows .0 k (within .0) (steps .0)) at (steps .1))
 
-first-rows : OnlyTo1 (a .old) gone 0 × OnlyTo1 (a .old) gone 1
-unfolding first-words first-calls words entryOf entryAt fresh step accountFrom ofBits eq
-first-rows = (only-to-1 (a .old) 0 (λ n. n) (λ n. n), only-to-1 (a .old) 1 (λ n. n) (λ n. n))
-
-none-to-4 : Linked (a .old) 1 4 → ⊥
-unfolding first-words first-calls words entryOf entryAt fresh step accountFrom ofBits eq
-none-to-4 n = n
+first-rows : (OnlyTo1 (a .old) gone 0 × OnlyTo1 (a .old) gone 1) × (Linked (a .old) 1 4 → ⊥)
+unfolding opened
+first-rows = ((only-to-1 (a .old) 0 (λ n. n) (λ n. n), only-to-1 (a .old) 1 (λ n. n) (λ n. n)), λ n. n)
 
 -- so the entry from bus 0 to bus 4 stays, though bus 0 has an entry to a removed bus, and another removed bus has one to bus 4
-stays : entry (left first first-calls) 0 1 ≈ a .old 0 4
+stays : entryIn (left first first-calls) 0 1 ≈ a .old 0 4
 stays = (rw first-kept at (demand3 .removals .unchanged first first-calls (words-f64s first-words) first-finite 0 1))
-    (lit< tt) (lit< tt) (no-chain (a .old) (a .removed) (rw first-removed first-rows) 4 none-to-4)
+    (lit< tt) (lit< tt) (no-chain (a .old) (a .removed) (rw first-removed (first-rows .0)) 4 (first-rows .1))
 
 -- the chain from bus 4 to bus 0 meets all removed buses, and the entry there, which was 0, is not
 long-chain : Chain (a .old) (a .removed) 4 0
-unfolding first-words first-calls words csub cmul cdiv upTo others entryOf entryAt kron tooSmall refusal eliminate taken fresh stateOf removes step accountFrom sub mul div lt ofBits eq
+unfolding opened
 long-chain = (3, 2 ∷ 1 ∷ [], (tt, (tt, (tt, tt))), (tt, (tt, (tt, tt))))
 
-fills-in : entry (left first first-calls) 1 0 ≈ a .old 4 0 → ⊥
-unfolding first-words first-calls words csub cmul cdiv upTo others place entryOf entryAt kron tooSmall refusal eliminate taken fresh step accountFrom sub mul div lt ofBits laid makingRefusal afterNew rising allBelow allZero soundRows soundNumbers inputRefusal view leaves removable afterBus afterBuses stepHeld leftFrom left eq
+fills-in : entryIn (left first first-calls) 1 0 ≈ a .old 4 0 → ⊥
+unfolding opened
 fills-in e = e .0
 
 -- ---- claim 2: another matrix, with other entries at buses 2 and 3, under other numbers, and other calls that remove the same three
 
-second-words : List ℕ
+abbrev second-words : List ℕ
 second-words =
     LL ∷ 0 ∷ -L ∷ 0 ∷ 0 ∷ 0 ∷ 0 ∷ 0 ∷ largest ∷ 0
     ∷ -L ∷ 0 ∷ LL ∷ 0 ∷ 0 ∷ 0 ∷ 0 ∷ 0 ∷ 0 ∷ 0
@@ -161,26 +154,25 @@ second-words =
     ∷ 0 ∷ 0 ∷ L ∷ 0 ∷ 0 ∷ 0 ∷ L ∷ -L ∷ L ∷ L
     ∷ 0 ∷ 0 ∷ 0 ∷ 0 ∷ L ∷ 0 ∷ 0 ∷ L ∷ LL ∷ 0 ∷ []
 
-abbrev second : Making
-second = makingOf 5 (words second-words) (8 ∷ 0 ∷ 4294967295 ∷ 2 ∷ 3 ∷ [])
+abbrev second : ReducerInput
+second = reducerInputOf 5 (ofBitPatterns second-words) (8 ∷ 0 ∷ 4294967295 ∷ 2 ∷ 3 ∷ [])
 
 -- buses 2 and 1 and again 2; a number that is no bus's; bus 3, twice
-second-calls : List Call
+abbrev second-calls : List Call
 second-calls = buses (4294967295 ∷ 0 ∷ 4294967295 ∷ 8 ∷ []) ∷ bus 1 ∷ bus 2 ∷ bus 2 ∷ []
 
 abbrev a' : Account
 a' = account second second-calls
 
 calls-differ : second-calls ≡ first-calls → ⊥
-unfolding first-calls second-calls
 calls-differ e = let z : _≡_ {A = ℕ} 0 1 = cc in omega arith
 
 second-finite : Finite second second-calls
-unfolding second-words second-calls words csub cmul cdiv upTo others entryOf entryAt kron tooSmall refusal eliminate taken fresh stateOf removes step accountFrom sub mul div lt ofBits makingRefusal allFinite ofAccount ofRemovals ofRow ofRows
+unfolding opened
 second-finite = record { made = search tt; given = search tt; computed = tt }
 
 second-removed : a' .removed ≡ gone
-unfolding second-words second-calls words csub cmul cdiv upTo others entryOf entryAt kron tooSmall refusal eliminate taken fresh stateOf removes step accountFrom sub mul div lt ofBits
+unfolding opened
 second-removed = refl
 
 -- the group is two of the three
@@ -190,104 +182,86 @@ G = 3 ∷ 2 ∷ []
 among-removed : (k : ℕ) → k isOneOf G → k isOneOf gone
 among-removed = of-each (λ (k : ℕ). k isOneOf gone) G (tt, (tt, tt))
 
-not-grouped : (P : ℕ → Type 0) → P 0 → P 1 → P 4 → (i : ℕ) → i < 5 → (i isOneOf G → ⊥) → P i
-not-grouped P x y z zero h o = x
-not-grouped P x y z (suc zero) h o = y
-not-grouped P x y z (suc (suc zero)) h o = absurd (o tt)
-not-grouped P x y z (suc (suc (suc zero))) h o = absurd (o tt)
-not-grouped P x y z (suc (suc (suc (suc zero)))) h o = z
-not-grouped P x y z (suc (suc (suc (suc (suc i))))) h o = absurd (omega arith)
+-- what holds of each two of these buses, neither of the group
+abbrev pub Apart : List ℕ → List ℕ → (ℕ → ℕ → Type 0) → Type 0
+Apart ns R Q = Each (λ i. (i isOneOf R → ⊥) → Each (λ j. (j isOneOf R → ⊥) → Q i j) ns) ns
+
+pub apart : (ns R : List ℕ) (Q : ℕ → ℕ → Type 0) → Apart ns R Q
+    → (i j : ℕ) → i isOneOf ns → j isOneOf ns → (i isOneOf R → ⊥) → (j isOneOf R → ⊥) → Q i j
+apart ns R Q h i j x y o o' =
+    of-each (λ j. (j isOneOf R → ⊥) → Q i j) ns (of-each (λ i. (i isOneOf R → ⊥) → Each (λ j. (j isOneOf R → ⊥) → Q i j) ns) ns h i x o) j y o'
 
 outside : SameOutside (a .size) (a .old) (a' .old) G
-unfolding first-words first-calls second-words second-calls words entryOf entryAt fresh step accountFrom ofBits eq
-outside i j x y o o' = not-grouped (λ (i : ℕ). Same i j) (along 0 (tt, tt) (tt, tt) (tt, tt)) (along 1 (tt, tt) (tt, tt) (tt, tt)) (along 4 (tt, tt) (tt, tt) (tt, tt)) i x o
-  where
-    Same : ℕ → ℕ → Type 0
-    Same i j = a .old i j ≈ a' .old i j
-
-    along : (i : ℕ) → Same i 0 → Same i 1 → Same i 4 → Same i j
-    along i p q r = not-grouped (Same i) p q r j y o'
-
-sizes : a' .size ≡ a .size
-unfolding first-calls second-calls fresh step accountFrom
-sizes = refl
+unfolding opened
+outside i j x y = apart (upTo 5) G (λ i j. a .old i j ≈ a' .old i j) (search tt depth 30) i j (in-upTo 5 i x) (in-upTo 5 j y)
 
 -- the matrices agree but in the rows and columns of the group
 alike : Alike a a' G
-unfolding first-calls second-calls fresh step accountFrom
-alike = record { size = sizes; removed = second-removed ∙ sym first-removed; group = rw first-removed (search among-removed); outside = search outside }
+unfolding fresh step accountFrom
+alike = record { size = refl; removed = second-removed ∙ sym first-removed; group = rw first-removed (search among-removed); outside = search outside }
 
 abbrev Differ : ℕ → ℕ → Type 0
 Differ i j = a .old i j ≈ a' .old i j → ⊥
 
 -- and differ in both rows, in both columns and on the diagonal
 differ : Differ 2 0 × Differ 3 1 × Differ 4 2 × Differ 4 3 × Differ 2 2 × Differ 3 3
-unfolding first-words first-calls second-words second-calls words entryOf entryAt fresh step accountFrom ofBits eq
+unfolding opened
 differ = (λ e. e .0, λ e. e .0, λ e. e .0, λ e. e .0, λ e. e .0, λ e. e .0)
 
 second-rows : OnlyTo1 (a' .old) gone 0 × OnlyTo1 (a' .old) gone 1
-unfolding second-words second-calls words entryOf entryAt fresh step accountFrom ofBits eq
+unfolding opened
 second-rows = (only-to-1 (a' .old) 0 (λ n. n) (λ n. n), only-to-1 (a' .old) 1 (λ n. n) (λ n. n))
 
 -- bus 0 has no chain into the group in either, though in the second one leads out of it to bus 0
 none-into : NoInto a a' G 0
 none-into = (
-  no-into (a .old) (a .removed) (rw first-removed first-rows) G (rw first-removed among-removed) (λ n. n),
+  no-into (a .old) (a .removed) (rw first-removed (first-rows .0)) G (rw first-removed among-removed) (λ n. n),
   no-into (a' .old) (a' .removed) (rw second-removed second-rows) G (rw second-removed among-removed) (λ n. n),
 )
 
 an-out : Out (a' .old) (a' .removed) G 0
-unfolding second-words second-calls words entryOf entryAt fresh step accountFrom ofBits eq
+unfolding opened
 an-out = (2, [], tt, tt, tt)
 
 -- so row 0 is the same in both, while the entry at bus 4, which has chains into the group and out of it, is not
-row-same : (q : ℕ) → q < 2 → entry (left first first-calls) 0 q ≈ entry (left second second-calls) 0 q
+row-same : (q : ℕ) → q < 2 → entryIn (left first first-calls) 0 q ≈ entryIn (left second second-calls) 0 q
 row-same q h =
     (rw first-kept at (demand3 .removals .independent first second first-calls second-calls (words-f64s first-words) (words-f64s second-words) (search first-finite) (search second-finite) G alike 0 q))
     (lit< tt) h (inl none-into)
 
-entries-differ : entry (left first first-calls) 1 1 ≈ entry (left second second-calls) 1 1 → ⊥
-unfolding first-words first-calls second-words second-calls words csub cmul cdiv upTo others place entryOf entryAt kron tooSmall refusal eliminate taken sub mul div lt ofBits laid makingRefusal afterNew rising allBelow allZero soundRows soundNumbers inputRefusal view leaves removable afterBus afterBuses stepHeld leftFrom left eq
+entries-differ : entryIn (left first first-calls) 1 1 ≈ entryIn (left second second-calls) 1 1 → ⊥
+unfolding opened
 entries-differ e = e .0
 
 -- ---- by number: the second matrix under the first one's numbers
 
-abbrev twin : Making
-twin = makingOf 5 (words second-words) numbers
+abbrev twin : ReducerInput
+twin = reducerInputOf 5 (ofBitPatterns second-words) numbers
 
-twin-calls : List Call
+abbrev twin-calls : List Call
 twin-calls = buses (0 ∷ 4294967295 ∷ 2 ∷ []) ∷ bus 7 ∷ []
 
 abbrev t : Account
 t = account twin twin-calls
 
-both-made : Made first × Made twin
-unfolding first-words second-words words makingRefusal
+both-made : AcceptedMaking first × AcceptedMaking twin
+unfolding opened
 both-made = (tt, tt)
 
 twin-removed : t .removed ≡ gone
-unfolding second-words twin-calls words csub cmul cdiv upTo others entryOf entryAt kron tooSmall refusal eliminate taken fresh stateOf removes step accountFrom sub mul div lt ofBits
+unfolding opened
 twin-removed = refl
 
 -- the numbers of buses 3 and 2
 abbrev GN : List ℕ
 GN = 7 ∷ 0 ∷ []
 
-others-named : (P : ℕ → Type 0) → P 3 → P 4294967295 → P 1 → (k : ℕ) → k isOneOf numbers → (k isOneOf GN → ⊥) → P k
-others-named P x y z = of-each (λ (k : ℕ). (k isOneOf GN → ⊥) → P k) numbers (λ o. x, (λ o. y, (λ o. absurd (o tt), (λ o. absurd (o tt), (λ o. z, tt)))))
-
 named-outside : (b c : ℕ) → b isOneOf numbers → c isOneOf numbers → (b isOneOf GN → ⊥) → (c isOneOf GN → ⊥) → oldBetween a b c ≈ oldBetween t b c
-unfolding first-words first-calls second-words twin-calls words place entryOf entryAt fresh step accountFrom ofBits eq oldBetween
-named-outside b c m l o o' = others-named (λ (b : ℕ). Same b c) (along 3 (tt, tt) (tt, tt) (tt, tt)) (along 4294967295 (tt, tt) (tt, tt) (tt, tt)) (along 1 (tt, tt) (tt, tt) (tt, tt)) b m o
-  where
-    Same : ℕ → ℕ → Type 0
-    Same b c = oldBetween a b c ≈ oldBetween t b c
-
-    along : (b : ℕ) → Same b 3 → Same b 4294967295 → Same b 1 → Same b c
-    along b p q r = others-named (Same b) p q r c l o'
+unfolding opened oldBetween
+named-outside = apart numbers GN (λ b c. oldBetween a b c ≈ oldBetween t b c) (search tt depth 30)
 
 by-number : AlikeByNumber a t GN
-unfolding first-calls twin-calls fresh step accountFrom
+unfolding fresh step accountFrom
 by-number = record {
   numbers = refl;
   removed = rw (twin-removed, first-removed) refl;
@@ -297,7 +271,7 @@ by-number = record {
 
 -- so the two are alike, with the same group
 twin-alike : Alike a t G
-unfolding first-calls twin-calls fresh step accountFrom rowsIn place
+unfolding fresh step accountFrom rowsIn place
 twin-alike =
     let (size, removed, among, outside) = alike-by-number first twin first-calls twin-calls (both-made .0) (both-made .1) GN by-number in
     record { size = size; removed = removed; group = search among; outside = search outside }

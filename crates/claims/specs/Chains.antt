@@ -3,13 +3,14 @@ use Prim.Native.Nat.{ℕ, _<_}
 use mathlib.Core.List.{List, [], _∷_}
 use Rattle.complex.specs.Matrices.{Matrix}
 use Rattle.complex.specs.Values.{_≈_, NonZero}
-use Rattle.buses.specs.Buses.{_isOneOf_}
+use Rattle.lists.specs.Buses.{_isOneOf_}
 
 -- the entry from row bus i to column bus j is not zero
 abbrev pub Linked : Matrix → ℕ → ℕ → Type 0
 Linked Y i j = NonZero (Y i j)
 
--- from a to b along non-zero entries, each from its row bus to its column bus, by way of the buses ks in this order; a bus may stand there twice, and b may be a
+-- from a to b along non-zero entries, each from its row bus to its column bus, by way of the buses ks in this order; a bus may stand there
+-- twice, and b may be a
 abbrev pub Steps : Matrix → ℕ → List ℕ → ℕ → Type 0
 Steps Y a [] b = Linked Y a b
 Steps Y a (k ∷ ks) b = Linked Y a k × Steps Y k ks b

@@ -3,9 +3,9 @@ use Prim.Native.Nat.{ℕ}
 use mathlib.Core.List.{List, map}
 use lib.Dec.{T}
 use lib.Ieee.{Float, binary64, ofBits}
-use Rattle.complex.specs.Values.{allFinite}
-use Rattle.kron_rows.specs.Kron.{start, ofRemovals}
-use Rattle.kron_core.specs.Reducer.{Making, Made}
+use Rattle.binary64.specs.Values.{allFinite}
+use Rattle.kron_reduction.specs.Kron.{start, ofRemovals}
+use Rattle.kron_reduction.specs.Reducer.{ReducerInput, AcceptedMaking}
 use Rattle.claims.specs.Accounts.{Call, Account, account}
 
 -- the numbers computed on the way in the removals carried out, in the order of the work
@@ -13,11 +13,11 @@ unfoldable pub ofAccount : Account → List Float
 ofAccount a = ofRemovals (start (a .size) (a .old)) (a .removed)
 
 -- an accepted making and a list of calls, with the premise
-pub record Finite (M : Making) (calls : List Call) : Type 0 where
-  pub made : Made M
+pub record Finite (M : ReducerInput) (calls : List Call) : Type 0 where
+  pub made : AcceptedMaking M
   pub given : T (allFinite (M .given))
   pub computed : T (allFinite (ofAccount (account M calls)))
 
 -- the numbers with these bit patterns
-unfoldable pub words : List ℕ → List Float
-words = map (ofBits binary64)
+unfoldable pub ofBitPatterns : List ℕ → List Float
+ofBitPatterns = map (ofBits binary64)

@@ -4,18 +4,21 @@ use mathlib.Core.Path.{_≡_}
 use mathlib.Core.Logic.{_⊎_}
 use mathlib.Core.List.{List}
 use lib.ListN.{length}
-use Rattle.complex.specs.Values.{_≈_, F64s}
-use Rattle.buses.specs.Buses.{_isOneOf_}
-use Rattle.kron_core.specs.Reducer.{Making, Held}
-use Rattle.claims.specs.Accounts.{Call, left, entry, Account, account, kept, rowAt}
+use Rattle.complex.specs.Values.{_≈_}
+use Rattle.binary64.specs.Values.{F64s}
+use Rattle.lists.specs.Buses.{_isOneOf_}
+use Rattle.kron_reduction.specs.Reducer.{ReducerInput, ReducerState}
+use Rattle.claims.specs.Accounts.{Call, left, entryIn, Account, account, kept, rowAt}
 use Rattle.claims.specs.Chains.{Chain, Into, Out, SameOutside}
 use Rattle.claims.specs.Finite.{Finite}
 
 -- an entry between two kept buses has its old value unless a chain joins row bus to column bus through removed buses
-abbrev pub Unchanged : Account → Held → Type 0
-Unchanged a h = (p q : ℕ) → p < length (kept a) → q < length (kept a) → (Chain (a .old) (a .removed) (rowAt a p) (rowAt a q) → ⊥) → entry h p q ≈ a .old (rowAt a p) (rowAt a q)
+abbrev pub Unchanged : Account → ReducerState → Type 0
+Unchanged a h = (p q : ℕ) → p < length (kept a) → q < length (kept a)
+    → (Chain (a .old) (a .removed) (rowAt a p) (rowAt a q) → ⊥) → entryIn h p q ≈ a .old (rowAt a p) (rowAt a q)
 
--- two accounts of the same buses, row by row and under whatever numbers, with the same removed in the same order, whose old entries agree but in the rows and columns of G, a "group" of removed buses
+-- two accounts of the same buses, row by row and under whatever numbers, with the same removed in the same order, whose old entries agree
+-- but in the rows and columns of G, a "group" of removed buses
 pub record Alike (a a' : Account) (G : List ℕ) : Type 0 where
   pub size : a' .size ≡ a .size
   pub removed : a' .removed ≡ a .removed
@@ -29,13 +32,17 @@ NoInto a a' G i = (Into (a .old) (a .removed) G i → ⊥) × (Into (a' .old) (a
 abbrev pub NoOut : Account → Account → List ℕ → ℕ → Type 0
 NoOut a a' G j = (Out (a .old) (a .removed) G j → ⊥) × (Out (a' .old) (a' .removed) G j → ⊥)
 
--- whatever the rows and columns of the group hold, no entry differs whose row bus has no chain into it, nor one whose column bus has none out of it
-abbrev pub Independent : Account → Held → Account → Held → Type 0
+-- whatever the rows and columns of the group hold, no entry differs whose row bus has no chain into it, nor one whose column bus has none
+-- out of it
+abbrev pub Independent : Account → ReducerState → Account → ReducerState → Type 0
 Independent a h a' h' = (G : List ℕ) → Alike a a' G → (p q : ℕ) → p < length (kept a) → q < length (kept a)
-    → NoInto a a' G (rowAt a p) ⊎ NoOut a a' G (rowAt a q) → entry h p q ≈ entry h' p q
+    → NoInto a a' G (rowAt a p) ⊎ NoOut a a' G (rowAt a q) → entryIn h p q ≈ entryIn h' p q
 
--- both, for every making and list of calls; a slice of f64 holds numbers of binary64 (F64s), which is how the logic writes an f64 and no restriction
+-- both, for every accepted making and every list of calls; a slice of f64 holds numbers of binary64 (F64s), which is how the logic writes
+-- an f64 and no restriction
 pub record RemovalClaims : Type 0 where
-  pub unchanged : (M : Making) (calls : List Call) → F64s (M .given) → Finite M calls → Unchanged (account M calls) (left M calls)
-  pub independent : (M M' : Making) (calls calls' : List Call) → F64s (M .given) → F64s (M' .given) → Finite M calls → Finite M' calls'
+  pub unchanged : (M : ReducerInput) (calls : List Call) → F64s (M .given) → Finite M calls
+      → Unchanged (account M calls) (left M calls)
+  pub independent : (M M' : ReducerInput) (calls calls' : List Call) → F64s (M .given) → F64s (M' .given)
+      → Finite M calls → Finite M' calls'
       → Independent (account M calls) (left M calls) (account M' calls') (left M' calls')

@@ -7,12 +7,14 @@ use lib.Dec.{T}
 use lib.ListN.{length, getD}
 use lib.Ieee.{Float, nan}
 use Rattle.complex.specs.Matrices.{Matrix, entryAt}
-use Rattle.complex.specs.Values.{_≈_, isZero, Zero, allFinite, F64s}
-use Rattle.buses.specs.Buses.{_isOneOf_}
-use Rattle.ward_studies.specs.Ward.{Study, Room}
-use Rattle.ward_studies.specs.WardExtended.{Extended, ExtendedRoom}
-use Rattle.ward_core.specs.WardNumbers.{Numbered, NumberedX, inRows, inRowsX, AcceptedStudy, AcceptedStudyX, afterCompute, afterComputeExtended}
-use Rattle.ward_studies.specs.WardComputed.{ofStudy, ofExtended}
+use Rattle.complex.specs.Values.{_≈_, Zero}
+use Rattle.binary64.specs.Values.{isZero, allFinite, F64s}
+use Rattle.lists.specs.Buses.{_isOneOf_}
+use Rattle.ward_equivalent.specs.Ward.{Study, Outputs}
+use Rattle.ward_equivalent.specs.Extended.{ExtendedStudy, ExtendedOutputs}
+use Rattle.ward_equivalent.specs.Numbers.{NumberedStudy, NumberedExtended, inRows, extendedInRows, AcceptedStudy, AcceptedExtended}
+use Rattle.ward_equivalent.specs.Numbers.{afterCompute, afterComputeExtended}
+use Rattle.ward_equivalent.specs.Computed.{ofStudy, ofExtended}
 
 -- ---- the premise
 
@@ -25,20 +27,22 @@ pub record FiniteStudy (S : Study) : Type 0 where
   pub given : T (allFinite (givenOf S))
   pub computed : T (allFinite (ofStudy S))
 
-pub record FiniteExtended (S : Extended) : Type 0 where
+pub record FiniteExtended (S : ExtendedStudy) : Type 0 where
   pub given : T (allFinite (givenOf (S .study) ++ S .v-ext))
   pub computed : T (allFinite (ofExtended S))
 
 -- ---- a retained row
 
--- the given entry between two buses
+-- the given entry between two buses; written out, as the demand is stated without the study's own `admittance`
 unfoldable pub old : Study → Matrix
 old S = entryAt (S .size) (S .given)
 
--- row p of the equivalent is this bus's: the internal ones first, then the boundary ones
+-- the buses of the equivalent's rows, each by its row in the given matrix: the internal ones first, then the boundary
+-- ones; written out, as the demand is stated without the study's own `retained`
 unfoldable pub rowBuses : Study → List ℕ
 rowBuses S = S .internal ++ S .boundary
 
+-- the bus of row p of the equivalent, by its row in the given matrix
 unfoldable pub busOfRow : Study → ℕ → ℕ
 unfolding rowBuses
 busOfRow S p = getD (rowBuses S) p 0
@@ -49,7 +53,7 @@ unfolding old busOfRow
 ZeroRow S p = (e : ℕ) → e isOneOf S .external → Zero (old S (busOfRow S p) e)
 
 -- each entry of row p equals the given one between the same two buses
-unfoldable pub KeepsValues : Study → Room → ℕ → Type 0
+unfoldable pub KeepsValues : Study → Outputs → ℕ → Type 0
 unfolding old busOfRow rowBuses
 KeepsValues S o p =
     let r = length (rowBuses S) in
@@ -59,13 +63,13 @@ KeepsValues S o p =
 unfoldable pub ZeroAt : Study → ℕ → List Float → Type 0
 ZeroAt S p xs = (t : ℕ) → t < length (S .boundary) → p ≡ length (S .internal) + t → T (isZero (getD xs t nan))
 
-pub record KeepsRow (S : Study) (o : Room) (p : ℕ) : Type 0 where
+pub record KeepsRow (S : Study) (o : Outputs) (p : ℕ) : Type 0 where
   pub values : KeepsValues S o p
   pub active : ZeroAt S p (o .p-ward)
   pub reactive : ZeroAt S p (o .q-ward)
 
-pub record KeepsRowX (S : Extended) (o : ExtendedRoom) (p : ℕ) : Type 0 where
-  pub row : KeepsRow (S .study) (o .room) p
+pub record KeepsExtendedRow (S : ExtendedStudy) (o : ExtendedOutputs) (p : ℕ) : Type 0 where
+  pub row : KeepsRow (S .study) (o .outputs) p
   pub correction : ZeroAt (S .study) p (o .correction)
   pub compensation : ZeroAt (S .study) p (o .compensation)
 
@@ -73,7 +77,10 @@ pub record KeepsRowX (S : Extended) (o : ExtendedRoom) (p : ℕ) : Type 0 where
 
 -- for every accepted study, of either kind; the matrix is a slice of f64 (F64s), which is no restriction
 pub record WardRows : Type 0 where
-  pub study : (N : Numbered) (o : Room) → F64s (N .study .given) → AcceptedStudy N o → FiniteStudy (inRows N)
-      → (p : ℕ) → p < length (rowBuses (inRows N)) → ZeroRow (inRows N) p → KeepsRow (inRows N) (afterCompute N o .room) p
-  pub extended : (N : NumberedX) (o : ExtendedRoom) → F64s (N .study .study .given) → AcceptedStudyX N o → FiniteExtended (inRowsX N)
-      → (p : ℕ) → p < length (rowBuses (inRows (N .study))) → ZeroRow (inRows (N .study)) p → KeepsRowX (inRowsX N) (afterComputeExtended N o .room) p
+  pub study : (N : NumberedStudy) (o : Outputs) → F64s (N .study .given) → AcceptedStudy N o → FiniteStudy (inRows N)
+      → (p : ℕ) → p < length (rowBuses (inRows N))
+      → ZeroRow (inRows N) p → KeepsRow (inRows N) (afterCompute N o .outputs) p
+  pub extended : (N : NumberedExtended) (o : ExtendedOutputs) → F64s (N .study .study .given)
+      → AcceptedExtended N o → FiniteExtended (extendedInRows N)
+      → (p : ℕ) → p < length (rowBuses (inRows (N .study)))
+      → ZeroRow (inRows (N .study)) p → KeepsExtendedRow (extendedInRows N) (afterComputeExtended N o .outputs) p

@@ -1,17 +1,11 @@
 -- The complex entry at an index, after a store, in a part of a list, and in a list whose part came back.
 -- Two lists of 2 n numbers with the same n entries are the same list.
--- Assumes nothing.
-use mathlib.Core.Path.{_≡_, refl, sym, ap, _∙_}
-use mathlib.Core.List.{List, [], _∷_, _++_}
-use Prim.Native.Nat.{ℕ, zero, suc, _+_, _*_, _-_, _≤_, _<_}
+use Rattle.prelude.proofs.Prelude.{_≡_, refl, sym, ap, _∙_, List, [], _∷_, _++_, ℕ, zero, suc, _+_, _-_, _*_, _≤_, _<_, arith, length, getD, take, drop, Float, nan, set, length-set, List·getD-append, getD-set-same, getD-set-other, getD-take, getD-drop}
 use native.Mathlib.Nat.{mul-add}
-use native.Mathlib.Omega.{arith}
-use lib.ListN.{length, getD, take, drop, set, length-set, List·getD-append}
-use lib.Seq.{getD-set-same, getD-set-other, getD-take, getD-drop, getD-append-add}
-use lib.Ieee.{Float, nan}
+use lib.Seq.{getD-append-add}
 use Rattle.complex.specs.declared.Complex.{Complex}
 use Rattle.complex.specs.Entries.{entry, put}
-use Rattle.complex.proofs.Parts.{back, getD-back-before, getD-back-in, getD-back-after}
+use Rattle.lists.proofs.Parts.{back, getD-back-before, getD-back-in, getD-back-after}
 
 -- two complex numbers with the same parts
 pub parts-same : {a b : Complex} → a .re ≡ b .re → a .im ≡ b .im → a ≡ b

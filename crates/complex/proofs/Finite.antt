@@ -1,14 +1,6 @@
 -- Lists of numbers that are all finite; and a zero times a number, where the product is finite, is zero.
--- Assumes nothing.
-use mathlib.Core.List.{List, [], _∷_, _++_}
-use Prim.Native.Nat.{ℕ, zero, suc, _<_}
-use native.Mathlib.Omega.{arith}
-use lib.Dec.{T}
-use lib.ListN.{length, getD}
-use lib.Ieee.{Float, nan, inf, fin, Format, mul}
-use lib.Ieee.Fits.{and-i, and-l, and-r}
-use lib.Ieee.Scale.{finite}
-use Rattle.complex.specs.Values.{allFinite}
+use Rattle.prelude.proofs.Prelude.{List, [], _∷_, _++_, ℕ, zero, suc, _<_, arith, T, length, getD, Float, nan, inf, fin, Format, mul, and-i, and-l, and-r, finite}
+use Rattle.binary64.specs.Values.{allFinite}
 use Rattle.binary64.proofs.Floats.{Zero, mul-zero-left}
 
 pub all-left : (xs ys : List Float) → T (allFinite (xs ++ ys)) → T (allFinite xs)

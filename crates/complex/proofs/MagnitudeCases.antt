@@ -1,8 +1,6 @@
 -- A magnitude computed by the checker, by its bits.
--- Assumes nothing.
-use mathlib.Core.Path.{_≡_, refl}
+use Rattle.prelude.proofs.Prelude.{_≡_, refl, binary64, add, mul, sum, round, units, odd, ofBits, ofFields, size, span, climb}
 use lib.Count.{trailingZeros}
-use lib.Ieee.{binary64, add, mul, sum, round, units, odd, ofBits, ofFields, size, span, climb}
 use Rattle.complex.specs.Arithmetic.{sqmag}
 use Rattle.complex.specs.Magnitude.{magnitude}
 use Rattle.binary64.specs.Root.{root, rootOf, radicand, half, wholeRoot, movedBack}

@@ -1,15 +1,7 @@
 -- Laws of the sign cleared, the root and the magnitude.
--- Assumes nothing.
-use mathlib.Core.Path.{_≡_, refl, sym}
-use mathlib.Core.Bool.{Bool, true, false, true≢false}
-use Prim.Native.Nat.{ℕ, zero, suc, _*_}
-use native.Mathlib.Nat.{mul-pos, zero-mul, zero-lt-suc, not-le-of-lt}
-use borrow.Author.Tests.{ltb-false}
-use lib.IntN.{ℤ, pos}
-use lib.Dec.{T}
-use lib.Ieee.{Float, nan, inf, fin, binary64, fits, up, down, lt, sum, round, units, odd, neg, add, sub, mul}
+use Rattle.prelude.proofs.Prelude.{_≡_, refl, sym, Bool, true, false, ℕ, zero, suc, _*_, T, Float, nan, true≢false, mul-pos, zero-mul, zero-lt-suc, not-le-of-lt, ltb-false, ℤ, inf, fin, binary64, fits, up, down, lt, sum, round, units, odd, neg, add, sub, mul, finite}
+use lib.IntN.{pos}
 use lib.Ieee.Fits.{up-pos, neg-fits, mul-fits}
-use lib.Ieee.Scale.{finite}
 use Rattle.complex.specs.Magnitude.{abs, magnitude}
 use Rattle.complex.specs.declared.Complex.{Complex}
 use Rattle.complex.specs.Arithmetic.{sqmag}

@@ -1,44 +1,14 @@
--- Matrices in slices: the entry of a laid-out matrix, a row as a part, a row that came back, and when a slice is a layout.
--- Assumes nothing.
-use mathlib.Core.Path.{_≡_, refl, sym, ap, _∙_}
-use mathlib.Core.Logic.{_⊎_, inl, inr}
-use mathlib.Core.List.{List, [], _∷_, _++_}
-use Prim.Native.Nat.{ℕ, zero, suc, _+_, _*_, _/_, _%_, _≤_, _<_}
-use native.Mathlib.Nat.{mul-zero, zero-mul, add-comm, add-assoc, suc-mul, zero-add, div-add-mod', mod-lt, div-lt-iff-lt-mul, mul-le-mul-right}
-use native.Mathlib.Omega.{arith}
-use lib.ListN.{length, getD, take, drop, length-append, length-replicate, getD-replicate, List·getD-append}
-use lib.Seq.{getD-at}
+-- Matrices in slices: the entry of a laid-out matrix, a row as a part, and when a slice is a layout.
+use Rattle.prelude.proofs.Prelude.{_≡_, refl, sym, ap, _∙_, List, [], _∷_, _++_, ℕ, zero, suc, _+_, _*_, _≤_, _<_, arith, length, getD, take, drop, Float, nan, _/_, _%_, zero-mul, add-assoc, suc-mul, zero-add, mul-le-mul-right, length-append, length-replicate}
+use native.Mathlib.Nat.{mul-zero, add-comm, div-add-mod', mod-lt, div-lt-iff-lt-mul}
+use lib.ListN.{getD-replicate}
 use lib.Arith.{digits-lt}
-use lib.Ieee.{Float, nan}
 use Rattle.complex.specs.Constants.{plus0}
 use Rattle.complex.specs.Entries.{entry}
-use Rattle.complex.specs.Matrices.{Matrix, upTo, entryAt, row, rows, grid, zeros}
-use Rattle.complex.proofs.Parts.{back}
-use Rattle.complex.proofs.Entries.{entry-take, entry-drop, entry-append-left, entry-append-right, entry-back-before, entry-back-in, entry-back-after, entry-next, ext-entry}
-
--- ---- 0, 1, .. n - 1
-
-pub length-upTo : (n : ℕ) → length (upTo n) ≡ n
-unfolding upTo
-length-upTo zero = refl
-length-upTo (suc n) = length-append (upTo n) (n ∷ []) ∙ ap (λ (k : ℕ). k + 1) (length-upTo n) ∙ omega arith
-
--- below, or not
-below : (a b : ℕ) → (a < b) ⊎ (b ≤ a)
-below a zero = inr (omega arith)
-below zero (suc b) = inl (omega arith)
-below (suc a) (suc b) = elim (below a b) [ inl l ↦ inl (omega arith) | inr l ↦ inr (omega arith) ]
-
-pub getD-upTo : (n k d : ℕ) → k < n → getD (upTo n) k d ≡ k
-unfolding upTo
-getD-upTo zero k d h = absurd (omega arith)
-getD-upTo (suc n) k d h = pick (getD-upTo n k d) (below k n)
-  where
-    pick : (k < n → getD (upTo n) k d ≡ k) → (k < n) ⊎ (n ≤ k) → getD (upTo n ++ (n ∷ [])) k d ≡ k
-    pick ih (inl l) = List·getD-append (upTo n) (n ∷ []) d k (rw length-upTo l) ∙ ih l
-    pick ih (inr l) =
-        let e : k ≡ n = omega arith in
-        rw e (getD-at (upTo n) n [] d n (length-upTo n))
+use Rattle.complex.specs.Matrices.{Matrix, entryAt, row, rows, grid, zeros}
+use Rattle.lists.specs.Buses.{upTo}
+use Rattle.lists.proofs.Order.{length-upTo, getD-upTo}
+use Rattle.complex.proofs.Entries.{entry-take, entry-drop, entry-append-left, entry-append-right, entry-next, ext-entry}
 
 -- ---- +0s
 
@@ -137,7 +107,7 @@ pub grid-same : (n m : ℕ) (Y Z : Matrix) → ((i j : ℕ) → i < n → j < m 
 grid-same n m Y Z h =
     grid-ext n m Z (grid n m Y) (length-grid n m Y) λ (i j : ℕ) (x : i < n) (y : j < m). entry-grid n m Y i j x y ∙ h i j x y
 
--- ---- row p of a slice of rows of w: its part, and the slice when the part came back
+-- ---- row p of a slice of rows of w
 
 -- the last entry of row p lies within n rows
 pub row-within : (n w p : ℕ) → p < n → p * w + w ≤ n * w
@@ -149,22 +119,3 @@ entry-within n w p q h k = digits-lt h k
 pub entry-part : (w : ℕ) (xs : List Float) (p q : ℕ) → q < w → entry (take (2 * w) (drop (2 * (p * w)) xs)) q ≡ entryAt w xs p q
 unfolding entryAt
 entry-part w xs p q h = entry-take w (drop (2 * (p * w)) xs) q h ∙ entry-drop (p * w) xs q
-
-module _ (w p : ℕ) (xs ys : List Float) (fits : 2 * (p * w + w) ≤ length xs) (long : length ys ≡ 2 * w) where
-  pub row-back-same : (q : ℕ) → q < w → entryAt w (back (2 * (p * w)) (2 * w) xs ys) p q ≡ entry ys q
-  unfolding entryAt
-  row-back-same q h = entry-back-in (p * w) w xs ys fits long q h
-
-  pub row-back-other : (r q : ℕ) → (r ≡ p → ⊥) → q < w → entryAt w (back (2 * (p * w)) (2 * w) xs ys) r q ≡ entryAt w xs r q
-  unfolding entryAt
-  row-back-other r q n h = pick (apart r p n)
-    where
-      apart : (a b : ℕ) → (a ≡ b → ⊥) → (a < b) ⊎ (b < a)
-      apart zero zero m = absurd (m refl)
-      apart zero (suc b) m = inl (omega arith)
-      apart (suc a) zero m = inr (omega arith)
-      apart (suc a) (suc b) m = elim (apart a b (λ (e : a ≡ b). m (ap suc e))) [ inl l ↦ inl (omega arith) | inr l ↦ inr (omega arith) ]
-
-      pick : (r < p) ⊎ (p < r) → entry (back (2 * (p * w)) (2 * w) xs ys) (r * w + q) ≡ entry xs (r * w + q)
-      pick (inl l) = entry-back-before (p * w) w xs ys fits long (r * w + q) (digits-lt l h)
-      pick (inr l) = entry-back-after (p * w) w xs ys fits long (r * w + q) (let b = row-within r w p l in omega arith)

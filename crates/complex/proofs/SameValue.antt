@@ -1,21 +1,16 @@
 -- Complex numbers with the same value: a ≋ b where each part is the same or both are zero. Products and quotients respect it, and a zero factor gives zero.
 -- `≋→≈` and `≈→≋`: between finite numbers it is ≈, the machine's == part by part.
--- Assumes nothing.
-use mathlib.Core.Path.{_≡_, refl}
-use mathlib.Core.Bool.{Bool, true, false, not, _&&_}
-use mathlib.Core.Logic.{_⊎_, inl, inr}
-use Prim.Native.Nat.{ℕ, zero, suc, _+_, _*_, _<_}
-use native.Mathlib.Nat.{zero-mul, zero-add, mul-pos}
-use lib.IntN.{ℤ, negsuc}
-use lib.Dec.{T, lt→ltb, lit<, T-not}
-use lib.Ieee.{Float, nan, inf, fin, binary64, lt, fits, ofBits, up, down, below}
-use lib.Ieee.Fits.{sub-fits, mul-fits, div-fits, up-pos, down-pos}
-use lib.Ieee.Bits.{is-false, is-true}
-use lib.Ieee.Scale.{finite}
+use Rattle.prelude.proofs.Prelude.{_≡_, refl, Bool, true, false, not, _&&_, _⊎_, inl, inr, ℕ, zero, suc, _+_, _*_, _<_, T, Float, nan, zero-mul, zero-add, mul-pos, ℤ, lt→ltb, lit<, inf, fin, binary64, lt, fits, ofBits, up, down, down-pos, is-true, finite}
+use lib.IntN.{negsuc}
+use lib.Dec.{T-not}
+use lib.Ieee.{below}
+use lib.Ieee.Fits.{sub-fits, mul-fits, div-fits, up-pos}
+use lib.Ieee.Bits.{is-false}
 use Rattle.complex.specs.declared.Complex.{Complex}
-use Rattle.complex.specs.Constants.{tiny}
+use Rattle.complex.specs.Constants.{divisionLimit}
 use Rattle.complex.specs.Arithmetic.{_⊕_, _⊖_, _⊗_, _⊘_, cmul, cdiv, csub, sqmag}
-use Rattle.complex.specs.Values.{_≈_, isZero, NonZero}
+use Rattle.complex.specs.Values.{_≈_, NonZero}
+use Rattle.binary64.specs.Values.{isZero}
 use Rattle.binary64.proofs.Floats.{Zero, _≐_, same, zeros, ≐-sym, ≐-trans, add-right, sub-right, mul-zero-left, mul-zero-right, div-zero, mul-cong, add-cong, sub-cong, div-cong, zero-of, ≐→eq, eq→≐, eq-zero, zero-eq}
 
 abbrev pub Finite : Complex → Type 0
@@ -153,10 +148,10 @@ sqmag-cong c = add-cong binary64 (fit _ _) (fit _ _) (fit _ _) (fit _ _) (c .re-
 pub record Divisor (b : Complex) : Type 0 where
   pub number : Number b
   pub sum : T (finite (sqmag b))
-  pub big : T (not (lt (sqmag b) tiny))
+  pub big : T (not (lt (sqmag b) divisionLimit))
 
-tiny-is : tiny ≡ fin false 0x156e1fc2f8f359 (negsuc 1048)
-unfolding tiny ofBits
+tiny-is : divisionLimit ≡ fin false 0x156e1fc2f8f359 (negsuc 1048)
+unfolding divisionLimit ofBits
 tiny-is = refl
 
 zero-lt : (x : Float) (n : ℕ) (d : ℤ) → 0 < n → Zero x → T (lt x (fin false n d))
@@ -173,18 +168,18 @@ zero-lt (fin s zero e) n d h z = simp zero-mul (go s)
     go true = lt→ltb 0 (0 + n * up d * down e) (rw zero-add above)
     go false = lt→ltb 0 (n * up d * down e) above
 
-zero-tiny : (x : Float) → Zero x → T (lt x tiny)
+zero-tiny : (x : Float) → Zero x → T (lt x divisionLimit)
 zero-tiny x z = rw tiny-is (zero-lt x 0x156e1fc2f8f359 (negsuc 1048) (lit< tt) z)
 
 pub not-zero : {b : Complex} → Divisor b → Zero (sqmag b) → ⊥
-not-zero {b} d z = T-not (lt (sqmag b) tiny) (d .big) (zero-tiny (sqmag b) z)
+not-zero {b} d z = T-not (lt (sqmag b) divisionLimit) (d .big) (zero-tiny (sqmag b) z)
 
 quotient : Complex → Complex → Complex
 quotient a b = record { re = (a .re ⊗ b .re ⊕ a .im ⊗ b .im) ⊘ sqmag b; im = (a .im ⊗ b .re ⊖ a .re ⊗ b .im) ⊘ sqmag b }
 
 cdiv-is : (a b : Complex) → Divisor b → cdiv a b ≡ quotient a b
 unfolding cdiv quotient
-cdiv-is a b d = rw (is-false (lt (sqmag b) tiny) (d .big))
+cdiv-is a b d = rw (is-false (lt (sqmag b) divisionLimit) (d .big))
 
 pub cdiv-cong : {a a' b b' : Complex} → Divisor b → Divisor b' → Congruent a a' b b' → sqmag b ≐ sqmag b' → cdiv a b ≋ cdiv a' b'
 unfolding quotient

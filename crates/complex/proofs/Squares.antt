@@ -1,16 +1,10 @@
 -- A sum of squares below a number is finite, and so is each square: what is not negative and is less than something is no infinity and no NaN.
--- Assumes nothing.
-use mathlib.Core.Bool.{true, false}
-use mathlib.Core.List.{[], _∷_}
-use lib.Dec.{T}
-use lib.Ieee.{Float, nan, inf, fin, Format, binary64, add, lt}
-use lib.Ieee.Fits.{and-i}
-use lib.Ieee.Scale.{finite}
+use Rattle.prelude.proofs.Prelude.{true, false, [], _∷_, T, Float, nan, inf, fin, Format, binary64, add, lt, and-i, finite}
 use Rattle.binary64.proofs.Order.{NotNegative, square-not-negative, sum-not-negative}
 use Rattle.complex.specs.declared.Complex.{Complex}
 use Rattle.complex.specs.Arithmetic.{_⊗_, sqmag}
 use Rattle.complex.specs.Computed.{ofSqmag}
-use Rattle.complex.specs.Values.{allFinite}
+use Rattle.binary64.specs.Values.{allFinite}
 
 -- what a finite sum adds is finite
 finite-terms : (f : Format) (x y : Float) → NotNegative x → NotNegative y → T (finite (add f x y)) → T (finite x) × T (finite y)

@@ -1,8 +1,8 @@
 -- Complex arithmetic in binary64. ⊕ ⊖ ⊗ ⊘ are the machine's + - * /, each rounded once.
-use mathlib.Core.Bool.{false, cond}
+use mathlib.Core.Bool.{Bool, false, cond}
 use lib.Ieee.{Float, inf, binary64, add, sub, mul, div, neg, lt}
 use Rattle.complex.specs.declared.Complex.{Complex}
-use Rattle.complex.specs.Constants.{plus0, one, tiny}
+use Rattle.complex.specs.Constants.{plus0, one, divisionLimit}
 
 infixl 60 _⊕_
 infixl 60 _⊖_
@@ -19,6 +19,10 @@ x ⊗ y = mul binary64 x y
 
 abbrev pub _⊘_ : Float → Float → Float
 x ⊘ y = div binary64 x y
+
+-- the complex number of these two parts
+abbrev pub complexOf : Float → Float → Complex
+complexOf x y = record { re = x; im = y }
 
 unfoldable pub cadd : Complex → Complex → Complex
 cadd a b = record { re = a .re ⊕ b .re; im = a .im ⊕ b .im }
@@ -37,11 +41,15 @@ cmul a b = record { re = a .re ⊗ b .re ⊖ a .im ⊗ b .im; im = a .re ⊗ b .
 unfoldable pub sqmag : Complex → Float
 sqmag b = b .re ⊗ b .re ⊕ b .im ⊗ b .im
 
--- d is sqmag b; a NaN d is not below tiny
+-- too small to divide by: the squared magnitude is below 1e-300. A NaN is not.
+abbrev pub tooSmall : Complex → Bool
+tooSmall b = lt (sqmag b) divisionLimit
+
+-- a divisor that is too small gives (inf, inf)
 unfoldable pub cdiv : Complex → Complex → Complex
-unfolding sqmag tiny
+unfolding sqmag divisionLimit
 cdiv a b =
-    cond (lt (sqmag b) tiny)
+    cond (tooSmall b)
     (record { re = inf false; im = inf false })
     (record { re = (a .re ⊗ b .re ⊕ a .im ⊗ b .im) ⊘ sqmag b; im = (a .im ⊗ b .re ⊖ a .re ⊗ b .im) ⊘ sqmag b })
 

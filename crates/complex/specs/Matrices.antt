@@ -1,8 +1,9 @@
 -- Matrices by row and column, and how they lie in a slice of f64: row after row, real then imaginary.
-use Prim.Native.Nat.{ℕ, zero, suc, _+_, _*_}
+use Prim.Native.Nat.{ℕ, _+_, _*_}
 use mathlib.Core.List.{List, [], _∷_, _++_}
 use lib.ListN.{replicate}
 use lib.Ieee.{Float}
+use Rattle.lists.specs.Buses.{upTo}
 use Rattle.complex.specs.declared.Complex.{Complex}
 use Rattle.complex.specs.Constants.{plus0}
 use Rattle.complex.specs.Entries.{entry}
@@ -10,11 +11,6 @@ use Rattle.complex.specs.Entries.{entry}
 -- the entry in the row of the first and the column of the second
 abbrev pub Matrix : Type 0
 Matrix = ℕ → ℕ → Complex
-
--- 0, 1, .. n - 1
-unfoldable pub upTo : ℕ → List ℕ
-upTo zero = []
-upTo (suc n) = upTo n ++ (n ∷ [])
 
 -- reading: the matrix whose rows of w entries stand in ys
 unfoldable pub entryAt : ℕ → List Float → Matrix

@@ -5,6 +5,7 @@ ghost use Prim.Native.Nat.{_<_, _*_, _+_};
 ghost use lib.ListN.{length};
 ghost use Rattle.complex.specs.Entries as spec;
 
+// The complex number in place i, counted in complex numbers.
 pub fn get(s: &[f64], i: usize) -> Complex
     requires { ⌜ 2 * i + 1 < length (now s) ⌝ }
     ensures { λ r. ⌜ r ≡ spec.entry (now (s .entry)) i ⌝ }
@@ -15,6 +16,7 @@ pub fn get(s: &[f64], i: usize) -> Complex
     }
 }
 
+// Writes a complex number to place i, counted in complex numbers.
 pub fn put(s: &mut [f64], i: usize, c: Complex)
     requires { ⌜ 2 * i + 1 < length (now s) ⌝ }
     ensures { λ _. ⌜ now (s .exit) ≡ spec.put (now (s .entry)) i c ⌝ }

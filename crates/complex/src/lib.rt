@@ -6,13 +6,13 @@ pub mod constants;
 pub mod entry;
 pub mod magnitude;
 pub mod slices;
-pub mod words;
 
 pub struct Complex {
     pub re: f64,
     pub im: f64,
 }
 
+// a + b, part by part.
 pub fn cadd(a: Complex, b: Complex) -> Complex
     ensures { λ r. ⌜ r ≡ spec.cadd a b ⌝ }
 {
@@ -22,6 +22,7 @@ pub fn cadd(a: Complex, b: Complex) -> Complex
     }
 }
 
+// a - b, part by part.
 pub fn csub(a: Complex, b: Complex) -> Complex
     ensures { λ r. ⌜ r ≡ spec.csub a b ⌝ }
 {
@@ -31,6 +32,7 @@ pub fn csub(a: Complex, b: Complex) -> Complex
     }
 }
 
+// -a: the sign of each part turned, of a zero too.
 pub fn cneg(a: Complex) -> Complex
     ensures { λ r. ⌜ r ≡ spec.cneg a ⌝ }
 {
@@ -40,6 +42,7 @@ pub fn cneg(a: Complex) -> Complex
     }
 }
 
+// a b, each product and sum rounded once.
 pub fn cmul(a: Complex, b: Complex) -> Complex
     ensures { λ r. ⌜ r ≡ spec.cmul a b ⌝ }
 {
@@ -61,7 +64,7 @@ pub fn cdiv(a: Complex, b: Complex) -> Complex
     ensures { λ r. ⌜ r ≡ spec.cdiv a b ⌝ }
 {
     let d = b.re * b.re + b.im * b.im;
-    if d < constants::TINY {
+    if d < constants::DIVISION_LIMIT {
         return Complex {
             re: 1.0 / 0.0,
             im: 1.0 / 0.0,
@@ -73,6 +76,7 @@ pub fn cdiv(a: Complex, b: Complex) -> Complex
     }
 }
 
+// 1 / b by `cdiv`: (inf, inf) where b is too small to divide by.
 pub fn complex_inv(b: Complex) -> Complex
     ensures { λ r. ⌜ r ≡ spec.complexInv b ⌝ }
 {

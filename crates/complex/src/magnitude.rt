@@ -11,6 +11,7 @@ pub fn abs(x: f64) -> f64
     if x > 0.0 { x } else { 0.0 - x }
 }
 
+// The magnitude of c: the root of re re + im im, each step rounded.
 pub fn magnitude(c: Complex) -> f64
     ensures { λ r. ⌜ r ≡ spec.magnitude c ⌝ }
 {

@@ -1,2 +1,4 @@
+pub mod RecordsLaws
+pub mod RecordBack
 pub mod KronLaws
 pub mod NumbersLaws

@@ -1,12 +1,6 @@
 -- Bytes and numbers: lengths that fit, and those that do not.
--- Assumes nothing.
-use mathlib.Core.Path.{_≡_, refl, ap, _∙_}
-use mathlib.Core.Bool.{Bool, true, false, cond}
-use Prim.Native.Nat.{ℕ, _+_, _*_, _/_, _%_, _<_}
-use native.Mathlib.Nat.{div-add-mod', mul-comm}
-use native.Mathlib.Omega.{arith}
-use borrow.Author.Tests.{eqb-true, eq-eqb, ne-eqb}
-use lib.Dec.{eqb}
+use Rattle.prelude.proofs.Prelude.{_≡_, refl, sym, ap, _∙_, true, false, cond, ℕ, _+_, _*_, _<_, arith, needs, eqb, _/_, _%_, mul-comm, eqb-true, eq-eqb, ne-eqb}
+use native.Mathlib.Nat.{div-add-mod'}
 use lib.Arith.{digits-div, digits-mod}
 use Rattle.entries.specs.Answers.{answerAfter}
 use Rattle.entries.specs.Numbers.{misfit}
@@ -36,16 +30,22 @@ whole k b n r q =
 pub other : (k b n : ℕ) → 0 < k → (b / k ≡ n → ⊥) → b ≡ k * n → ⊥
 other k b n p h e = h (ap (λ (x : ℕ). x / k) (digits k b n e) ∙ digits-div n p)
 
-told-by : (t : Bool) (b m f : ℕ) → eqb b m ≡ t → f ≡ cond t 0 2 → f ≡ 0 → b ≡ m
-told-by true b m f e g h = eqb-true b m e
-told-by false b m f e g h = absurd (omega (arith, g, h))
-
 pub fits : (k b n f : ℕ) → f ≡ misfit k b n → f ≡ 0 → b ≡ k * n
 unfolding misfit
-fits k b n f g h = told-by (eqb b (k * n)) b (k * n) f refl g h
+fits k b n f g h = (elim (eqb b (k * n)) as (λ t. eqb b (k * n) ≡ t → f ≡ cond t 0 2 → b ≡ k * n)
+    [ true ↦ λ e g. eqb-true b (k * n) e | false ↦ λ e g. absurd (omega arith) ]) refl g
 
--- ---- what a refused call leaves
+-- ---- what a call leaves
 
 pub as-it-was : {A : Type 0} (f : ℕ) (new held : A) → (f ≡ 0 → ⊥) → held ≡ answerAfter f new held
 unfolding answerAfter
 as-it-was f new held h = rw (ne-eqb f 0 h) refl
+
+pub converted : {A : Type 0} (x new held : A) → x ≡ new → x ≡ answerAfter 0 new held
+unfolding answerAfter
+converted x new held e = e
+
+pub told-none : (f m : ℕ) → f ≡ m → f ≡ 0 → 0 ≡ m
+told-none f m e z = sym z ∙ e
+
+pub ruleset converting = (as-it-was, converted, told-none, fits, needs)

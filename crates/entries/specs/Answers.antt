@@ -4,25 +4,24 @@ use mathlib.Core.Bool.{cond}
 use lib.Dec.{eqb}
 use lib.Ieee.{Float}
 use Rattle.complex.specs.declared.Complex.{Complex}
-use Rattle.kron_core.specs.declared.Impedance.{Impedance}
-use Rattle.kron_core.specs.declared.Impedance.the-variants as impedances
-use Rattle.dc_core.specs.declared.Retained.{Retained}
-use Rattle.dc_core.specs.declared.Retained.the-variants as counts
-use Rattle.ward_studies.specs.declared.WardSummary.{WardSummary}
-use Rattle.ward_studies.specs.declared.WardAnswer.{WardAnswer}
-use Rattle.ward_studies.specs.declared.WardAnswer.the-variants as wards
-use Rattle.rei_core.specs.declared.ReiEquivalent.{ReiEquivalent}
-use Rattle.rei_core.specs.declared.ReiAnswer.{ReiAnswer}
-use Rattle.rei_core.specs.declared.ReiAnswer.the-variants as reis
+use Rattle.kron_reduction.specs.declared.Impedance.{Impedance}
+use Rattle.kron_reduction.specs.declared.Impedance.the-variants as impedances
+use Rattle.dc_flow.specs.declared.Retained.{Retained}
+use Rattle.dc_flow.specs.declared.Retained.the-variants as counts
+use Rattle.ward_equivalent.specs.declared.answers.WardSummary.{WardSummary}
+use Rattle.ward_equivalent.specs.declared.answers.WardAnswer.{WardAnswer}
+use Rattle.ward_equivalent.specs.declared.answers.WardAnswer.the-variants as wards
+use Rattle.rei_equivalent.specs.declared.ReiEquivalent.{ReiEquivalent}
+use Rattle.rei_equivalent.specs.declared.ReiAnswer.{ReiAnswer}
+use Rattle.rei_equivalent.specs.declared.ReiAnswer.the-variants as reis
 
 -- ---- what several pointers hold together
 
-abbrev pub complexOf : Float → Float → Complex
-complexOf a b = record { re = a; im = b }
-
+-- a Ward study's sizes, in buses, and its ratio
 abbrev pub summaryOf : ℕ → ℕ → Float → WardSummary
 summaryOf r e x = record { «n_buses_reduced» = r; «n_buses_equivalent» = e; «reduction_ratio» = x }
 
+-- an REI equivalent: bus, voltage in per unit, P in MW, Q in MVAr, and the number of ties
 abbrev pub reiOf : ℕ → Float → Float → Float → ℕ → ReiEquivalent
 reiOf b v p q n = record { «rei_bus_id» = b; «rei_voltage_pu» = v; «rei_p_mw» = p; «rei_q_mvar» = q; «n_ties» = n }
 
@@ -37,7 +36,7 @@ unfoldable pub valueAfter : Impedance → Complex → Complex
 valueAfter (impedances.Value z) held = z
 valueAfter (impedances.Refused k) held = held
 
-unfoldable pub countAfter : Retained → ℕ → ℕ
+abbrev pub countAfter : Retained → ℕ → ℕ
 countAfter (counts.Count n) held = n
 countAfter (counts.Refused k) held = held
 

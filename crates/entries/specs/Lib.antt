@@ -1,3 +1,5 @@
+pub mod Records
+pub mod RecordBack
 pub mod Answers
 pub mod Kron
 pub mod Numbers

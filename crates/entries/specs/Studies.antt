@@ -1,32 +1,33 @@
--- What the entries of many slices answer and leave, by the library's definitions: f is returned, each slice at the end is the library's, and single
--- answers are answerAfter where the study is accepted.
+-- What the entries of many slices answer and leave, by the library's definitions: f is returned, each slice at the end is the library's,
+-- and single answers are written where the study is accepted.
 use Prim.Native.Nat.{ℕ}
 use mathlib.Core.Path.{_≡_}
 use mathlib.Core.List.{List}
 use lib.Ieee.{Float}
-use Rattle.ward_studies.specs.declared.WardSummary.{WardSummary}
-use Rattle.ward_studies.specs.Ward as ward
-use Rattle.ward_studies.specs.WardExtended as extended
-use Rattle.rei_core.specs.declared.ReiEquivalent.{ReiEquivalent}
-use Rattle.rei_core.specs.declared.ReiAnswer.{ReiAnswer}
-use Rattle.rei_core.specs.Rei as rei
+use Rattle.ward_equivalent.specs.declared.answers.WardSummary.{WardSummary}
+use Rattle.ward_equivalent.specs.Ward as ward
+use Rattle.ward_equivalent.specs.Extended as extended
+use Rattle.rei_equivalent.specs.declared.ReiEquivalent.{ReiEquivalent}
+use Rattle.rei_equivalent.specs.declared.ReiAnswer.{ReiAnswer}
+use Rattle.rei_equivalent.specs.Rei as rei
 use Rattle.entries.specs.Answers.{summaryAfter, equivalentAfter}
 
-pub record Studied (a : ward.AfterWard) (f : ℕ) (o : ward.Room) (held after : WardSummary) : Type 0 where
-  pub told : f ≡ ward.number (a .answer)
-  pub left : o ≡ a .room
+pub record WardAnswered (a : ward.AfterWard) (f : ℕ) (o : ward.Outputs) (held after : WardSummary) : Type 0 where
+  pub told : f ≡ ward.wardNumber (a .answer)
+  pub left : o ≡ a .outputs
   pub summed : after ≡ summaryAfter (a .answer) held
 
-pub record Corrected (a : extended.AfterExtended) (f : ℕ) (o : extended.ExtendedRoom) (held after : WardSummary) : Type 0 where
-  pub told : f ≡ ward.number (a .answer)
-  pub left : o ≡ a .room
+pub record ExtendedAnswered (a : extended.AfterExtended) (f : ℕ) (o : extended.ExtendedOutputs) (held after : WardSummary) : Type 0 where
+  pub told : f ≡ ward.wardNumber (a .answer)
+  pub left : o ≡ a .outputs
   pub summed : after ≡ summaryAfter (a .answer) held
 
 -- what `rei::compute` answers
-abbrev pub reiAnswer : rei.Given → ReiAnswer
-reiAnswer g = rei.answered (rei.refusalOf g) (rei.equivalentOf g)
+abbrev pub reiAnswerOf : rei.ReiInput → ReiAnswer
+reiAnswerOf g = rei.reiAnswer (rei.reiRefusal g) (rei.equivalentOf g)
 
-pub record Reduced (g : rei.Given) (f : ℕ) (spokeBuses : List ℕ) (spokes : List Float) (tieBuses : List ℕ) (ties : List Float) (held after : ReiEquivalent) : Type 0 where
-  pub told : f ≡ rei.number (reiAnswer g)
-  pub left : rei.After g (reiAnswer g) spokeBuses spokes tieBuses ties
-  pub summed : after ≡ equivalentAfter (reiAnswer g) held
+pub record ReiAnswered (g : rei.ReiInput) (f : ℕ) (spokeBuses : List ℕ) (spokes : List Float)
+    (tieBuses : List ℕ) (ties : List Float) (held after : ReiEquivalent) : Type 0 where
+  pub told : f ≡ rei.reiNumber (reiAnswerOf g)
+  pub left : rei.AfterRei g (reiAnswerOf g) spokeBuses spokes tieBuses ties
+  pub summed : after ≡ equivalentAfter (reiAnswerOf g) held

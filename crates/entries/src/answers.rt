@@ -5,9 +5,10 @@ use equivalents::rei::ReiAnswer;
 use equivalents::rei::ReiEquivalent;
 use equivalents::ward::WardAnswer;
 ghost use mathlib.Core.Path.{_≡_};
+ghost use Rattle.complex.specs.Arithmetic.{complexOf};
 ghost use Rattle.entries.specs.Answers as spec;
 
-// A count, by the refusal.
+// A count of buses, by the refusal.
 pub fn give_count(out: &mut usize, x: usize, refusal: u32)
     ensures { λ _. ⌜ now (out .exit) ≡ spec.answerAfter refusal x (now (out .entry)) ⌝ }
 {
@@ -18,7 +19,8 @@ pub fn give_count(out: &mut usize, x: usize, refusal: u32)
 
 // An impedance, in per unit.
 pub fn give_value(answer: Impedance, re: &mut f64, im: &mut f64)
-    ensures { λ _. ⌜ spec.complexOf (now (re .exit)) (now (im .exit)) ≡ spec.valueAfter answer (spec.complexOf (now (re .entry)) (now (im .entry))) ⌝ }
+    ensures { λ _. ⌜ complexOf (now (re .exit)) (now (im .exit))
+        ≡ spec.valueAfter answer (complexOf (now (re .entry)) (now (im .entry))) ⌝ }
 {
     match answer {
         Impedance::Value(z) => {
@@ -41,7 +43,7 @@ pub fn give_retained(answer: Retained, count: &mut usize)
     }
 }
 
-// A Ward study's sizes and ratio.
+// A Ward study's sizes, in buses, and its ratio, without unit.
 pub fn give_summary(
     answer: WardAnswer,
     reduced: &mut usize,
@@ -61,6 +63,7 @@ pub fn give_summary(
     }
 }
 
+// The numbers of an REI equivalent, in the units of `give_equivalent`.
 fn write_equivalent(
     e: ReiEquivalent,
     bus: &mut usize,
@@ -88,7 +91,8 @@ pub fn give_equivalent(
     ties: &mut usize,
 )
     ensures { λ _. ⌜ spec.reiOf (now (bus .exit)) (now (voltage .exit)) (now (p .exit)) (now (q .exit)) (now (ties .exit))
-        ≡ spec.equivalentAfter answer (spec.reiOf (now (bus .entry)) (now (voltage .entry)) (now (p .entry)) (now (q .entry)) (now (ties .entry))) ⌝ }
+        ≡ spec.equivalentAfter answer
+        (spec.reiOf (now (bus .entry)) (now (voltage .entry)) (now (p .entry)) (now (q .entry)) (now (ties .entry))) ⌝ }
 {
     match answer {
         ReiAnswer::Done(e) => write_equivalent(e, bus, voltage, p, q, ties),

@@ -1,21 +1,25 @@
-// Kron reduction. The record is a byte slice of exactly RECORD bytes; where it has another length the call is refused and nothing is touched.
-// Admittances are in per unit; buses are named by the numbers given at making.
+// Kron reduction. The record is a byte slice of exactly RECORD bytes; where it has another length the call is refused and nothing is
+// touched. Admittances are in per unit; buses are named by the numbers given at making.
 use crate::answers::give_count;
 use crate::answers::give_value;
+use crate::records::RECORD;
+use crate::records::record_in;
+use crate::records::store_record;
 use equivalents::kron::KronReducer;
 use equivalents::kron::eliminated_bus;
 use equivalents::kron::eliminated_buses;
 use equivalents::kron::number_of;
-use record_entries::RECORD;
-use record_entries::record_in;
-use record_entries::store_record;
 use refusals::LIMIT;
+use refusals::NOT_ACTIVE;
+use refusals::SMALL_ENTRY;
+use refusals::TOO_MANY;
+use refusals::WRONG_LENGTH;
 use refusals::number;
 ghost use mathlib.Core.Path.{_≡_};
 ghost use mathlib.Core.Bool.{_||_};
 ghost use Rattle.refusals.specs.Refusals.{limit, tooMany, wrongLength, refuse};
 ghost use lib.Dec.{ltb};
-ghost use Rattle.entries.specs.Answers as answers;
+ghost use Rattle.complex.specs.Arithmetic.{complexOf};
 ghost use Rattle.entries.specs.Kron as spec;
 
 // The refusal where the record is not of its length: 1 for a size or a list above the limit, else 2.
@@ -23,15 +27,15 @@ fn unfit(n: usize, l: usize) -> u32
     ensures { λ r. ⌜ r ≡ refuse (ltb limit n || ltb limit l) tooMany wrongLength ⌝ }
 {
     if n > LIMIT {
-        return 1;
+        return TOO_MANY;
     }
-    if l > LIMIT { 1 } else { 2 }
+    if l > LIMIT { TOO_MANY } else { WRONG_LENGTH }
 }
 
 // Makes a reducer of n buses: y is its matrix (2 n n numbers, in per unit), numbers the number of each row's bus, rec its record.
 #[no_mangle]
 pub extern "C" fn jeturipe_kron_new(n: usize, y: &[f64], numbers: &[u32], rec: &mut [u8]) -> u32
-    ensures { λ f. ⌜ spec.Fresh n (now (y .entry)) (now (numbers .entry)) (now (rec .entry)) f (now (rec .exit)) ⌝ }
+    ensures { λ f. ⌜ spec.ReducerMade n (now (y .entry)) (now (numbers .entry)) (now (rec .entry)) f (now (rec .exit)) ⌝ }
 {
     if rec.len() != RECORD {
         return unfit(n, numbers.len());
@@ -47,10 +51,10 @@ pub extern "C" fn jeturipe_kron_new(n: usize, y: &[f64], numbers: &[u32], rec: &
 // Removes one bus: y (in per unit) and rec are then those of the buses left.
 #[no_mangle]
 pub extern "C" fn jeturipe_eliminate_bus(rec: &mut [u8], y: &mut [f64], bus: u32) -> u32
-    ensures { λ f. ⌜ spec.Removed (now (rec .entry)) (now (y .entry)) bus f (now (rec .exit)) (now (y .exit)) ⌝ }
+    ensures { λ f. ⌜ spec.BusRemoved (now (rec .entry)) (now (y .entry)) bus f (now (rec .exit)) (now (y .exit)) ⌝ }
 {
     if rec.len() != RECORD {
-        return 2;
+        return WRONG_LENGTH;
     }
     let taken = eliminated_bus(record_in(rec), y, bus);
     let answer = taken.answer;
@@ -64,10 +68,10 @@ pub extern "C" fn jeturipe_eliminate_bus(rec: &mut [u8], y: &mut [f64], bus: u32
 fn from_input(refusal: u32) -> u32
     ensures { λ r. ⌜ r ≡ spec.fromInput refusal ⌝ }
 {
-    if refusal == 11 {
+    if refusal == NOT_ACTIVE {
         return 0;
     }
-    if refusal == 12 { 0 } else { refusal }
+    if refusal == SMALL_ENTRY { 0 } else { refusal }
 }
 
 // The refusal of a list that removed no bus, else 0.
@@ -85,7 +89,8 @@ pub extern "C" fn jeturipe_eliminate_buses(
     buses: &[u32],
     removed: &mut usize,
 ) -> u32
-    ensures { λ f. ⌜ spec.Listed (now (rec .entry)) (now (y .entry)) (now (buses .entry)) (now (removed .entry)) f (now (rec .exit)) (now (y .exit)) (now (removed .exit)) ⌝ }
+    ensures { λ f. ⌜ spec.ListRemoved (now (rec .entry)) (now (y .entry)) (now (buses .entry)) (now (removed .entry))
+        f (now (rec .exit)) (now (y .exit)) (now (removed .exit)) ⌝ }
 {
     if rec.len() != RECORD {
         return unfit(0, buses.len());
@@ -104,10 +109,11 @@ pub extern "C" fn jeturipe_eliminate_buses(
 // The number of each present row's bus, in order, at the front of buses (one place for each row at making), 0 behind; count is how many.
 #[no_mangle]
 pub extern "C" fn jeturipe_active_buses(rec: &[u8], buses: &mut [u32], count: &mut usize) -> u32
-    ensures { λ f. ⌜ spec.Active (now (rec .entry)) (now (buses .entry)) (now (count .entry)) f (now (buses .exit)) (now (count .exit)) ⌝ }
+    ensures { λ f. ⌜ spec.ActiveRead (now (rec .entry)) (now (buses .entry)) (now (count .entry))
+        f (now (buses .exit)) (now (count .exit)) ⌝ }
 {
     if rec.len() != RECORD {
-        return 2;
+        return WRONG_LENGTH;
     }
     let r = record_in(rec);
     let present = r.n_buses;
@@ -119,10 +125,10 @@ pub extern "C" fn jeturipe_active_buses(rec: &[u8], buses: &mut [u32], count: &m
 // Copies the present rows, in per unit, to the front of out, +0 behind.
 #[no_mangle]
 pub extern "C" fn jeturipe_reduced_matrix(rec: &[u8], y: &[f64], out: &mut [f64]) -> u32
-    ensures { λ f. ⌜ spec.Shown (now (rec .entry)) (now (y .entry)) (now (out .entry)) f (now (out .exit)) ⌝ }
+    ensures { λ f. ⌜ spec.MatrixRead (now (rec .entry)) (now (y .entry)) (now (out .entry)) f (now (out .exit)) ⌝ }
 {
     if rec.len() != RECORD {
-        return 2;
+        return WRONG_LENGTH;
     }
     number(equivalents::kron::reduced_matrix(record_in(rec), y, out))
 }
@@ -138,11 +144,12 @@ pub extern "C" fn jeturipe_thevenin_impedance(
     z_re: &mut f64,
     z_im: &mut f64,
 ) -> u32
-    ensures { λ f. ⌜ spec.Seen (now (rec .entry)) (now (y .entry)) «bus_i» «bus_j» (now (work .entry)) (answers.complexOf (now («z_re» .entry)) (now («z_im» .entry)))
-        f (now (work .exit)) (answers.complexOf (now («z_re» .exit)) (now («z_im» .exit))) ⌝ }
+    ensures { λ f. ⌜ spec.ImpedanceRead (now (rec .entry)) (now (y .entry)) «bus_i» «bus_j» (now (work .entry))
+        (complexOf (now («z_re» .entry)) (now («z_im» .entry)))
+        f (now (work .exit)) (complexOf (now («z_re» .exit)) (now («z_im» .exit))) ⌝ }
 {
     if rec.len() != RECORD {
-        return 2;
+        return WRONG_LENGTH;
     }
     let answer = equivalents::kron::thevenin_impedance(record_in(rec), y, bus_i, bus_j, work);
     give_value(answer, z_re, z_im);

@@ -5,6 +5,7 @@ pub mod dc;
 pub mod kron;
 pub mod linear;
 pub mod numbers;
+pub mod records;
 pub mod rei;
 pub mod scalars;
 pub mod ward;

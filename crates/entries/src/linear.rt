@@ -13,7 +13,8 @@ pub extern "C" fn jeturipe_solve_linear(
     x: &mut [f64],
     work: &mut [f64],
 ) -> u32
-    ensures { λ f. ⌜ (f ≡ refusals.number (spec.afterSolve n (now (a .entry)) (now (b .entry)) (now (x .entry)) (now (work .entry)) .answer))
+    ensures { λ f. ⌜ (f ≡ refusals.number
+        (spec.afterSolve n (now (a .entry)) (now (b .entry)) (now (x .entry)) (now (work .entry)) .answer))
         × (now (x .exit) ≡ spec.afterSolve n (now (a .entry)) (now (b .entry)) (now (x .entry)) (now (work .entry)) .output)
         × (now (work .exit) ≡ spec.afterSolve n (now (a .entry)) (now (b .entry)) (now (x .entry)) (now (work .entry)) .work) ⌝ }
 {
@@ -28,7 +29,8 @@ pub extern "C" fn jeturipe_complex_matrix_inverse(
     inverse: &mut [f64],
     work: &mut [f64],
 ) -> u32
-    ensures { λ f. ⌜ (f ≡ refusals.number (spec.afterInverse n (now (mat .entry)) (now (inverse .entry)) (now (work .entry)) .answer))
+    ensures { λ f. ⌜ (f ≡ refusals.number
+        (spec.afterInverse n (now (mat .entry)) (now (inverse .entry)) (now (work .entry)) .answer))
         × (now (inverse .exit) ≡ spec.afterInverse n (now (mat .entry)) (now (inverse .entry)) (now (work .entry)) .output)
         × (now (work .exit) ≡ spec.afterInverse n (now (mat .entry)) (now (inverse .entry)) (now (work .entry)) .work) ⌝ }
 {

@@ -3,8 +3,8 @@ use crate::answers::give_equivalent;
 ghost use Rattle.entries.specs.Answers as answers;
 ghost use Rattle.entries.specs.Studies as spec;
 
-// The REI equivalent of generators and loads: rows of y_sub (per unit) and injections (MW, MVAr) are the generators, then the loads; so are the
-// spokes (per unit). A tie is two buses, as the lists call them, and one admittance in per unit.
+// The REI equivalent of generators and loads: rows of y_sub (per unit) and injections (MW, MVAr) are the generators, then the loads; so
+// are the spokes (per unit). A tie is two buses, as the lists call them, and one admittance in per unit.
 #[no_mangle]
 pub extern "C" fn jeturipe_rei_compute(
     generator_buses: &[usize],
@@ -23,7 +23,7 @@ pub extern "C" fn jeturipe_rei_compute(
     rei_q_mvar: &mut f64,
     n_ties: &mut usize,
 ) -> u32
-    ensures { λ f. ⌜ spec.Reduced
+    ensures { λ f. ⌜ spec.ReiAnswered
         (record {
           generators = now («generator_buses» .entry);
           loads = now («load_buses» .entry);
@@ -37,8 +37,10 @@ pub extern "C" fn jeturipe_rei_compute(
           ties = now (ties .entry);
         })
         f (now («spoke_buses» .exit)) (now (spokes .exit)) (now («tie_buses» .exit)) (now (ties .exit))
-        (answers.reiOf (now («rei_bus_id» .entry)) (now («rei_voltage_pu» .entry)) (now («rei_p_mw» .entry)) (now («rei_q_mvar» .entry)) (now («n_ties» .entry)))
-        (answers.reiOf (now («rei_bus_id» .exit)) (now («rei_voltage_pu» .exit)) (now («rei_p_mw» .exit)) (now («rei_q_mvar» .exit)) (now («n_ties» .exit))) ⌝ }
+        (answers.reiOf (now («rei_bus_id» .entry)) (now («rei_voltage_pu» .entry))
+        (now («rei_p_mw» .entry)) (now («rei_q_mvar» .entry)) (now («n_ties» .entry)))
+        (answers.reiOf (now («rei_bus_id» .exit)) (now («rei_voltage_pu» .exit))
+        (now («rei_p_mw» .exit)) (now («rei_q_mvar» .exit)) (now («n_ties» .exit))) ⌝ }
 {
     let answer = equivalents::rei::compute(
         generator_buses,

@@ -2,6 +2,7 @@
 use complex::Complex;
 ghost use mathlib.Core.Path.{_≡_};
 ghost use Rattle.complex.specs.Arithmetic as arithmetic;
+ghost use Rattle.complex.specs.Arithmetic.{complexOf};
 ghost use Rattle.binary64.specs.Root.{root};
 ghost use Rattle.complex.specs.Magnitude as magnitudes;
 ghost use Rattle.entries.specs.Answers as spec;
@@ -16,7 +17,8 @@ pub extern "C" fn jeturipe_cadd(
     re: &mut f64,
     im: &mut f64,
 )
-    ensures { λ _. ⌜ spec.complexOf (now (re .exit)) (now (im .exit)) ≡ arithmetic.cadd (spec.complexOf «a_re» «a_im») (spec.complexOf «b_re» «b_im») ⌝ }
+    ensures { λ _. ⌜ complexOf (now (re .exit)) (now (im .exit))
+        ≡ arithmetic.cadd (complexOf «a_re» «a_im») (complexOf «b_re» «b_im») ⌝ }
 {
     let a = Complex { re: a_re, im: a_im };
     let b = Complex { re: b_re, im: b_im };
@@ -35,7 +37,8 @@ pub extern "C" fn jeturipe_csub(
     re: &mut f64,
     im: &mut f64,
 )
-    ensures { λ _. ⌜ spec.complexOf (now (re .exit)) (now (im .exit)) ≡ arithmetic.csub (spec.complexOf «a_re» «a_im») (spec.complexOf «b_re» «b_im») ⌝ }
+    ensures { λ _. ⌜ complexOf (now (re .exit)) (now (im .exit))
+        ≡ arithmetic.csub (complexOf «a_re» «a_im») (complexOf «b_re» «b_im») ⌝ }
 {
     let a = Complex { re: a_re, im: a_im };
     let b = Complex { re: b_re, im: b_im };
@@ -54,7 +57,8 @@ pub extern "C" fn jeturipe_cmul(
     re: &mut f64,
     im: &mut f64,
 )
-    ensures { λ _. ⌜ spec.complexOf (now (re .exit)) (now (im .exit)) ≡ arithmetic.cmul (spec.complexOf «a_re» «a_im») (spec.complexOf «b_re» «b_im») ⌝ }
+    ensures { λ _. ⌜ complexOf (now (re .exit)) (now (im .exit))
+        ≡ arithmetic.cmul (complexOf «a_re» «a_im») (complexOf «b_re» «b_im») ⌝ }
 {
     let a = Complex { re: a_re, im: a_im };
     let b = Complex { re: b_re, im: b_im };
@@ -73,7 +77,8 @@ pub extern "C" fn jeturipe_cdiv(
     re: &mut f64,
     im: &mut f64,
 )
-    ensures { λ _. ⌜ spec.complexOf (now (re .exit)) (now (im .exit)) ≡ arithmetic.cdiv (spec.complexOf «a_re» «a_im») (spec.complexOf «b_re» «b_im») ⌝ }
+    ensures { λ _. ⌜ complexOf (now (re .exit)) (now (im .exit))
+        ≡ arithmetic.cdiv (complexOf «a_re» «a_im») (complexOf «b_re» «b_im») ⌝ }
 {
     let a = Complex { re: a_re, im: a_im };
     let b = Complex { re: b_re, im: b_im };
@@ -85,7 +90,7 @@ pub extern "C" fn jeturipe_cdiv(
 // -a.
 #[no_mangle]
 pub extern "C" fn jeturipe_cneg(a_re: f64, a_im: f64, re: &mut f64, im: &mut f64)
-    ensures { λ _. ⌜ spec.complexOf (now (re .exit)) (now (im .exit)) ≡ arithmetic.cneg (spec.complexOf «a_re» «a_im») ⌝ }
+    ensures { λ _. ⌜ complexOf (now (re .exit)) (now (im .exit)) ≡ arithmetic.cneg (complexOf «a_re» «a_im») ⌝ }
 {
     let z = complex::cneg(Complex { re: a_re, im: a_im });
     *re = z.re;
@@ -95,7 +100,7 @@ pub extern "C" fn jeturipe_cneg(a_re: f64, a_im: f64, re: &mut f64, im: &mut f64
 // 1 / a, as `jeturipe_cdiv` has it.
 #[no_mangle]
 pub extern "C" fn jeturipe_complex_inv(a_re: f64, a_im: f64, re: &mut f64, im: &mut f64)
-    ensures { λ _. ⌜ spec.complexOf (now (re .exit)) (now (im .exit)) ≡ arithmetic.complexInv (spec.complexOf «a_re» «a_im») ⌝ }
+    ensures { λ _. ⌜ complexOf (now (re .exit)) (now (im .exit)) ≡ arithmetic.complexInv (complexOf «a_re» «a_im») ⌝ }
 {
     let z = complex::complex_inv(Complex { re: a_re, im: a_im });
     *re = z.re;
@@ -121,7 +126,7 @@ pub extern "C" fn jeturipe_sqrt(x: f64) -> f64
 // The magnitude of a complex number: the root of re re + im im, each step rounded.
 #[no_mangle]
 pub extern "C" fn jeturipe_magnitude(re: f64, im: f64) -> f64
-    ensures { λ r. ⌜ r ≡ magnitudes.magnitude (spec.complexOf re im) ⌝ }
+    ensures { λ r. ⌜ r ≡ magnitudes.magnitude (complexOf re im) ⌝ }
 {
     complex::magnitude::magnitude(Complex { re: re, im: im })
 }

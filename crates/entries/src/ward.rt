@@ -1,13 +1,12 @@
 // Ward and extended Ward equivalents. Buses are named by number: numbers holds those of the rows of y.
 use crate::answers::give_summary;
 use equivalents::ward::number_of;
-ghost use Rattle.ward_studies.specs.WardCalls as calls;
-ghost use Rattle.ward_core.specs.WardNumbers as ward;
+ghost use Rattle.ward_equivalent.specs.Calls as calls;
+ghost use Rattle.ward_equivalent.specs.Numbers as ward;
 ghost use Rattle.entries.specs.Answers as answers;
 ghost use Rattle.entries.specs.Studies as spec;
 
-// Ward's equivalent of n buses: y and y_ward in per unit, base in MVA, P in MW and Q in MVAr as fed in at the external buses (the external list's
-// order) and at the boundary ones (the boundary list's); rows of y_ward are the internal list, then the boundary list.
+// `ward_equivalent::compute`, in the same units (per unit, MVA, MW, MVAr); the study's sizes, in buses, and its ratio go by pointer.
 #[no_mangle]
 pub extern "C" fn jeturipe_ward_compute(
     n: usize,
@@ -27,11 +26,12 @@ pub extern "C" fn jeturipe_ward_compute(
     n_buses_equivalent: &mut usize,
     reduction_ratio: &mut f64,
 ) -> u32
-    ensures { λ f. ⌜ spec.Studied
-        (ward.afterCompute (ward.numberedOf (now (numbers .entry)) (calls.studyOf n (now (y .entry)) (now (internal .entry)) (now (external .entry)) (now (boundary .entry)) «base_mva» (now («p_ext» .entry)) (now («q_ext» .entry))))
-        (calls.roomOf (now («y_ward» .entry)) (now («p_ward» .entry)) (now («q_ward» .entry)) (now (work .entry))))
+    ensures { λ f. ⌜ spec.WardAnswered
+        (ward.afterCompute (ward.numberedOf (now (numbers .entry)) (calls.studyOf n (now (y .entry))
+        (now (internal .entry)) (now (external .entry)) (now (boundary .entry)) «base_mva» (now («p_ext» .entry)) (now («q_ext» .entry))))
+        (calls.outputsOf (now («y_ward» .entry)) (now («p_ward» .entry)) (now («q_ward» .entry)) (now (work .entry))))
         f
-        (calls.roomOf (now («y_ward» .exit)) (now («p_ward» .exit)) (now («q_ward» .exit)) (now (work .exit)))
+        (calls.outputsOf (now («y_ward» .exit)) (now («p_ward» .exit)) (now («q_ward» .exit)) (now (work .exit)))
         (answers.summaryOf (now («n_buses_reduced» .entry)) (now («n_buses_equivalent» .entry)) (now («reduction_ratio» .entry)))
         (answers.summaryOf (now («n_buses_reduced» .exit)) (now («n_buses_equivalent» .exit)) (now («reduction_ratio» .exit))) ⌝ }
 {
@@ -54,7 +54,7 @@ pub extern "C" fn jeturipe_ward_compute(
     number_of(answer)
 }
 
-// The same with voltages, in per unit, at the external buses: corrections of voltage in per unit, and compensations in MVAr, at the boundary ones.
+// `ward_equivalent::compute_extended`, in the same units: voltages and their corrections in per unit, compensations in MVAr.
 #[no_mangle]
 pub extern "C" fn jeturipe_ward_compute_extended(
     n: usize,
@@ -77,11 +77,16 @@ pub extern "C" fn jeturipe_ward_compute_extended(
     n_buses_equivalent: &mut usize,
     reduction_ratio: &mut f64,
 ) -> u32
-    ensures { λ f. ⌜ spec.Corrected
-        (ward.afterComputeExtended (ward.numberedXOf (ward.numberedOf (now (numbers .entry)) (calls.studyOf n (now (y .entry)) (now (internal .entry)) (now (external .entry)) (now (boundary .entry)) «base_mva» (now («p_ext» .entry)) (now («q_ext» .entry)))) (now («v_ext» .entry)))
-        (calls.extendedRoomOf (calls.roomOf (now («y_ward» .entry)) (now («p_ward» .entry)) (now («q_ward» .entry)) (now (work .entry))) (now («voltage_correction» .entry)) (now («q_compensation» .entry))))
+    ensures { λ f. ⌜ spec.ExtendedAnswered
+        (ward.afterComputeExtended (ward.numberedExtendedOf (ward.numberedOf (now (numbers .entry))
+        (calls.studyOf n (now (y .entry)) (now (internal .entry)) (now (external .entry)) (now (boundary .entry)) «base_mva»
+        (now («p_ext» .entry)) (now («q_ext» .entry)))) (now («v_ext» .entry)))
+        (calls.extendedOutputsOf
+        (calls.outputsOf (now («y_ward» .entry)) (now («p_ward» .entry)) (now («q_ward» .entry)) (now (work .entry)))
+        (now («voltage_correction» .entry)) (now («q_compensation» .entry))))
         f
-        (calls.extendedRoomOf (calls.roomOf (now («y_ward» .exit)) (now («p_ward» .exit)) (now («q_ward» .exit)) (now (work .exit))) (now («voltage_correction» .exit)) (now («q_compensation» .exit)))
+        (calls.extendedOutputsOf (calls.outputsOf (now («y_ward» .exit)) (now («p_ward» .exit)) (now («q_ward» .exit)) (now (work .exit)))
+        (now («voltage_correction» .exit)) (now («q_compensation» .exit)))
         (answers.summaryOf (now («n_buses_reduced» .entry)) (now («n_buses_equivalent» .entry)) (now («reduction_ratio» .entry)))
         (answers.summaryOf (now («n_buses_reduced» .exit)) (now («n_buses_equivalent» .exit)) (now («reduction_ratio» .exit))) ⌝ }
 {

@@ -1,18 +1,18 @@
-// Kron reduction as the Rust offers it: the record changed behind a `&mut`, over the cores by value. Buses are named by the numbers given
-// at making; admittances are in per unit.
-pub use kron_core::Impedance;
-pub use kron_core::KronReducer;
-pub use kron_core::NewReducer;
-pub use kron_core::Removals;
-pub use kron_core::Taken;
-pub use kron_core::TakenAll;
-pub use kron_core::active_buses;
-pub use kron_core::number_of;
-pub use kron_core::reduced_matrix;
-pub use kron_core::thevenin_impedance;
+// Kron reduction as the Rust offers it: the record changed behind a `&mut`, over kron_reduction's functions on a record by value. Buses
+// are named by the numbers given at making; admittances are in per unit.
+pub use kron_reduction::AfterRemoval;
+pub use kron_reduction::AfterRemovals;
+pub use kron_reduction::Impedance;
+pub use kron_reduction::KronReducer;
+pub use kron_reduction::NewReducer;
+pub use kron_reduction::Removals;
+pub use kron_reduction::active_buses;
+pub use kron_reduction::number_of;
+pub use kron_reduction::reduced_matrix;
+pub use kron_reduction::thevenin_impedance;
 use refusals::Outcome;
 ghost use mathlib.Core.Path.{_≡_};
-ghost use Rattle.kron_core.specs.Reducer.{afterBus, afterBuses};
+ghost use Rattle.kron_reduction.specs.Reducer.{afterBus, afterBuses};
 
 // Removes one bus.
 pub fn eliminate_bus(r: &mut KronReducer, y: &mut [f64], bus: u32) -> Outcome
@@ -20,7 +20,7 @@ pub fn eliminate_bus(r: &mut KronReducer, y: &mut [f64], bus: u32) -> Outcome
         × (now (r .exit) ≡ afterBus (now (r .entry)) (now (y .entry)) bus .out .rec)
         × (now (y .exit) ≡ afterBus (now (r .entry)) (now (y .entry)) bus .slice) ⌝ }
 {
-    let out = kron_core::take_bus(*r, y, bus);
+    let out = kron_reduction::remove_bus(*r, y, bus);
     *r = out.rec;
     out.answer
 }
@@ -31,30 +31,33 @@ pub fn eliminate_buses(r: &mut KronReducer, y: &mut [f64], buses: &[u32]) -> Rem
         × (now (r .exit) ≡ afterBuses (now (r .entry)) (now (y .entry)) (now (buses .entry)) .out .rec)
         × (now (y .exit) ≡ afterBuses (now (r .entry)) (now (y .entry)) (now (buses .entry)) .slice) ⌝ }
 {
-    let out = kron_core::take_buses(*r, y, buses);
+    let out = kron_reduction::remove_buses(*r, y, buses);
     *r = out.rec;
     out.removals
 }
 
 // `eliminate_bus` on a record of one's own, for callers that hold it by value.
-pub fn eliminated_bus(r: KronReducer, y: &mut [f64], bus: u32) -> Taken
+pub fn eliminated_bus(r: KronReducer, y: &mut [f64], bus: u32) -> AfterRemoval
     ensures { λ o. ⌜ (o ≡ afterBus r (now (y .entry)) bus .out) × (now (y .exit) ≡ afterBus r (now (y .entry)) bus .slice) ⌝ }
 {
     let mut rec = r;
     let answer = eliminate_bus(&mut rec, y, bus);
-    Taken {
+    AfterRemoval {
         answer: answer,
         rec: rec,
     }
 }
 
 // `eliminate_buses` likewise.
-pub fn eliminated_buses(r: KronReducer, y: &mut [f64], buses: &[u32]) -> TakenAll
-    ensures { λ o. ⌜ (o ≡ afterBuses r (now (y .entry)) (now (buses .entry)) .out) × (now (y .exit) ≡ afterBuses r (now (y .entry)) (now (buses .entry)) .slice) ⌝ }
+pub fn eliminated_buses(r: KronReducer, y: &mut [f64], buses: &[u32]) -> AfterRemovals
+    ensures { λ o. ⌜
+        (o ≡ afterBuses r (now (y .entry)) (now (buses .entry)) .out)
+        × (now (y .exit) ≡ afterBuses r (now (y .entry)) (now (buses .entry)) .slice)
+        ⌝ }
 {
     let mut rec = r;
     let removals = eliminate_buses(&mut rec, y, buses);
-    TakenAll {
+    AfterRemovals {
         removals: removals,
         rec: rec,
     }

@@ -1,5 +1,5 @@
-// Network equivalents, as callers use them: Kron reduction, Ward, REI, and the small DC parts. The work is done in the crates below,
-// each small enough to be proved again for every wrong program that is tried on it.
+// Network equivalents, as callers use them: Kron reduction, Ward, REI, and the small DC parts. The work is done in a crate for
+// each of them, below.
 pub mod dc;
 pub mod kron;
 pub mod rei;

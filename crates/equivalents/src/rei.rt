@@ -1,5 +1,5 @@
 // The REI equivalent.
-pub use rei_core::ReiAnswer;
-pub use rei_core::ReiEquivalent;
-pub use rei_core::compute;
-pub use rei_core::number_of;
+pub use rei_equivalent::ReiAnswer;
+pub use rei_equivalent::ReiEquivalent;
+pub use rei_equivalent::compute;
+pub use rei_equivalent::number_of;

@@ -1,6 +1,6 @@
 // Ward and extended Ward.
-pub use ward_core::compute;
-pub use ward_core::compute_extended;
-pub use ward_studies::WardAnswer;
-pub use ward_studies::WardSummary;
-pub use ward_studies::number_of;
+pub use ward_equivalent::answers::WardAnswer;
+pub use ward_equivalent::answers::WardSummary;
+pub use ward_equivalent::answers::number_of;
+pub use ward_equivalent::compute;
+pub use ward_equivalent::compute_extended;

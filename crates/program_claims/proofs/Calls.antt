@@ -1,34 +1,26 @@
 -- The drops of a run that is kept are the calls, and its numbers and entries those of the making.
--- Assumes nothing.
-use Prim.Native.Nat.{ℕ, zero, suc, _+_, _*_, _^_, _≤_, _<_}
-use mathlib.Core.Path.{_≡_, refl, sym, ap, subst}
-use mathlib.Core.Bool.{Bool, true, false, cond}
-use mathlib.Core.List.{List, [], _∷_, _++_, map, append-assoc, append-nil}
-use native.Mathlib.Omega.{arith}
-use lib.Dec.{T, leb, leb→le}
-use lib.ListN.{length, take, drop}
-use lib.Ieee.{Float, binary64}
+use Rattle.prelude.proofs.Prelude.{_≡_, refl, sym, ap, subst, Bool, true, false, cond, List, [], _∷_, _++_, ℕ, zero, suc, _+_, _*_, _≤_, _<_, arith, T, length, take, drop, Float, _^_, map, append-assoc, append-nil, leb, leb→le, binary64}
 use lib.Ieee.Fits.{nan-fits}
 use lib.Ieee.Bits.{ofBits-fits}
-use Rattle.complex.specs.Values.{F64s}
+use Rattle.binary64.specs.Values.{F64s}
 use Rattle.refusals.specs.declared.Outcome.{Outcome}
 use Rattle.refusals.specs.declared.Outcome.the-variants.{Done, Refused}
-use Rattle.buses.specs.Buses.{mem}
-use Rattle.kron_core.specs.declared.KronReducer.{KronReducer}
-use Rattle.kron_core.specs.Reducer.{makingOf, afterNew, afterBus, Held, held}
+use Rattle.lists.specs.Buses.{mem}
+use Rattle.kron_reduction.specs.declared.KronReducer.{KronReducer}
+use Rattle.kron_reduction.specs.Reducer.{reducerInputOf, afterNew, afterBus, ReducerState, reducerStateOf}
 use Rattle.claims.specs.Accounts.{bus, stepHeld, leftFrom}
-use Rattle.words.specs.declared.Number.{Number}
-use Rattle.words.specs.declared.Number.the-variants.{Is, Not}
-use Rattle.lines.specs.declared.text.Entry.{Entry}
-use Rattle.lines.specs.declared.text.Entry.the-variants.{Words, NoEntry}
-use Rattle.lines.specs.declared.read.End.{End}
-use Rattle.lines.specs.declared.read.End.the-variants.{Kept, RefusedDrop, BadLine}
-use Rattle.words.specs.Bytes.{Bytes}
-use Rattle.words.proofs.WordSizes.{decimal-below}
-use Rattle.lines.specs.Lines.{busesOf, numberOf, dropOf, entryOf}
-use Rattle.lines.specs.Reading.{most, Run, ended, noReducer, ofWord, onNumber, onOutcome, onEntry, afterDrop, drops, finish, entries, badAt, named, first}
-use Rattle.lines.proofs.Fit.{Names, names-none, names-more}
-use Rattle.program_claims.specs.Inputs.{parts, numbersOf, busIn, namesOf, dropped, callsOf, orNone}
+use Rattle.text_numbers.specs.declared.Number.{Number}
+use Rattle.text_numbers.specs.declared.Number.the-variants.{Is, Not}
+use Rattle.reduce_text.specs.declared.text.Entry.{Entry}
+use Rattle.reduce_text.specs.declared.text.Entry.the-variants.{Words, NoEntry}
+use Rattle.reduce_text.specs.declared.read.End.{End}
+use Rattle.reduce_text.specs.declared.read.End.the-variants.{Kept, RefusedDrop, BadLine}
+use Rattle.text_numbers.specs.Bytes.{Bytes}
+use Rattle.text_numbers.proofs.WordSizes.{decimal-below}
+use Rattle.reduce_text.specs.Lines.{busesOf, numberOf, dropOf, entryOf}
+use Rattle.reduce_text.specs.Reading.{most, Run, ended, noReducer, ofWord, onNumber, onOutcome, onEntry, afterDrop, drops, finish, entries, badAt, named, first}
+use Rattle.reduce_text.proofs.Fit.{Names, names-none, names-more}
+use Rattle.program_claims.specs.Inputs.{entryParts, entriesOf, busIn, namesOf, dropped, callsOf, orNone}
 
 -- ---- a run that ended otherwise is not kept
 
@@ -43,22 +35,22 @@ at-end e h = subst AtEnd (sym h) tt
 abbrev pub endOf : Run → End
 endOf R = R .reading .end
 
-abbrev pub heldOf : Run → Held
-heldOf R = held (R .reading .rec) (R .numbers)
+abbrev pub heldOf : Run → ReducerState
+heldOf R = reducerStateOf (R .reading .rec) (R .numbers)
 
 -- ---- the drops
 
-pub record AsCalls (R : Run) (h : Held) (ls : List Bytes) : Type 0 where
+pub record AsCalls (R : Run) (h : ReducerState) (ls : List Bytes) : Type 0 where
   pub ends : heldOf R ≡ leftFrom h (callsOf ls)
   pub all-lines : length (callsOf ls) ≡ length ls
 
 module _ (p : ℕ) (r : KronReducer) (ys : List Float) (l : Bytes) (ls : List Bytes)
-    (rest : (r′ : KronReducer) (ys′ : List Float) → endOf (drops finish (p + 1) r′ ys′ ls) ≡ Kept → AsCalls (drops finish (p + 1) r′ ys′ ls) (held r′ ys′) ls) where
+    (rest : (r′ : KronReducer) (ys′ : List Float) → endOf (drops finish (p + 1) r′ ys′ ls) ≡ Kept → AsCalls (drops finish (p + 1) r′ ys′ ls) (reducerStateOf r′ ys′) ls) where
   abbrev next : KronReducer → List Float → Run
   next r′ ys′ = drops finish (p + 1) r′ ys′ ls
 
   abbrev Line : Run → Number → Type 0
-  Line R w = (heldOf R ≡ leftFrom (held r ys) (map bus (busIn w ++ dropped ls))) × (length (map bus (busIn w ++ dropped ls)) ≡ suc (length ls))
+  Line R w = (heldOf R ≡ leftFrom (reducerStateOf r ys) (map bus (busIn w ++ dropped ls))) × (length (map bus (busIn w ++ dropped ls)) ≡ suc (length ls))
 
   after : (k : ℕ) (o : Outcome) → let R = onOutcome o k (afterBus r ys k .out .rec) (afterBus r ys k .slice) next in endOf R ≡ Kept → Line R (Is k)
   unfolding leftFrom stepHeld callsOf
@@ -70,7 +62,7 @@ module _ (p : ℕ) (r : KronReducer) (ys : List Float) (l : Bytes) (ls : List By
   line (Is k) h = after k (afterBus r ys k .out .answer) h
   line Not h = absurd (at-end (BadLine p) h)
 
-pub drops-calls : (p : ℕ) (r : KronReducer) (ys : List Float) (ls : List Bytes) → endOf (drops finish p r ys ls) ≡ Kept → AsCalls (drops finish p r ys ls) (held r ys) ls
+pub drops-calls : (p : ℕ) (r : KronReducer) (ys : List Float) (ls : List Bytes) → endOf (drops finish p r ys ls) ≡ Kept → AsCalls (drops finish p r ys ls) (reducerStateOf r ys) ls
 unfolding drops finish dropped callsOf leftFrom
 drops-calls p r ys [] h = record { ends = refl; all-lines = refl }
 drops-calls p r ys (l ∷ ls) h =
@@ -82,31 +74,31 @@ drops-calls p r ys (l ∷ ls) h =
 -- k entry lines, where the numbers ys were read before, and then the drops on what they make
 pub record AsMade (n : ℕ) (ns : List ℕ) (k : ℕ) (ys : List Float) (R : Run) (ls : List Bytes) : Type 0 where
   pub there : k ≤ length ls
-  pub numbers : length (numbersOf (take k ls)) ≡ 2 * k
+  pub numbers : length (entriesOf (take k ls)) ≡ 2 * k
   pub place : ℕ
-  pub then : let zs = ys ++ numbersOf (take k ls) in R ≡ drops finish place (afterNew (makingOf n zs ns) .rec) zs (drop k ls)
+  pub then : let zs = ys ++ entriesOf (take k ls) in R ≡ drops finish place (afterNew (reducerInputOf n zs ns) .rec) zs (drop k ls)
 
 module _ (n : ℕ) (ns : List ℕ) (k p : ℕ) (ys : List Float) (l : Bytes) (ls : List Bytes)
     (rest : (zs : List Float) → endOf (entries (drops finish) n ns k (p + 1) zs ls) ≡ Kept → AsMade n ns k zs (entries (drops finish) n ns k (p + 1) zs ls) ls) where
   entry : (w : Entry)
       → let R = onEntry w (λ a b. entries (drops finish) n ns k (p + 1) (ys ++ (ofWord a ∷ ofWord b ∷ [])) ls) (ended (BadLine p) noReducer ys) in
-      let zs = ys ++ (parts w ++ numbersOf (take k ls)) in
+      let zs = ys ++ (entryParts w ++ entriesOf (take k ls)) in
       endOf R ≡ Kept
-      → (k ≤ length ls) × (length (parts w ++ numbersOf (take k ls)) ≡ 2 * suc k) × (at : ℕ) × (R ≡ drops finish at (afterNew (makingOf n zs ns) .rec) zs (drop k ls))
+      → (k ≤ length ls) × (length (entryParts w ++ entriesOf (take k ls)) ≡ 2 * suc k) × (at : ℕ) × (R ≡ drops finish at (afterNew (reducerInputOf n zs ns) .rec) zs (drop k ls))
   entry (Words a b) h =
       let c = rest (ys ++ (ofWord a ∷ ofWord b ∷ [])) h in (
         c .there,
         omega (arith, c .numbers),
         c .place,
         subst
-            (λ (zs : List Float). entries (drops finish) n ns k (p + 1) (ys ++ (ofWord a ∷ ofWord b ∷ [])) ls ≡ drops finish (c .place) (afterNew (makingOf n zs ns) .rec) zs (drop k ls))
-            (append-assoc ys (ofWord a ∷ ofWord b ∷ []) (numbersOf (take k ls)))
+            (λ (zs : List Float). entries (drops finish) n ns k (p + 1) (ys ++ (ofWord a ∷ ofWord b ∷ [])) ls ≡ drops finish (c .place) (afterNew (reducerInputOf n zs ns) .rec) zs (drop k ls))
+            (append-assoc ys (ofWord a ∷ ofWord b ∷ []) (entriesOf (take k ls)))
             (c .then),
       )
   entry NoEntry h = absurd (at-end (BadLine p) h)
 
 pub entries-made : (n : ℕ) (ns : List ℕ) (k p : ℕ) (ys : List Float) (ls : List Bytes) → endOf (entries (drops finish) n ns k p ys ls) ≡ Kept → AsMade n ns k ys (entries (drops finish) n ns k p ys ls) ls
-unfolding entries numbersOf
+unfolding entries entriesOf
 entries-made n ns zero p ys ls h = record { there = omega arith; numbers = refl; place = p; then = simp append-nil }
 entries-made n ns (suc k) p ys [] h = absurd (at-end (BadLine p) h)
 entries-made n ns (suc k) p ys (l ∷ ls) h =
@@ -162,12 +154,12 @@ named-made n (suc k) j p ns (l ∷ ls) g e h =
 -- ---- the first line
 
 -- the numbers of entry lines fit binary64, whatever their bits
-pub f64s : (ls : List Bytes) → F64s (numbersOf ls)
-unfolding numbersOf
+pub f64s : (ls : List Bytes) → F64s (entriesOf ls)
+unfolding entriesOf
 f64s [] i = nan-fits binary64
 f64s (l ∷ ls) i = entry-fits (entryOf l) (f64s ls) i
   where
-    entry-fits : (w : Entry) → F64s (numbersOf ls) → F64s (parts w ++ numbersOf ls)
+    entry-fits : (w : Entry) → F64s (entriesOf ls) → F64s (entryParts w ++ entriesOf ls)
     entry-fits (Words a b) f zero = ofBits-fits binary64 a
     entry-fits (Words a b) f (suc zero) = ofBits-fits binary64 b
     entry-fits (Words a b) f (suc (suc i)) = f i

@@ -1,31 +1,27 @@
 -- The claims on runs, from the law of the drops and demand 3.
--- Assumes nothing.
-use Prim.Native.Nat.{ℕ, _+_, _*_, _≤_}
-use mathlib.Core.Path.{_≡_, refl, sym, ap, subst, subst₂, _∙_}
-use mathlib.Core.List.{List, [], _∷_}
-use native.Mathlib.Omega.{arith}
-use lib.ListN.{length, length-drop}
-use Rattle.complex.specs.Values.{F64s}
-use Rattle.buses.specs.Buses.{rowsIn}
-use Rattle.kron_core.specs.declared.KronReducer.{KronReducer}
-use Rattle.kron_core.specs.Reducer.{Made, recordOf, afterNew, Held, laid}
-use Rattle.kron_core.specs.Reading.{activeNumbers}
+use Rattle.prelude.proofs.Prelude.{_≡_, refl, sym, ap, _∙_, subst, List, [], _∷_, ℕ, _+_, _*_, _≤_, arith, length, length-drop}
+use mathlib.Core.Path.{subst₂}
+use Rattle.binary64.specs.Values.{F64s}
+use Rattle.lists.specs.Buses.{rowsIn}
+use Rattle.kron_reduction.specs.declared.KronReducer.{KronReducer}
+use Rattle.kron_reduction.specs.Reducer.{AcceptedMaking, recordOf, afterNew, ReducerState, stored}
+use Rattle.kron_reduction.specs.Reading.{activeNumbers}
 use Rattle.claims.specs.Accounts.{leftFrom, left, fresh, accountFrom, kept, numbersAt}
 use Rattle.claims.specs.Finite.{Finite}
 use Rattle.claims.specs.Removals.{Unchanged, Independent}
 use Rattle.claims.proofs.Bridge.{account-numbers, left-is, kept-state}
 use Rattle.claims.proofs.ByNumber.{removed-are as by-number, kept-numbers}
 use Rattle.claims.proofs.Demand3.{demand3}
-use Rattle.words.specs.declared.Number.the-variants.{Is}
-use Rattle.lines.specs.declared.read.End.{End}
-use Rattle.lines.specs.declared.read.End.the-variants.{Kept, BadLine}
-use Rattle.words.specs.Bytes.{Bytes}
-use Rattle.lines.specs.Lines.{lines, busesOf}
-use Rattle.lines.specs.Reading.{most, drops, finish, first, run}
-use Rattle.lines.specs.Printing.{text, textOf, keptText}
-use Rattle.lines.specs.Reduce.{printed}
-use Rattle.lines.proofs.Fit.{Names, making-accepted}
-use Rattle.program_claims.specs.Inputs.{orNone, dropped, callsOf, firstLine, sizeOf, behindFirst, behindNumbers, busNumbers, entryCount, entryPart, dropPart, making, calls, accountOf, IsKept, heldAfter}
+use Rattle.text_numbers.specs.declared.Number.the-variants.{Is}
+use Rattle.reduce_text.specs.declared.read.End.{End}
+use Rattle.reduce_text.specs.declared.read.End.the-variants.{Kept, BadLine}
+use Rattle.text_numbers.specs.Bytes.{Bytes}
+use Rattle.reduce_text.specs.Lines.{lines, busesOf}
+use Rattle.reduce_text.specs.Reading.{most, drops, finish, first, runOf}
+use Rattle.reduce_text.specs.Printing.{text, textOf, keptText}
+use Rattle.reduce_text.specs.Reduce.{printed}
+use Rattle.reduce_text.proofs.Fit.{Names, making-accepted}
+use Rattle.program_claims.specs.Inputs.{orNone, dropped, callsOf, firstLine, sizeOf, behindFirst, behindNumbers, busNumbers, entryCount, entryPart, dropPart, makingIn, calls, accountOf, IsKept, stateLeft}
 use Rattle.program_claims.specs.Runs.{DropsAreCalls, ProgramClaims}
 use Rattle.program_claims.proofs.Calls.{at-end, endOf, heldOf, drops-calls, first-buses, f64s}
 use Rattle.program_claims.proofs.Dropped.{drops-removed}
@@ -33,9 +29,9 @@ use Rattle.program_claims.proofs.Dropped.{drops-removed}
 -- ---- one input
 
 -- what is printed of a run that is kept
-kept-text : (input : Bytes) → IsKept input → printed input ≡ keptText (heldAfter input .rec) (heldAfter input .slice)
-unfolding printed text textOf heldAfter
-kept-text input h = ap (λ (e : End). textOf e (run input .reading .rec) (run input .numbers)) h
+kept-text : (input : Bytes) → IsKept input → printed input ≡ keptText (stateLeft input .rec) (stateLeft input .slice)
+unfolding printed text textOf stateLeft
+kept-text input h = ap (λ (e : End). textOf e (runOf input .reading .rec) (runOf input .numbers)) h
 
 -- numbers, entries and drops of the whole input
 pub record AsRead (input : Bytes) : Type 0 where
@@ -43,12 +39,12 @@ pub record AsRead (input : Bytes) : Type 0 where
   pub small : sizeOf input ≤ most
   pub there : 1 + sizeOf input + entryCount input ≤ length (lines input)
   pub names : Names (sizeOf input) (busNumbers input)
-  pub numbers : length (making input .given) ≡ 2 * entryCount input
+  pub numbers : length (makingIn input .given) ≡ 2 * entryCount input
   pub place : ℕ
-  pub then : run input ≡ drops finish place (afterNew (making input) .rec) (making input .given) (dropPart input)
+  pub then : runOf input ≡ drops finish place (afterNew (makingIn input) .rec) (makingIn input .given) (dropPart input)
 
 as-read : (input : Bytes) (ls : List Bytes) → lines input ≡ ls → IsKept input → AsRead input
-unfolding run sizeOf making busNumbers
+unfolding runOf sizeOf makingIn busNumbers
 as-read input [] e h = absurd (at-end (BadLine 1) (unfold first in rw e at h))
 as-read input (l ∷ ls) e h =
     let a = first-buses l ls (rw e at h) in
@@ -66,22 +62,22 @@ module _ (input : Bytes) (h : IsKept input) where
   abbrev given : AsRead input
   given = as-read input (lines input) refl h
 
-  abbrev at-drops : endOf (drops finish (given .place) (afterNew (making input) .rec) (making input .given) (dropPart input)) ≡ Kept
+  abbrev at-drops : endOf (drops finish (given .place) (afterNew (makingIn input) .rec) (makingIn input .given) (dropPart input)) ≡ Kept
   at-drops = ap endOf (sym (given .then)) ∙ h
 
-  is-made : Made (making input)
-  unfolding making
-  is-made = rw (making-accepted (sizeOf input) (busNumbers input) (making input .given) (given .small) (given .names) (given .numbers)) tt
+  is-made : AcceptedMaking (makingIn input)
+  unfolding makingIn
+  is-made = rw (making-accepted (sizeOf input) (busNumbers input) (makingIn input .given) (given .small) (given .names) (given .numbers)) tt
 
-  ends : heldAfter input ≡ left (making input) (calls input)
-  unfolding heldAfter left calls
-  ends = ap heldOf (given .then) ∙ drops-calls (given .place) (afterNew (making input) .rec) (making input .given) (dropPart input) at-drops .ends
+  ends : stateLeft input ≡ left (makingIn input) (calls input)
+  unfolding stateLeft left calls
+  ends = ap heldOf (given .then) ∙ drops-calls (given .place) (afterNew (makingIn input) .rec) (makingIn input .given) (dropPart input) at-drops .ends
 
   all-lines : 1 + sizeOf input + entryCount input + length (calls input) ≡ length (lines input)
   unfolding calls
   all-lines = omega (
     arith,
-    drops-calls (given .place) (afterNew (making input) .rec) (making input .given) (dropPart input) at-drops .all-lines,
+    drops-calls (given .place) (afterNew (makingIn input) .rec) (makingIn input .given) (dropPart input) at-drops .all-lines,
     given .there,
     length-drop (entryCount input) (behindNumbers input),
     length-drop (sizeOf input) (behindFirst input),
@@ -94,53 +90,53 @@ module _ (input : Bytes) (h : IsKept input) where
     made = is-made;
     all-lines = all-lines;
     ends = ends;
-    prints = kept-text input h ∙ ap (λ (x : Held). keptText (x .rec) (x .slice)) ends;
+    prints = kept-text input h ∙ ap (λ (x : ReducerState). keptText (x .rec) (x .slice)) ends;
   }
 
 pub removed-are : (input : Bytes) → IsKept input → accountOf input .removed ≡ rowsIn (busNumbers input) (dropped (dropPart input))
-unfolding calls callsOf left leftFrom fresh accountFrom making
-removed-are input h = drops-removed (making input) (is-made input h) (given input h .place) [] (dropPart input) (at-drops input h)
+unfolding calls callsOf left leftFrom fresh accountFrom makingIn
+removed-are input h = drops-removed (makingIn input) (is-made input h) (given input h .place) [] (dropPart input) (at-drops input h)
 
 -- told by number, they are those of the drop lines
 pub numbers-are : (input : Bytes) → IsKept input → numbersAt (accountOf input) (accountOf input .removed) ≡ dropped (dropPart input)
 numbers-are input h =
-    by-number (making input) (calls input) (is-made input h) (dropped (dropPart input))
-    (removed-are input h ∙ ap (λ (ns : List ℕ). rowsIn ns (dropped (dropPart input))) (sym (account-numbers (fresh (making input)) (calls input) ∙ unfold fresh making in refl)))
+    by-number (makingIn input) (calls input) (is-made input h) (dropped (dropPart input))
+    (removed-are input h ∙ ap (λ (ns : List ℕ). rowsIn ns (dropped (dropPart input))) (sym (account-numbers (fresh (makingIn input)) (calls input) ∙ unfold fresh makingIn in refl)))
 
 -- the record is that of the kept buses
-pub buses-are : (input : Bytes) → IsKept input → run input .reading .rec ≡ recordOf (sizeOf input) (busNumbers input) (kept (accountOf input))
-unfolding heldAfter laid
+pub buses-are : (input : Bytes) → IsKept input → runOf input .reading .rec ≡ recordOf (sizeOf input) (busNumbers input) (kept (accountOf input))
+unfolding stateLeft stored
 buses-are input h =
     let d = drops-are input h in
-    ap (λ (x : Held). x .rec) (d .ends ∙ left-is (making input) (calls input) (d .made))
-    ∙ unfold making in ap (recordOf (sizeOf input) (busNumbers input)) (kept-state (accountOf input))
+    ap (λ (x : ReducerState). x .rec) (d .ends ∙ left-is (makingIn input) (calls input) (d .made))
+    ∙ unfold makingIn in ap (recordOf (sizeOf input) (busNumbers input)) (kept-state (accountOf input))
 
-pub kept-numbers-are : (input : Bytes) → IsKept input → activeNumbers (run input .reading .rec) ≡ numbersAt (accountOf input) (kept (accountOf input))
-unfolding heldAfter
+pub kept-numbers-are : (input : Bytes) → IsKept input → activeNumbers (runOf input .reading .rec) ≡ numbersAt (accountOf input) (kept (accountOf input))
+unfolding stateLeft
 kept-numbers-are input h =
     let d = drops-are input h in
-    ap (λ (x : Held). activeNumbers (x .rec)) (d .ends) ∙ kept-numbers (making input) (calls input) (d .made)
+    ap (λ (x : ReducerState). activeNumbers (x .rec)) (d .ends) ∙ kept-numbers (makingIn input) (calls input) (d .made)
 
-pub prints : (input : Bytes) → IsKept input → printed input ≡ keptText (recordOf (sizeOf input) (busNumbers input) (kept (accountOf input))) (run input .numbers)
-unfolding heldAfter
-prints input h = kept-text input h ∙ ap (λ (r : KronReducer). keptText r (run input .numbers)) (buses-are input h)
+pub prints : (input : Bytes) → IsKept input → printed input ≡ keptText (recordOf (sizeOf input) (busNumbers input) (kept (accountOf input))) (runOf input .numbers)
+unfolding stateLeft
+prints input h = kept-text input h ∙ ap (λ (r : KronReducer). keptText r (runOf input .numbers)) (buses-are input h)
 
-given-f64s : (input : Bytes) → F64s (making input .given)
-unfolding making
+given-f64s : (input : Bytes) → F64s (makingIn input .given)
+unfolding makingIn
 given-f64s input = f64s (entryPart input)
 
-pub unchanged : (input : Bytes) → IsKept input → Finite (making input) (calls input) → Unchanged (accountOf input) (heldAfter input)
+pub unchanged : (input : Bytes) → IsKept input → Finite (makingIn input) (calls input) → Unchanged (accountOf input) (stateLeft input)
 unchanged input h f =
-    subst (λ (x : Held). Unchanged (accountOf input) x) (sym (drops-are input h .ends))
-    (demand3 .removals .unchanged (making input) (calls input) (given-f64s input) f)
+    subst (λ (x : ReducerState). Unchanged (accountOf input) x) (sym (drops-are input h .ends))
+    (demand3 .removals .unchanged (makingIn input) (calls input) (given-f64s input) f)
 
 -- ---- two inputs
 
-pub independent : (input input' : Bytes) → IsKept input → IsKept input' → Finite (making input) (calls input) → Finite (making input') (calls input')
-    → Independent (accountOf input) (heldAfter input) (accountOf input') (heldAfter input')
+pub independent : (input input' : Bytes) → IsKept input → IsKept input' → Finite (makingIn input) (calls input) → Finite (makingIn input') (calls input')
+    → Independent (accountOf input) (stateLeft input) (accountOf input') (stateLeft input')
 independent input input' h h' f f' =
-    subst₂ (λ (x x' : Held). Independent (accountOf input) x (accountOf input') x') (sym (drops-are input h .ends)) (sym (drops-are input' h' .ends))
-    (demand3 .removals .independent (making input) (making input') (calls input) (calls input') (given-f64s input) (given-f64s input') f f')
+    subst₂ (λ (x x' : ReducerState). Independent (accountOf input) x (accountOf input') x') (sym (drops-are input h .ends)) (sym (drops-are input' h' .ends))
+    (demand3 .removals .independent (makingIn input) (makingIn input') (calls input) (calls input') (given-f64s input) (given-f64s input') f f')
 
 -- ---- all of them
 

@@ -4,16 +4,16 @@ use mathlib.Core.List.{List, [], _∷_, _++_, map}
 use mathlib.Core.Path.{_≡_}
 use lib.ListN.{getD, take, drop}
 use lib.Ieee.{Float}
-use Rattle.kron_core.specs.Reducer.{Making, makingOf, Held, held}
+use Rattle.kron_reduction.specs.Reducer.{ReducerInput, reducerInputOf, ReducerState, reducerStateOf}
 use Rattle.claims.specs.Accounts.{Call, bus, Account, account}
-use Rattle.words.specs.declared.Number.{Number}
-use Rattle.words.specs.declared.Number.the-variants.{Is, Not}
-use Rattle.lines.specs.declared.text.Entry.{Entry}
-use Rattle.lines.specs.declared.text.Entry.the-variants.{Words, NoEntry}
-use Rattle.lines.specs.declared.read.End.the-variants.{Kept}
-use Rattle.words.specs.Bytes.{Bytes}
-use Rattle.lines.specs.Lines.{lines, busesOf, numberOf, dropOf, entryOf}
-use Rattle.lines.specs.Reading.{ofWord, run}
+use Rattle.text_numbers.specs.declared.Number.{Number}
+use Rattle.text_numbers.specs.declared.Number.the-variants.{Is, Not}
+use Rattle.reduce_text.specs.declared.text.Entry.{Entry}
+use Rattle.reduce_text.specs.declared.text.Entry.the-variants.{Words, NoEntry}
+use Rattle.reduce_text.specs.declared.read.End.the-variants.{Kept}
+use Rattle.text_numbers.specs.Bytes.{Bytes}
+use Rattle.reduce_text.specs.Lines.{lines, busesOf, numberOf, dropOf, entryOf}
+use Rattle.reduce_text.specs.Reading.{ofWord, runOf}
 
 -- ---- lines that are taken for numbers, for entries, and for drops
 
@@ -27,14 +27,14 @@ namesOf [] = []
 namesOf (l ∷ ls) = busIn (numberOf l) ++ namesOf ls
 
 -- real and imaginary part
-abbrev pub parts : Entry → List Float
-parts (Words a b) = ofWord a ∷ ofWord b ∷ []
-parts NoEntry = []
+abbrev pub entryParts : Entry → List Float
+entryParts (Words a b) = ofWord a ∷ ofWord b ∷ []
+entryParts NoEntry = []
 
 -- the numbers of the entry lines, in order
-unfoldable pub numbersOf : List Bytes → List Float
-numbersOf [] = []
-numbersOf (l ∷ ls) = parts (entryOf l) ++ numbersOf ls
+unfoldable pub entriesOf : List Bytes → List Float
+entriesOf [] = []
+entriesOf (l ∷ ls) = entryParts (entryOf l) ++ entriesOf ls
 
 -- the buses of the drop lines, in order
 unfoldable pub dropped : List Bytes → List ℕ
@@ -82,22 +82,22 @@ dropPart input = drop (entryCount input) (behindNumbers input)
 unfoldable pub busNumbers : Bytes → List ℕ
 busNumbers input = namesOf (numberPart input)
 
-unfoldable pub making : Bytes → Making
-making input = makingOf (sizeOf input) (numbersOf (entryPart input)) (busNumbers input)
+unfoldable pub makingIn : Bytes → ReducerInput
+makingIn input = reducerInputOf (sizeOf input) (entriesOf (entryPart input)) (busNumbers input)
 
 unfoldable pub calls : Bytes → List Call
 calls input = callsOf (dropPart input)
 
 -- demand 3's account of these calls
 abbrev pub accountOf : Bytes → Account
-accountOf input = account (making input) (calls input)
+accountOf input = account (makingIn input) (calls input)
 
 -- ---- the run
 
 -- the input is read to its end, and no drop is refused: what is left is printed
 abbrev pub IsKept : Bytes → Type 0
-IsKept input = run input .reading .end ≡ Kept
+IsKept input = runOf input .reading .end ≡ Kept
 
 -- the record, and the numbers of the matrix, at the run's end
-unfoldable pub heldAfter : Bytes → Held
-heldAfter input = held (run input .reading .rec) (run input .numbers)
+unfoldable pub stateLeft : Bytes → ReducerState
+stateLeft input = reducerStateOf (runOf input .reading .rec) (runOf input .numbers)

@@ -1,17 +1,10 @@
--- What `lines::reduce` answers on slices of the right lengths: the printed text, at the output's front.
--- Assumes nothing.
-use Prim.Native.Nat.{ℕ, _-_, _≤_}
-use mathlib.Core.Path.{_≡_, sym, ap, _∙_}
-use mathlib.Core.List.{List, _++_}
-use native.Mathlib.Omega.{arith}
-use lib.ListN.{length, take, replicate, length-append}
-use lib.Seq.{take-append-seam, length-take-le}
-use lib.Ieee.{Float}
-use Rattle.lines.specs.declared.Answer.{Answer}
-use Rattle.lines.specs.declared.Answer.the-variants.{Written, Refused}
-use Rattle.lines.specs.Reduce.{outputLength, matrixLength, printed, AfterReduce, afterReduce}
-use Rattle.lines.proofs.ReduceLaws.{after-both}
-use Rattle.reduce.specs.Moves.{Front}
+-- What `reduce_text::reduce` answers on slices of the right lengths: the printed text, at the output's front.
+use Rattle.prelude.proofs.Prelude.{_≡_, sym, ap, _∙_, List, _++_, ℕ, _-_, _≤_, arith, length, take, replicate, Float, length-append, take-append-seam, length-take-le}
+use Rattle.reduce_text.specs.declared.Answer.{Answer}
+use Rattle.reduce_text.specs.declared.Answer.the-variants.{Written, Refused}
+use Rattle.reduce_text.specs.Reduce.{outputLength, matrixLength, printed, AfterReduce, afterReduce}
+use Rattle.reduce_text.proofs.ReduceLaws.{after-both}
+use Rattle.reduce.specs.Inner.Moves.{Front}
 
 module _ (input out : List ℕ) (ys : List Float) (o : outputLength ≡ length out) (m : matrixLength ≡ length ys) where
   -- the zeros behind the text

@@ -1,6 +1,6 @@
 // Standard input and standard output, each to its end. What the operating system moves is no contract's: these say how much, never what.
 ghost use lib.ListN.{length};
-ghost use Rattle.reduce.specs.Moves.{AtMost, All};
+ghost use Rattle.reduce.specs.Inner.Moves.{AtMost, All};
 
 // So many bytes were moved, or a call failed.
 pub enum Move {

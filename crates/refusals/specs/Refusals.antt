@@ -19,16 +19,16 @@ abbrev pub wrongLength : ℕ
 wrongLength = 2
 
 -- branch lists differ in length, or injections or voltages don't match the external or REI list
-abbrev pub unlikeLists : ℕ
-unlikeLists = 3
+abbrev pub listsDiffer : ℕ
+listsDiffer = 3
 
 -- REI with no bus
 abbrev pub noBus : ℕ
 noBus = 4
 
 -- a solve or inverse of size 0, or a right side of another length
-abbrev pub noSystem : ℕ
-noSystem = 5
+abbrev pub emptySystem : ℕ
+emptySystem = 5
 
 -- a branch end not below the number of buses
 abbrev pub noSuchEnd : ℕ
@@ -57,8 +57,8 @@ abbrev pub smallEntry : ℕ
 smallEntry = 12
 
 -- a chosen pivot is too small to divide by
-abbrev pub smallPivot : ℕ
-smallPivot = 13
+abbrev pub singular : ℕ
+singular = 13
 
 -- ---- the answers
 

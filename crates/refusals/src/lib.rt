@@ -1,9 +1,34 @@
-// The answers that every layer gives, and the limit that each of them tests.
+// The refusals by number, the answers that carry them, and the limit that every layer tests.
 ghost use mathlib.Core.Path.{_≡_};
 ghost use Rattle.refusals.specs.Refusals as spec;
 
 // The most buses, branches or list places that the library takes.
 pub const LIMIT: usize = 256;
+
+// The refusals. specs/Refusals.antt says when each is told; include/jeturipe.h has the same names.
+pub const TOO_MANY: u32 = 1;
+
+pub const WRONG_LENGTH: u32 = 2;
+
+pub const LISTS_DIFFER: u32 = 3;
+
+pub const NO_BUS: u32 = 4;
+
+pub const EMPTY_SYSTEM: u32 = 5;
+
+pub const NO_SUCH_END: u32 = 6;
+
+pub const NO_SUCH_BUS: u32 = 7;
+
+pub const BUS_TWICE: u32 = 8;
+
+pub const BAD_RECORD: u32 = 9;
+
+pub const NOT_ACTIVE: u32 = 11;
+
+pub const SMALL_ENTRY: u32 = 12;
+
+pub const SINGULAR: u32 = 13;
 
 // The answer of a call that returns no value: carried out, or refused with its number.
 pub enum Outcome {

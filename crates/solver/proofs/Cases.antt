@@ -1,18 +1,11 @@
 -- Small systems computed from the definitions that the contracts cite: equal and incomparable pivots, a singular one, an inverse, and wrong lengths.
--- Assumes nothing.
-use mathlib.Core.Path.{_≡_, refl}
-use mathlib.Core.List.{[], _∷_}
-use lib.ListN.{replicate}
-use lib.Ieee.{Float, nan, binary64, lt, add, sub, mul, div, ofBits}
-use Rattle.complex.specs.Constants.{plus0, one, tiny}
-use Rattle.complex.specs.Arithmetic.{csub, cmul, sqmag, cdiv, complexInv}
-use Rattle.complex.specs.Magnitude.{abs}
-use Rattle.complex.specs.Entries.{entry}
-use Rattle.complex.specs.Matrices.{upTo, entryAt, row, rows, grid, zeros}
+use Rattle.prelude.proofs.Prelude.{_≡_, refl, [], _∷_, replicate, Float, nan, binary64, lt, add, sub, mul, div, ofBits}
+use Rattle.complex.specs.{plus0, one, divisionLimit, csub, cmul, sqmag, cdiv, complexInv, abs, entry, entryAt, row, rows, grid, zeros}
+use Rattle.lists.specs.Buses.{upTo}
 use Rattle.refusals.specs.declared.Outcome.the-variants.{Done, Refused}
-use Rattle.refusals.specs.Refusals.{outcome, wrongLength, noSystem, smallPivot}
-use Rattle.gauss_jordan.specs.GaussJordan.{stays, tooSmall, heldAfter, pivotRow, swapped, scaled, reduced, pivoted, cleared, runFrom, run, beside, solution, singularSystem}
-use Rattle.gauss_jordan.specs.Solving.{skipped, unitColumn}
+use Rattle.refusals.specs.Refusals.{outcome, wrongLength, emptySystem, singular}
+use Rattle.solver.specs.GaussJordan.{stays, heldAfter, pivotRow, swapped, scaled, reduced, pivoted, cleared, gaussJordanFrom, gaussJordan, augmented, solution, singularSystem}
+use Rattle.solver.specs.Solving.{skipped, unitColumn}
 use Rattle.solver.specs.Calls.{solveRefusal, inverseRefusal, afterSolve, afterInverse, afterElimination}
 
 -- +0, 1, -1, 2, 4 and 0.5
@@ -36,7 +29,7 @@ half = ofBits binary64 0x3fe0000000000000
 
 -- to open this is to open all that the cases compute with
 opened : Unit {0}
-unfolding plus0 one tiny csub cmul sqmag cdiv complexInv abs entry upTo entryAt row rows grid zeros outcome stays tooSmall heldAfter pivotRow swapped scaled reduced pivoted cleared runFrom run beside solution singularSystem skipped unitColumn solveRefusal inverseRefusal afterSolve afterInverse afterElimination lt add sub mul div ofBits
+unfolding plus0 one divisionLimit csub cmul sqmag cdiv complexInv abs entry upTo entryAt row rows grid zeros outcome stays heldAfter pivotRow swapped scaled reduced pivoted cleared gaussJordanFrom gaussJordan augmented solution singularSystem skipped unitColumn solveRefusal inverseRefusal afterSolve afterInverse afterElimination lt add sub mul div ofBits
 opened = tt
 
 -- 1, 1 / 1, 4 with right side 0, 1: the first column's pivots are equal, and the upper row is taken. The lower one would give the first answer as bfd5555555555554.
@@ -53,7 +46,7 @@ nan-held = refl
 
 -- 1, 1 / 1, 1 is singular: the output is as it was, the work slice is cleared
 singular-pair : afterSolve 2 (p1 ∷ o ∷ p1 ∷ o ∷ p1 ∷ o ∷ p1 ∷ o ∷ []) (p2 ∷ o ∷ o ∷ o ∷ []) (m1 ∷ m1 ∷ m1 ∷ m1 ∷ []) (m1 ∷ o ∷ o ∷ o ∷ o ∷ o ∷ o ∷ o ∷ o ∷ o ∷ o ∷ p1 ∷ [])
-    ≡ record { answer = Refused smallPivot; output = m1 ∷ m1 ∷ m1 ∷ m1 ∷ []; work = zeros 12 }
+    ≡ record { answer = Refused singular; output = m1 ∷ m1 ∷ m1 ∷ m1 ∷ []; work = zeros 12 }
 unfolding opened
 singular-pair = refl
 
@@ -67,6 +60,6 @@ wrong-length : afterInverse 0 (p1 ∷ []) (p2 ∷ []) (m1 ∷ []) ≡ record { a
 unfolding opened
 wrong-length = refl
 
-no-system : afterSolve 0 [] (p1 ∷ []) [] [] ≡ record { answer = Refused noSystem; output = []; work = [] }
+no-system : afterSolve 0 [] (p1 ∷ []) [] [] ≡ record { answer = Refused emptySystem; output = []; work = [] }
 unfolding opened
 no-system = refl

@@ -1,2 +1,10 @@
+pub mod BlockParts
+pub mod GaussJordan
+pub mod Passed
+pub mod Pivots
+pub mod RowParts
+pub mod Solutions
+pub mod TurnedRows
+pub mod ColumnSteps
 pub mod Accepted
 pub mod Cases

@@ -8,20 +8,21 @@ use lib.Ieee.{Float}
 use Rattle.complex.specs.Entries.{entry}
 use Rattle.complex.specs.Matrices.{entryAt, grid, zeros}
 use Rattle.refusals.specs.declared.Outcome.{Outcome}
-use Rattle.refusals.specs.Refusals.{limit, tooMany, wrongLength, noSystem, smallPivot, refuse, outcome}
-use Rattle.gauss_jordan.specs.Solving.{singular, solve, inverse}
+use Rattle.refusals.specs.Refusals.{limit, tooMany, wrongLength, emptySystem, singular, refuse, outcome}
+use Rattle.solver.specs.Solving.{isSingular, solve, inverse}
 
 -- A call that ends in an elimination, with one output slice and one work slice.
-pub record Left : Type 0 where
+pub record AfterElimination : Type 0 where
   pub answer : Outcome
   pub output : List Float
   pub work : List Float
 
--- `told` is the refusal from the input, `small` whether a pivot is too small. On a refusal the output is as it was; the work slice is cleared unless the input was refused.
-unfoldable pub afterElimination : ℕ → Bool → List Float → List Float → List Float → Left
+-- `told` is the refusal from the input, `small` whether a pivot is too small. On a refusal the output is as it was; the work slice is
+-- cleared unless the input was refused.
+unfoldable pub afterElimination : ℕ → Bool → List Float → List Float → List Float → AfterElimination
 unfolding outcome zeros
 afterElimination told small new old work =
-    let number = cond (eqb told 0) (cond small smallPivot 0) told in
+    let number = cond (eqb told 0) (cond small singular 0) told in
     record {
       answer = outcome number;
       output = cond (eqb number 0) new old;
@@ -35,14 +36,14 @@ unfoldable pub solveRefusal : ℕ → ℕ → ℕ → ℕ → ℕ → ℕ
 solveRefusal n a b x work =
     refuse (ltb limit n) tooMany
     (refuse (not (eqb a (2 * (n * n)) && (eqb x (2 * n) && eqb work (2 * (n * (n + 1)))))) wrongLength
-    (refuse (eqb n 0 || not (eqb b (2 * n))) noSystem 0))
+    (refuse (eqb n 0 || not (eqb b (2 * n))) emptySystem 0))
 
-unfoldable pub afterSolve : ℕ → List Float → List Float → List Float → List Float → Left
+unfoldable pub afterSolve : ℕ → List Float → List Float → List Float → List Float → AfterElimination
 unfolding solveRefusal afterElimination
 afterSolve n a b x work =
     afterElimination
     (solveRefusal n (length a) (length b) (length x) (length work))
-    (singular n (entryAt n a))
+    (isSingular n (entryAt n a))
     (grid n 1 (λ (i k : ℕ). solve n (entryAt n a) (entry b) i))
     x work
 
@@ -52,13 +53,13 @@ unfoldable pub inverseRefusal : ℕ → ℕ → ℕ → ℕ → ℕ
 inverseRefusal n mat inverse work =
     refuse (ltb limit n) tooMany
     (refuse (not (eqb mat (2 * (n * n)) && (eqb inverse (2 * (n * n)) && eqb work (4 * (n * n))))) wrongLength
-    (refuse (eqb n 0) noSystem 0))
+    (refuse (eqb n 0) emptySystem 0))
 
-unfoldable pub afterInverse : ℕ → List Float → List Float → List Float → Left
+unfoldable pub afterInverse : ℕ → List Float → List Float → List Float → AfterElimination
 unfolding inverseRefusal afterElimination
 afterInverse n mat out work =
     afterElimination
     (inverseRefusal n (length mat) (length out) (length work))
-    (singular n (entryAt n mat))
+    (isSingular n (entryAt n mat))
     (grid n n (inverse n (entryAt n mat)))
     out work

@@ -1,22 +1,30 @@
 // The solution of a complex system, and the inverse of a complex matrix, by Gauss-Jordan elimination.
 use refusals::Outcome;
+use refusals::SINGULAR;
 ghost use mathlib.Core.Path.{_≡_};
 ghost use Rattle.solver.specs.Calls as spec;
 
+pub mod blocks;
+pub mod elimination;
 pub mod lengths;
+pub mod rows;
 pub mod solving;
 
 // x becomes the solution of a x = b: a has n rows of n complex entries, b and x have n, and the work slice has n rows of n + 1.
 // Refused: 1, 2, 5 from the input, 13 where a pivot is too small. The work slice is all +0 after acceptance or 13.
 pub fn solve_linear(n: usize, a: &[f64], b: &[f64], x: &mut [f64], work: &mut [f64]) -> Outcome
-    ensures { λ r. ⌜ (r ≡ spec.afterSolve n (now (a .entry)) (now (b .entry)) (now (x .entry)) (now (work .entry)) .answer) × (now (x .exit) ≡ spec.afterSolve n (now (a .entry)) (now (b .entry)) (now (x .entry)) (now (work .entry)) .output) × (now (work .exit) ≡ spec.afterSolve n (now (a .entry)) (now (b .entry)) (now (x .entry)) (now (work .entry)) .work) ⌝ }
+    ensures { λ r. ⌜
+        (r ≡ spec.afterSolve n (now (a .entry)) (now (b .entry)) (now (x .entry)) (now (work .entry)) .answer)
+        × (now (x .exit) ≡ spec.afterSolve n (now (a .entry)) (now (b .entry)) (now (x .entry)) (now (work .entry)) .output)
+        × (now (work .exit) ≡ spec.afterSolve n (now (a .entry)) (now (b .entry)) (now (x .entry)) (now (work .entry)) .work)
+        ⌝ }
 {
     let told = lengths::solve_refusal(n, a.len(), b.len(), x.len(), work.len());
     if told != 0 {
         return Outcome::Refused(told);
     }
     if solving::solved(n, a, b, x, work) {
-        return Outcome::Refused(13);
+        return Outcome::Refused(SINGULAR);
     }
     Outcome::Done
 }
@@ -29,14 +37,18 @@ pub fn complex_matrix_inverse(
     inverse: &mut [f64],
     work: &mut [f64],
 ) -> Outcome
-    ensures { λ r. ⌜ (r ≡ spec.afterInverse n (now (mat .entry)) (now (inverse .entry)) (now (work .entry)) .answer) × (now (inverse .exit) ≡ spec.afterInverse n (now (mat .entry)) (now (inverse .entry)) (now (work .entry)) .output) × (now (work .exit) ≡ spec.afterInverse n (now (mat .entry)) (now (inverse .entry)) (now (work .entry)) .work) ⌝ }
+    ensures { λ r. ⌜
+        (r ≡ spec.afterInverse n (now (mat .entry)) (now (inverse .entry)) (now (work .entry)) .answer)
+        × (now (inverse .exit) ≡ spec.afterInverse n (now (mat .entry)) (now (inverse .entry)) (now (work .entry)) .output)
+        × (now (work .exit) ≡ spec.afterInverse n (now (mat .entry)) (now (inverse .entry)) (now (work .entry)) .work)
+        ⌝ }
 {
     let told = lengths::inverse_refusal(n, mat.len(), inverse.len(), work.len());
     if told != 0 {
         return Outcome::Refused(told);
     }
     if solving::inverted(n, mat, inverse, work) {
-        return Outcome::Refused(13);
+        return Outcome::Refused(SINGULAR);
     }
     Outcome::Done
 }

@@ -1,7 +1,7 @@
 // The work of `solve_linear` and `complex_matrix_inverse` once the input is accepted: the slice is filled, eliminated, read, and cleared.
 // The functions here have a `requires`, which their callers prove.
+use crate::blocks;
 use complex::slices::clear;
-use gauss_jordan::blocks;
 ghost use mathlib.Core.Path.{_≡_};
 ghost use mathlib.Core.Bool.{cond};
 ghost use Prim.Native.Nat.{ℕ, _+_, _*_, _<_, _≤_};
@@ -9,27 +9,41 @@ ghost use lib.ListN.{length};
 ghost use Rattle.complex.specs.Entries.{entry};
 ghost use Rattle.complex.specs.Matrices.{entryAt, grid, zeros};
 ghost use Rattle.refusals.specs.Refusals.{limit};
-ghost use Rattle.gauss_jordan.specs.GaussJordan.{beside};
-ghost use Rattle.gauss_jordan.specs.Solving as spec;
+ghost use Rattle.solver.specs.GaussJordan.{augmented};
+ghost use Rattle.solver.specs.Solving as spec;
 
 // The system beside its right side.
 fn fill_system(work: &mut [f64], n: usize, a: &[f64], b: &[f64])
     requires { ⌜ (n ≤ limit) × (length (now work) ≡ 2 * (n * (n + 1))) × (length (now a) ≡ 2 * (n * n)) × (length (now b) ≡ 2 * n) ⌝ }
-    ensures { λ _. ⌜ ((i j : ℕ) → i < n → j < n + 1 → entryAt (n + 1) (now (work .exit)) i j ≡ beside spec.operations n (entryAt n (now (a .entry))) (λ (r k : ℕ). entry (now (b .entry)) r) i j) ⌝ }
+    ensures { λ _. ⌜
+        ((i j : ℕ) → i < n → j < n + 1 → entryAt (n + 1) (now (work .exit)) i j
+        ≡ augmented spec.operations n (entryAt n (now (a .entry))) (λ (r k : ℕ). entry (now (b .entry)) r) i j)
+        ⌝ }
 {
     let w = n + 1;
-    blocks::place(work, n, w, 0, n, a);
-    blocks::place(work, n, w, n, 1, b);
+    blocks::place_block(work, n, w, 0, n, a);
+    blocks::place_block(work, n, w, n, 1, b);
 }
 
 // Whether the system is singular; where not, x becomes its solution.
 pub fn solved(n: usize, a: &[f64], b: &[f64], x: &mut [f64], work: &mut [f64]) -> bool
-    requires { ⌜ (n ≤ limit) × (length (now work) ≡ 2 * (n * (n + 1))) × (length (now a) ≡ 2 * (n * n)) × (length (now b) ≡ 2 * n) × (length (now x) ≡ 2 * n) ⌝ }
-    ensures { λ r. ⌜ (r ≡ spec.singular n (entryAt n (now (a .entry)))) × (now (x .exit) ≡ cond r (now (x .entry)) (grid n 1 (λ (i k : ℕ). spec.solve n (entryAt n (now (a .entry))) (entry (now (b .entry))) i))) × (now (work .exit) ≡ zeros (length (now (work .entry)))) ⌝ }
+    requires { ⌜
+        (n ≤ limit)
+        × (length (now work) ≡ 2 * (n * (n + 1)))
+        × (length (now a) ≡ 2 * (n * n))
+        × (length (now b) ≡ 2 * n)
+        × (length (now x) ≡ 2 * n)
+        ⌝ }
+    ensures { λ r. ⌜
+        (r ≡ spec.isSingular n (entryAt n (now (a .entry))))
+        × (now (x .exit) ≡ cond r (now (x .entry))
+        (grid n 1 (λ (i k : ℕ). spec.solve n (entryAt n (now (a .entry))) (entry (now (b .entry))) i)))
+        × (now (work .exit) ≡ zeros (length (now (work .entry))))
+        ⌝ }
 {
     let w = n + 1;
     fill_system(work, n, a, b);
-    if elimination::gauss_jordan(work, n, w) {
+    if crate::elimination::gauss_jordan(work, n, w) {
         clear(work);
         return true;
     }
@@ -41,22 +55,34 @@ pub fn solved(n: usize, a: &[f64], b: &[f64], x: &mut [f64], work: &mut [f64]) -
 // The matrix beside the identity.
 pub fn fill_identity(work: &mut [f64], n: usize, mat: &[f64])
     requires { ⌜ (n ≤ limit) × (length (now work) ≡ 2 * (n * (n + n))) × (length (now mat) ≡ 2 * (n * n)) ⌝ }
-    ensures { λ _. ⌜ ((i j : ℕ) → i < n → j < n + n → entryAt (n + n) (now (work .exit)) i j ≡ beside spec.operations n (entryAt n (now (mat .entry))) (λ (r k : ℕ). spec.unitColumn k r) i j) ⌝ }
+    ensures { λ _. ⌜
+        ((i j : ℕ) → i < n → j < n + n → entryAt (n + n) (now (work .exit)) i j
+        ≡ augmented spec.operations n (entryAt n (now (mat .entry))) (λ (r k : ℕ). spec.unitColumn k r) i j)
+        ⌝ }
 {
     let w = n + n;
     clear(work);
-    blocks::place(work, n, w, 0, n, mat);
+    blocks::place_block(work, n, w, 0, n, mat);
     blocks::place_ones(work, n, w, n);
 }
 
 // Whether the matrix is singular; where not, `inverse` becomes its inverse.
 pub fn inverted(n: usize, mat: &[f64], inverse: &mut [f64], work: &mut [f64]) -> bool
-    requires { ⌜ (n ≤ limit) × (length (now work) ≡ 2 * (n * (n + n))) × (length (now mat) ≡ 2 * (n * n)) × (length (now inverse) ≡ 2 * (n * n)) ⌝ }
-    ensures { λ r. ⌜ (r ≡ spec.singular n (entryAt n (now (mat .entry)))) × (now (inverse .exit) ≡ cond r (now (inverse .entry)) (grid n n (spec.inverse n (entryAt n (now (mat .entry)))))) × (now (work .exit) ≡ zeros (length (now (work .entry)))) ⌝ }
+    requires { ⌜
+        (n ≤ limit)
+        × (length (now work) ≡ 2 * (n * (n + n)))
+        × (length (now mat) ≡ 2 * (n * n))
+        × (length (now inverse) ≡ 2 * (n * n))
+        ⌝ }
+    ensures { λ r. ⌜
+        (r ≡ spec.isSingular n (entryAt n (now (mat .entry))))
+        × (now (inverse .exit) ≡ cond r (now (inverse .entry)) (grid n n (spec.inverse n (entryAt n (now (mat .entry))))))
+        × (now (work .exit) ≡ zeros (length (now (work .entry))))
+        ⌝ }
 {
     let w = n + n;
     fill_identity(work, n, mat);
-    if elimination::gauss_jordan(work, n, w) {
+    if crate::elimination::gauss_jordan(work, n, w) {
         clear(work);
         return true;
     }

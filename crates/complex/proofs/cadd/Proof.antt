@@ -1,7 +1,5 @@
 -- `complex::cadd` meets its contract: the definition is the code's own expression.
--- Assumes nothing.
-use mathlib.Core.Path.{refl}
-use lib.Ieee.{add}
+use Rattle.prelude.proofs.Prelude.{refl, add}
 use Rattle.complex.specs.Arithmetic.{cadd}
 use Rattle.complex.proofs.cadd.Statement.{statement}
 use Rattle.complex.proofs.cadd.Tie as tie

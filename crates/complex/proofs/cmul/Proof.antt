@@ -1,7 +1,5 @@
 -- `complex::cmul` meets its contract: the definition is the code's own expression.
--- Assumes nothing.
-use mathlib.Core.Path.{refl}
-use lib.Ieee.{add, sub, mul}
+use Rattle.prelude.proofs.Prelude.{refl, add, sub, mul}
 use Rattle.complex.specs.Arithmetic.{cmul}
 use Rattle.complex.proofs.cmul.Statement.{statement}
 use Rattle.complex.proofs.cmul.Tie as tie

@@ -1,7 +1,5 @@
 -- `complex::cneg` meets its contract: the definition is the code's own expression.
--- Assumes nothing.
-use mathlib.Core.Path.{refl}
-use lib.Ieee.{neg}
+use Rattle.prelude.proofs.Prelude.{refl, neg}
 use Rattle.complex.specs.Arithmetic.{cneg}
 use Rattle.complex.proofs.cneg.Statement.{statement}
 use Rattle.complex.proofs.cneg.Tie as tie

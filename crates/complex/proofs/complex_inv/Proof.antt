@@ -1,17 +1,13 @@
 -- `complex::complex_inv` meets its contract.
--- Assumes nothing.
-use borrow.Author.Needs.{needs}
+use Rattle.prelude.proofs.Prelude.{needs}
 use Rattle.complex.specs.Constants.{one, plus0}
 use Rattle.complex.specs.Arithmetic.{complexInv}
 use Rattle.complex.proofs.complex_inv.Statement.{statement}
 use Rattle.complex.proofs.complex_inv.Tie as tie
-
-cdiv-requires : tie.Need-cdiv-requires
-cdiv-requires c κs = search needs
 
 returns : tie.Need-returns
 unfolding one plus0 complexInv
 returns c = c .cdiv .ensures
 
 pub complex-inv-spec : {M : Type 1} → statement M
-complex-inv-spec = tie.close (tie.spec cdiv-requires returns)
+complex-inv-spec = tie.close (tie.spec (λ c κs. search needs) returns)

@@ -1,7 +1,5 @@
 -- `complex::csub` meets its contract: the definition is the code's own expression.
--- Assumes nothing.
-use mathlib.Core.Path.{refl}
-use lib.Ieee.{sub}
+use Rattle.prelude.proofs.Prelude.{refl, sub}
 use Rattle.complex.specs.Arithmetic.{csub}
 use Rattle.complex.proofs.csub.Statement.{statement}
 use Rattle.complex.proofs.csub.Tie as tie

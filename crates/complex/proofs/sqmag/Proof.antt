@@ -1,7 +1,5 @@
 -- `complex::sqmag` meets its contract: the definition is the code's own expression.
--- Assumes nothing.
-use mathlib.Core.Path.{refl}
-use lib.Ieee.{add, mul}
+use Rattle.prelude.proofs.Prelude.{refl, add, mul}
 use Rattle.complex.specs.Arithmetic.{sqmag}
 use Rattle.complex.proofs.sqmag.Statement.{statement}
 use Rattle.complex.proofs.sqmag.Tie as tie

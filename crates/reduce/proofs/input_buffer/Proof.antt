@@ -1,7 +1,6 @@
 -- `reduce::input_buffer` meets its contract.
--- Assumes nothing.
-use borrow.Author.Needs.{needs}
-use Rattle.lines.specs.Reduce.{inputLength}
+use Rattle.prelude.proofs.Prelude.{needs}
+use Rattle.reduce_text.specs.Reduce.{inputLength}
 use Rattle.reduce.proofs.input_buffer.Statement.{statement}
 use Rattle.reduce.proofs.input_buffer.Tie as tie
 

@@ -1,7 +1,6 @@
 -- `reduce::matrix_buffer` meets its contract.
--- Assumes nothing.
-use borrow.Author.Needs.{needs}
-use Rattle.lines.specs.Reduce.{matrixLength}
+use Rattle.prelude.proofs.Prelude.{needs}
+use Rattle.reduce_text.specs.Reduce.{matrixLength}
 use Rattle.reduce.proofs.matrix_buffer.Statement.{statement}
 use Rattle.reduce.proofs.matrix_buffer.Tie as tie
 

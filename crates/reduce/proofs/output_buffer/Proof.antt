@@ -1,7 +1,6 @@
 -- `reduce::output_buffer` meets its contract.
--- Assumes nothing.
-use borrow.Author.Needs.{needs}
-use Rattle.lines.specs.Reduce.{outputLength}
+use Rattle.prelude.proofs.Prelude.{needs}
+use Rattle.reduce_text.specs.Reduce.{outputLength}
 use Rattle.reduce.proofs.output_buffer.Statement.{statement}
 use Rattle.reduce.proofs.output_buffer.Tie as tie
 

@@ -1,7 +1,5 @@
 -- `binary64::digits::scaled` meets its contract.
--- Assumes nothing.
-use mathlib.Core.Path.{refl}
-use native.Mathlib.Omega.{arith}
+use Rattle.prelude.proofs.Prelude.{refl, arith}
 use lib.Count.{leadingZeros}
 use Rattle.binary64.proofs.RootDigits.{zeros-before, scaled-as}
 use Rattle.binary64.proofs.digits.scaled.Statement.{statement}
@@ -32,5 +30,4 @@ returns : tie.Need-returns
 returns c = scaled-as (c .args .m) (c .args .k) (leadingZeros 64 (c .args .m)) (c .pre .0) (c .pre .1) (c .pre .2) refl
 
 pub scaled-spec : {M : Type 1} → statement M
-scaled-spec =
-    tie.close (tie.spec cast-z sub-digits add-digits sub-t6 sub-t8 shl-t9 add-t10 returns)
+scaled-spec = tie.close (tie.spec cast-z sub-digits add-digits sub-t6 sub-t8 shl-t9 add-t10 returns)

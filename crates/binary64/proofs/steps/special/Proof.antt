@@ -1,6 +1,5 @@
 -- `binary64::steps::special` meets its contract.
--- Assumes nothing.
-use lib.Ieee.{div, ofBits}
+use Rattle.prelude.proofs.Prelude.{div, ofBits}
 use Rattle.binary64.proofs.RootSpecial.{below-zero, above-zero, not-finite, neither}
 use Rattle.binary64.proofs.steps.special.Statement.{statement}
 use Rattle.binary64.proofs.steps.special.Tie as tie

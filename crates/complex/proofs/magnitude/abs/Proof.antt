@@ -1,6 +1,5 @@
 -- `complex::magnitude::abs` meets its contract.
--- Assumes nothing.
-use lib.Ieee.{ofBits}
+use Rattle.prelude.proofs.Prelude.{ofBits}
 use Rattle.complex.proofs.MagnitudeLaws.{abs-above, abs-else}
 use Rattle.complex.proofs.magnitude.abs.Statement.{statement}
 use Rattle.complex.proofs.magnitude.abs.Tie as tie

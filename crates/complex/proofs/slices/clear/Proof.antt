@@ -1,14 +1,8 @@
 -- `complex::slices::clear` meets its contract: so many times +0 stand before what was there.
--- Assumes nothing.
-use mathlib.Core.Path.{_≡_, refl, _∙_}
-use mathlib.Core.List.{_++_}
-use Prim.Native.Nat.{_≤_, _-_}
-use native.Mathlib.Omega.{arith}
-use borrow.Author.Needs.{needs}
-use lib.ListN.{length, drop, replicate, length-set}
+use Rattle.prelude.proofs.Prelude.{_≡_, refl, _∙_, _++_, _-_, _≤_, arith, needs, length, drop, replicate, length-set}
 use Rattle.complex.specs.Constants.{plus0}
 use Rattle.complex.specs.Matrices.{zeros}
-use Rattle.complex.proofs.Fronts.{fill-next, fill-all}
+use Rattle.lists.proofs.Fronts.{fill-next, fill-all}
 use Rattle.complex.proofs.slices.clear.Statement.{statement}
 use Rattle.complex.proofs.slices.clear.Tie as tie
 
@@ -22,47 +16,19 @@ loop-holds : tie.Need-loop-holds Inv-loop μ-loop
 unfolding plus0
 loop-holds c = (omega arith, refl, refl)
 
-mul-s : tie.Need-mul-s Inv-loop μ-loop
-mul-s c = search needs
-
-slice-write-s : tie.Need-slice-write-s Inv-loop μ-loop
-slice-write-s c = search needs
-
-add-i : tie.Need-add-i Inv-loop μ-loop
-add-i c = search needs
-
-loop-less : tie.Need-loop-less Inv-loop μ-loop
-loop-less c = search needs
-
 loop-again : tie.Need-loop-again Inv-loop μ-loop
 unfolding plus0
 loop-again c =
-    let d = c .before .before .args .s .now in
-    let i = c .before .loop .i in
+    let d = c .before .before .args .s .now in let i = c .before .loop .i in
     (omega arith, simp length-set (c .before .loop .inv .1), rw (c .before .loop .inv .2) (fill-next i plus0 d (omega arith)))
-
-same-length : tie.Need-same-length Inv-loop μ-loop
-same-length c = search needs
 
 returns : tie.Need-returns Inv-loop μ-loop
 unfolding zeros plus0
 returns c =
-    let d = c .before .before .args .s .now in
-    let i = c .before .loop .i in
+    let d = c .before .before .args .s .now in let i = c .before .loop .i in
     let e : length d ≡ i = omega arith in
     c .before .loop .inv .2 ∙ fill-all i plus0 d (omega arith) ∙ rw e
 
 pub clear-spec : {M : Type 1} → statement M
-clear-spec =
-    tie.close
-    (tie.spec
-    Inv-loop
-    μ-loop
-    loop-holds
-    mul-s
-    slice-write-s
-    add-i
-    loop-less
-    loop-again
-    same-length
-    returns)
+clear-spec = tie.close (tie.spec Inv-loop μ-loop loop-holds (λ c. search needs) (λ c. search needs) (λ c. search needs) (λ c. search needs)
+    loop-again (λ c. search needs) returns)

@@ -1,17 +1,7 @@
 -- `entries::kron::unfit` meets its contract.
--- Assumes nothing.
-use borrow.Author.Tests.{lt-ltb, le-ltb}
+use Rattle.refusals.proofs.Refusing.{refusing}
 use Rattle.entries.proofs.kron.unfit.Statement.{statement}
 use Rattle.entries.proofs.kron.unfit.Tie as tie
 
-returns : tie.Need-returns
-returns c = simp (lt-ltb _ _ (c .if1 .taken))
-
-returns-2 : tie.Need-returns-2
-returns-2 c = simp (le-ltb _ _ (c .before .if1 .left), lt-ltb _ _ (c .if2 .taken))
-
-returns-3 : tie.Need-returns-3
-returns-3 c = simp (le-ltb _ _ (c .before .if1 .left), le-ltb _ _ (c .if2 .left))
-
 pub unfit-spec : {M : Type 1} → statement M
-unfit-spec = tie.close (tie.spec returns returns-2 returns-3)
+unfit-spec = tie.close (tie.spec (λ c. search refusing depth 9) (λ c. search refusing depth 9) (λ c. search refusing depth 9))

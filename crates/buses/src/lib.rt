@@ -1,9 +1,0 @@
-// Lists of buses and branch ends: the tests that the equivalents share.
-pub mod lists;
-pub mod numbers;
-
-// The row of a bus, or nothing.
-pub enum Found {
-    At(usize),
-    Nothing,
-}

@@ -1,0 +1,90 @@
+-- A call of the book, and what it answers and leaves by the definitions that the contracts cite.
+use Prim.Native.Nat.{ℕ}
+use mathlib.Core.List.{List, [], _∷_, _++_}
+use lib.Ieee.{Float}
+use Rattle.complex.specs.declared.Complex.{Complex}
+use Rattle.complex.specs.Arithmetic.{cmul, complexInv}
+use Rattle.complex.specs.Computed.{ofParts}
+use Rattle.refusals.specs.Refusals.{number}
+use Rattle.solver.specs.Calls.{AfterElimination, afterSolve}
+use Rattle.kron_reduction.specs.declared.KronReducer.{KronReducer}
+use Rattle.kron_reduction.specs.declared.Impedance.{Impedance}
+use Rattle.kron_reduction.specs.declared.Impedance.the-variants as impedances
+use Rattle.kron_reduction.specs.Reducer.{ReducerInput, afterNew, AfterBus, afterBus, AfterBuses, afterBuses}
+use Rattle.kron_reduction.specs.Reading.{afterImpedance}
+use Rattle.ward_equivalent.specs.declared.answers.WardAnswer.{WardAnswer}
+use Rattle.ward_equivalent.specs.declared.answers.WardAnswer.the-variants as studies
+use Rattle.ward_equivalent.specs.Ward.{Outputs, AfterWard}
+use Rattle.ward_equivalent.specs.Extended.{ExtendedOutputs, AfterExtended}
+use Rattle.ward_equivalent.specs.Numbers.{NumberedStudy, NumberedExtended, afterCompute, afterComputeExtended}
+
+-- A call with all that is handed to it. The reducer's calls come after the making of their record; what comes last is what the slices hold
+-- at entry.
+pub data BookCall : Type 0 where
+  product : Complex → Complex → BookCall
+  inverse : Complex → BookCall
+  removal : ReducerInput → ℕ → BookCall
+  removals : ReducerInput → List ℕ → BookCall
+  impedance : ReducerInput → ℕ → ℕ → List Float → BookCall
+  study : NumberedStudy → Outputs → BookCall
+  extended : NumberedExtended → ExtendedOutputs → BookCall
+  solution : ℕ → List Float → List Float → List Float → List Float → BookCall
+
+-- All that can be seen of a call once it has returned.
+pub record Seen : Type 0 where
+  -- the refusal's, 0 where the call is accepted
+  pub number : ℕ
+  -- the whole numbers answered
+  pub counts : List ℕ
+  -- the f64 answered
+  pub values : List Float
+  -- what each slice holds that the call may write: the outputs in the order of the parameters, then the work slice
+  pub slices : List (List Float)
+
+abbrev pub seen : ℕ → List ℕ → List Float → List (List Float) → Seen
+seen k ns xs ss = record { number = k; counts = ns; values = xs; slices = ss }
+
+-- the record's size at making, its present size, the places of its active rows, and those of the numbers
+abbrev pub reducerCounts : KronReducer → List ℕ
+reducerCounts r = r .made ∷ r .«n_buses» ∷ (r .«active_buses» ++ r .numbers)
+
+-- ---- what each answer shows, beside the slices
+
+unfoldable pub seenImpedance : Impedance → List (List Float) → Seen
+seenImpedance (impedances.Value z) ss = seen 0 [] (ofParts z) ss
+seenImpedance (impedances.Refused k) ss = seen k [] [] ss
+
+unfoldable pub seenSummary : WardAnswer → List (List Float) → Seen
+seenSummary (studies.Done s) ss = seen 0 (s .«n_buses_reduced» ∷ s .«n_buses_equivalent» ∷ []) (s .«reduction_ratio» ∷ []) ss
+seenSummary (studies.Refused k) ss = seen k [] [] ss
+
+-- ---- the calls
+
+abbrev pub seenBus : AfterBus → Seen
+seenBus a = seen (number (a .out .answer)) (reducerCounts (a .out .rec)) [] (a .slice ∷ [])
+
+-- the count of removals comes first
+abbrev pub seenBuses : AfterBuses → Seen
+seenBuses a = seen (number (a .out .removals .answer)) (a .out .removals .removed ∷ reducerCounts (a .out .rec)) [] (a .slice ∷ [])
+
+abbrev pub seenStudy : AfterWard → Seen
+seenStudy a = let o = a .outputs in seenSummary (a .answer) (o .y-ward ∷ o .p-ward ∷ o .q-ward ∷ o .work ∷ [])
+
+abbrev pub seenExtended : AfterExtended → Seen
+seenExtended a =
+    let x = a .outputs in
+    let o = x .outputs in
+    seenSummary (a .answer) (o .y-ward ∷ o .p-ward ∷ o .q-ward ∷ x .correction ∷ x .compensation ∷ o .work ∷ [])
+
+abbrev pub seenSolution : AfterElimination → Seen
+seenSolution a = seen (number (a .answer)) [] [] (a .output ∷ a .work ∷ [])
+
+unfoldable pub after : BookCall → Seen
+after (product a b) = seen 0 [] (ofParts (cmul a b)) []
+after (inverse b) = seen 0 [] (ofParts (complexInv b)) []
+after (removal M k) = seenBus (afterBus (afterNew M .rec) (M .given) k)
+after (removals M ks) = seenBuses (afterBuses (afterNew M .rec) (M .given) ks)
+after (impedance M i j ws) = let a = afterImpedance (afterNew M .rec) (M .given) i j ws in seenImpedance (a .answer) (a .work ∷ [])
+after (study N o) = seenStudy (afterCompute N o)
+after (extended X o) = seenExtended (afterComputeExtended X o)
+after (solution n a b x ws) = seenSolution (afterSolve n a b x ws)

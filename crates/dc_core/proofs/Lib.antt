@@ -1,5 +1,0 @@
-pub mod DcCases
-pub mod Kept
-pub mod Marks
-pub mod OutageLaws
-pub mod Refusing

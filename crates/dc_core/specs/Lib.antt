@@ -1,2 +1,0 @@
-pub mod Dc
-pub mod DcRows

@@ -1,0 +1,4 @@
+pub mod DcCases
+pub mod OutageLaws
+pub mod Accepted
+pub mod RetainedLaws

@@ -1,0 +1,174 @@
+// The line outage factors, from the PTDF: one row for each branch, one column for each bus.
+use complex::constants::SMALL_MAGNITUDE;
+use complex::magnitude::abs;
+use refusals::LIMIT;
+ghost use mathlib.Core.Path.{_≡_};
+ghost use Prim.Native.Nat.{_<_, _≤_, _*_};
+ghost use lib.ListN.{length};
+ghost use lib.Dec.{T, eqb};
+ghost use Rattle.refusals.specs.Refusals as refusals;
+ghost use Rattle.lists.specs.Buses as buses;
+ghost use Rattle.dc_flow.specs.Dc as spec;
+ghost use Rattle.dc_flow.specs.Inner.Rows as rows;
+
+// The outage factors of all branches, row by row.
+pub fn outages(n: usize, ptdf: &[f64], froms: &[usize], tos: &[usize], lodf: &mut [f64])
+    requires { ⌜
+        (length (now froms) ≤ refusals.limit)
+        × (length (now tos) ≡ length (now froms))
+        ⌝ }
+    requires { ⌜
+        (T (buses.allBelow n (now froms)))
+        × (T (buses.allBelow n (now tos)))
+        ⌝ }
+    requires { ⌜
+        (length (now ptdf) ≡ length (now froms) * n)
+        × (length (now lodf) ≡ length (now froms) * length (now froms))
+        ⌝ }
+    ensures { λ _. ⌜
+        now (lodf .exit)
+        ≡ spec.realGrid (spec.outage n (now (ptdf .entry)) (now (froms .entry)) (now (tos .entry))) (length (now (froms .entry)))
+        (length (now (froms .entry)))
+        ⌝ }
+{
+    let m = froms.len();
+    let mut ds = [0.0; LIMIT];
+    outages_by(n, ptdf, froms, tos, &mut ds[0..m], lodf);
+}
+
+// With room for the denominators.
+fn outages_by(
+    n: usize,
+    ptdf: &[f64],
+    froms: &[usize],
+    tos: &[usize],
+    ds: &mut [f64],
+    lodf: &mut [f64],
+)
+    requires { ⌜
+        (length (now ds) ≡ length (now froms))
+        × (length (now tos) ≡ length (now froms))
+        ⌝ }
+    requires { ⌜
+        (T (buses.allBelow n (now froms)))
+        × (T (buses.allBelow n (now tos)))
+        ⌝ }
+    requires { ⌜
+        (length (now ptdf) ≡ length (now froms) * n)
+        × (length (now lodf) ≡ length (now froms) * length (now froms))
+        ⌝ }
+    ensures { λ _. ⌜
+        now (lodf .exit)
+        ≡ spec.realGrid (spec.outage n (now (ptdf .entry)) (now (froms .entry)) (now (tos .entry))) (length (now (froms .entry)))
+        (length (now (froms .entry)))
+        ⌝ }
+{
+    denominators(n, ptdf, froms, tos, ds);
+    outage_rows(n, ptdf, froms, tos, ds, lodf);
+}
+
+// What each branch leaves of a transfer between its own ends.
+fn denominators(n: usize, ptdf: &[f64], froms: &[usize], tos: &[usize], ds: &mut [f64])
+    requires { ⌜
+        (length (now ds) ≡ length (now froms))
+        × (length (now tos) ≡ length (now froms))
+        ⌝ }
+    requires { ⌜
+        (T (buses.allBelow n (now froms)))
+        × (T (buses.allBelow n (now tos)))
+        ⌝ }
+    requires { ⌜ length (now ptdf) ≡ length (now froms) * n ⌝ }
+    ensures { λ _. ⌜
+        now (ds .exit)
+        ≡ spec.realRow (spec.denominator n (now (ptdf .entry)) (now (froms .entry)) (now (tos .entry))) (length (now (froms .entry)))
+        ⌝ }
+{
+    let mut k = 0;
+    let mut a = 0;
+    while k < froms.len() {
+        let e = a + n;
+        ds[k] = 1.0 - row_transfer(&ptdf[a..e], froms[k], tos[k]);
+        a = e;
+        k += 1;
+    }
+}
+
+// What the branch with this row of the PTDF takes of a transfer from f to t.
+fn row_transfer(row: &[f64], f: usize, t: usize) -> f64
+    requires { ⌜
+        (f < length (now row))
+        × (t < length (now row))
+        ⌝ }
+    ensures { λ r. ⌜ r ≡ rows.rowTransfer (now (row .entry)) f t ⌝ }
+{
+    row[f] - row[t]
+}
+
+// Row after row, from the denominators.
+fn outage_rows(n: usize, ptdf: &[f64], froms: &[usize], tos: &[usize], ds: &[f64], lodf: &mut [f64])
+    requires { ⌜ length (now tos) ≡ length (now froms) ⌝ }
+    requires { ⌜
+        (T (buses.allBelow n (now froms)))
+        × (T (buses.allBelow n (now tos)))
+        ⌝ }
+    requires { ⌜
+        (length (now ptdf) ≡ length (now froms) * n)
+        × (length (now lodf) ≡ length (now froms) * length (now froms))
+        ⌝ }
+    requires { ⌜ now ds ≡ spec.realRow (spec.denominator n (now ptdf) (now froms) (now tos)) (length (now froms)) ⌝ }
+    ensures { λ _. ⌜
+        now (lodf .exit)
+        ≡ spec.realGrid (spec.outage n (now (ptdf .entry)) (now (froms .entry)) (now (tos .entry))) (length (now (froms .entry)))
+        (length (now (froms .entry)))
+        ⌝ }
+{
+    let m = froms.len();
+    let mut l = 0;
+    let mut a = 0;
+    let mut d = 0;
+    while l < m {
+        let ae = a + n;
+        let de = d + m;
+        outage_row(l, &ptdf[a..ae], froms, tos, ds, &mut lodf[d..de]);
+        a = ae;
+        d = de;
+        l += 1;
+    }
+}
+
+// Row l, from that row of the PTDF.
+fn outage_row(l: usize, t: &[f64], froms: &[usize], tos: &[usize], ds: &[f64], row: &mut [f64])
+    requires { ⌜
+        (T (buses.allBelow (length (now t)) (now froms)))
+        × (T (buses.allBelow (length (now t)) (now tos)))
+        ⌝ }
+    requires { ⌜
+        (length (now tos) ≡ length (now froms))
+        × (length (now ds) ≡ length (now froms))
+        × (length (now row) ≡ length (now froms))
+        ⌝ }
+    ensures { λ _. ⌜
+        now (row .exit)
+        ≡ spec.realRow (rows.rowOutage l (now (t .entry)) (now (froms .entry)) (now (tos .entry)) (now (ds .entry)))
+        (length (now (froms .entry)))
+        ⌝ }
+{
+    let mut k = 0;
+    while k < froms.len() {
+        row[k] = outage_factor(l, k, row_transfer(t, froms[k], tos[k]), ds[k]);
+        k += 1;
+    }
+}
+
+// The factor of branch l for the outage of branch k, from what l takes of a transfer between k's ends and from k's denominator d.
+fn outage_factor(l: usize, k: usize, taken: f64, d: f64) -> f64
+    ensures { λ r. ⌜ r ≡ spec.outageFactor (eqb l k) taken d ⌝ }
+{
+    if l == k {
+        return -1.0;
+    }
+    if abs(d) < SMALL_MAGNITUDE {
+        return 0.0;
+    }
+    taken / d
+}

@@ -1,5 +1,0 @@
-pub mod GaussJordan
-pub mod Pivots
-pub mod Solving
-pub mod Work
-pub mod Computed

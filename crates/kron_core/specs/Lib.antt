@@ -1,2 +1,0 @@
-pub mod Reducer
-pub mod Reading

@@ -1,0 +1,11 @@
+pub mod Positions
+pub mod Showing
+pub mod States
+pub mod Taking
+pub mod Reducer
+pub mod Making
+pub mod Calls
+pub mod Reading
+pub mod Active
+pub mod Across
+pub mod ActiveCases

@@ -1,0 +1,47 @@
+-- Removal by rows and columns, as the code does it: what a slice shows, where a row stood, and what each step answers and leaves.
+use Prim.Native.Nat.{ℕ, suc, _*_, _≤_, _<_}
+use mathlib.Core.Path.{_≡_}
+use mathlib.Core.Bool.{cond}
+use mathlib.Core.List.{List}
+use lib.Dec.{T, ltb}
+use lib.ListN.{length, getD, take}
+use lib.Ieee.{Float}
+use Rattle.complex.specs.Matrices.{entryAt}
+use Rattle.refusals.specs.Refusals.{limit}
+use Rattle.kron_reduction.specs.declared.removal.Ran.{Ran}
+use Rattle.lists.specs.Buses.{rising}
+use Rattle.kron_reduction.specs.Reducer.{padded, stateIn}
+use Rattle.kron_reduction.specs.Kron.{State, remove, removalRefusal, eliminate, carriedOut, stoppedBy}
+
+-- when row k drops out: the old row of what is now row p
+unfoldable pub oldRow : ℕ → ℕ → ℕ
+oldRow k p = cond (ltb p k) p (suc p)
+
+-- the matrix of a state stands at the front of ys
+abbrev pub StandsIn : State → List Float → Type 0
+StandsIn s ys =
+    (p q : ℕ) → p < length (s .active) → q < length (s .active)
+    → entryAt (length (s .active)) ys p q ≡ s .entries (getD (s .active) p 0) (getD (s .active) q 0)
+
+-- n active buses in the places bs, and room in ys for their rows
+pub record Holds (n : ℕ) (bs : List ℕ) (ys : List Float) : Type 0 where
+  pub room : n ≤ limit
+  pub places : bs ≡ padded (take n bs)
+  pub rises : T (rising (take n bs))
+  pub fits : 2 * (n * n) ≤ length ys
+
+-- what is answered for bus k, and the places and the slice after it
+pub record RemovedOne (n : ℕ) (bs : List ℕ) (ys : List Float) (k : ℕ) (answer : ℕ) (bs' : List ℕ) (ys' : List Float) : Type 0 where
+  pub says : answer ≡ removalRefusal (stateIn n (take n bs) ys) k
+  pub refused : (answer ≡ 0 → ⊥) → (bs' ≡ bs) × (ys' ≡ ys)
+  pub places : answer ≡ 0 → bs' ≡ padded (remove (stateIn n (take n bs) ys) k .active)
+  pub shows : answer ≡ 0 → StandsIn (remove (stateIn n (take n bs) ys) k) ys'
+
+-- and for the buses ks; where none is removed the slice is as it was
+pub record RemovedAll (n : ℕ) (bs : List ℕ) (ys : List Float) (ks : List ℕ) (answer : Ran) (bs' : List ℕ) (ys' : List Float) : Type 0 where
+  pub says : answer .stopped ≡ stoppedBy (stateIn n (take n bs) ys) ks
+  pub count : answer .done ≡ length (carriedOut (stateIn n (take n bs) ys) ks)
+  pub within : answer .done ≤ n
+  pub places : bs' ≡ padded (eliminate (stateIn n (take n bs) ys) (carriedOut (stateIn n (take n bs) ys) ks) .active)
+  pub shows : StandsIn (eliminate (stateIn n (take n bs) ys) (carriedOut (stateIn n (take n bs) ys) ks)) ys'
+  pub none : answer .done ≡ 0 → ys' ≡ ys

@@ -1,0 +1,73 @@
+-- Kron's formula, and the removal of buses by it. A bus is its row in the matrix at making, here and below every call.
+use Prim.Native.Nat.{ℕ}
+use mathlib.Core.Bool.{Bool, cond}
+use mathlib.Core.List.{List, [], _∷_, _++_}
+use lib.Dec.{eqb}
+use lib.Ieee.{Float}
+use Rattle.complex.specs.declared.Complex.{Complex}
+use Rattle.complex.specs.Arithmetic.{csub, cmul, cdiv, tooSmall}
+use Rattle.complex.specs.Computed.{ofParts, ofProduct, ofSqmag, ofQuotient}
+use Rattle.complex.specs.Matrices.{Matrix}
+use Rattle.lists.specs.Buses.{upTo, mem, others}
+use Rattle.refusals.specs.Refusals.{notActive, smallEntry}
+
+-- the new entry, of y_ij, y_ik, y_kj and y_kk as they were
+unfoldable pub newEntry : Complex → Complex → Complex → Complex → Complex
+newEntry ij ik kj kk = csub ij (cdiv (cmul ik kj) kk)
+
+-- the matrix without bus k
+unfoldable pub kron : ℕ → Matrix → Matrix
+unfolding newEntry
+kron k Y i j = newEntry (Y i j) (Y i k) (Y k j) (Y k k)
+
+pub record State : Type 0 where
+  pub active : List ℕ
+  pub entries : Matrix
+
+abbrev pub start : ℕ → Matrix → State
+start n Y = record { active = upTo n; entries = Y }
+
+abbrev pub remove : State → ℕ → State
+remove s k = record { active = others (k ∷ []) (s .active); entries = kron k (s .entries) }
+
+-- 11, 12, or 0 where bus k can be removed
+unfoldable pub removalRefusal : State → ℕ → ℕ
+removalRefusal s k = cond (mem k (s .active)) (cond (tooSmall (s .entries k k)) smallEntry 0) notActive
+
+abbrev pub accepts : State → ℕ → Bool
+accepts s k = eqb (removalRefusal s k) 0
+
+-- the buses ks are removed, in order
+unfoldable pub eliminate : State → List ℕ → State
+eliminate s [] = s
+eliminate s (k ∷ ks) = eliminate (remove s k) ks
+
+-- of ks those before the first that is refused
+unfoldable pub carriedOut : State → List ℕ → List ℕ
+carriedOut s [] = []
+carriedOut s (k ∷ ks) = cond (accepts s k) (k ∷ carriedOut (remove s k) ks) []
+
+-- and that one's refusal, 0 where none is
+unfoldable pub stoppedBy : State → List ℕ → ℕ
+stoppedBy s [] = 0
+stoppedBy s (k ∷ ks) = cond (accepts s k) (stoppedBy (remove s k) ks) (removalRefusal s k)
+
+-- ---- the numbers that removals compute, in the order of the work
+
+abbrev pub ofNewEntry : ℕ → Matrix → ℕ → ℕ → List Float
+ofNewEntry k Y i j = ofProduct (Y i k) (Y k j) ++ ofQuotient (cmul (Y i k) (Y k j)) (Y k k) ++ ofParts (kron k Y i j)
+
+unfoldable pub ofRow : ℕ → Matrix → ℕ → List ℕ → List Float
+ofRow k Y i [] = []
+ofRow k Y i (j ∷ js) = ofNewEntry k Y i j ++ ofRow k Y i js
+
+unfoldable pub ofRows : ℕ → Matrix → List ℕ → List ℕ → List Float
+ofRows k Y [] js = []
+ofRows k Y (i ∷ is) js = ofRow k Y i js ++ ofRows k Y is js
+
+abbrev pub ofRemoval : State → ℕ → List Float
+ofRemoval s k = ofSqmag (s .entries k k) ++ ofRows k (s .entries) (remove s k .active) (remove s k .active)
+
+unfoldable pub ofRemovals : State → List ℕ → List Float
+ofRemovals s [] = []
+ofRemovals s (k ∷ ks) = ofRemoval s k ++ ofRemovals (remove s k) ks

@@ -1,0 +1,4 @@
+pub mod Kron
+pub mod Reducer
+pub mod Reading
+pub mod Inner

@@ -1,4 +1,0 @@
-pub mod Positions
-pub mod Showing
-pub mod States
-pub mod Taking

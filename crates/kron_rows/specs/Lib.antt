@@ -1,2 +1,0 @@
-pub mod Kron
-pub mod Removal

@@ -1,0 +1,10 @@
+pub mod Order
+pub mod Fronts
+pub mod Parts
+pub mod Buses
+pub mod Ends
+pub mod Scans
+pub mod Lookups
+pub mod Naming
+pub mod Stores
+pub mod Within

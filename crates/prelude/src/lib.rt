@@ -1,0 +1,1 @@
+// No code: the names that most proofs use (proofs/Prelude.antt).

@@ -1,2 +1,0 @@
-pub mod RecordsLaws
-pub mod RecordBack

@@ -1,3 +1,0 @@
-pub mod ReiAnswers
-pub mod ReiCases
-pub mod Ties

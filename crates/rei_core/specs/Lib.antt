@@ -1,2 +1,0 @@
-pub mod Rei
-pub mod ReiWriting

@@ -1,0 +1,3 @@
+pub mod ReiAnswers
+pub mod ReiCases
+pub mod TieLaws

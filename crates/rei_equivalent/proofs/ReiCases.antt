@@ -1,0 +1,85 @@
+-- The REI definitions computed by the checker on a study of three buses.
+use Rattle.prelude.proofs.Prelude.{_≡_, refl, List, [], _∷_, _+_, replicate, Float, nan, binary64, ofInt, ofBits, ofFields, neg, add, mul, div, sum, round, units, odd, lt, size, span, climb}
+use lib.Count.{trailingZeros}
+use Rattle.complex.specs.{plus0, one, smallMagnitude, tieThreshold, cneg, sqmag, entry, abs, magnitude, entryAt}
+use Rattle.lists.specs.Buses.{upTo}
+use Rattle.binary64.specs.Root.{root, rootOf, radicand, half, wholeRoot, movedBack}
+use Rattle.refusals.specs.Refusals.{limit}
+use Rattle.rei_equivalent.specs.Rei.{ReiInput, total, spoke, spokeParts, isTie, rowTies, upperTies, allTies, tieEnds, tieParts, tieRoom, reiBuses, reiSize, spokesOf, tiesOf, sized, reiLengthRefusal, reiRefusal, equivalentOf}
+use Rattle.dc_flow.proofs.DcCases.{zero′, one′, minus-one, two, minus-two}
+
+abbrev minus-zero : Float
+minus-zero = ofBits binary64 0x8000000000000000
+
+abbrev three : Float
+three = ofBits binary64 0x4008000000000000
+
+abbrev minus-six : Float
+minus-six = ofBits binary64 0xc018000000000000
+
+-- 1e-12, which is not above itself, and 1e-14 likewise
+abbrev limit-spoke : Float
+limit-spoke = ofBits binary64 0x3d719799812dea11
+
+abbrev limit-tie : Float
+limit-tie = ofBits binary64 0x3d06849b86a12b9b
+
+-- generator 5, loads 9 and 2. Between 5 and 9 and between 9 and 2 there is a tie; between 5 and 2 a part of just 1e-14.
+-- The lower triangle is not looked at.
+matrix : List Float
+matrix =
+    three ∷ minus-six ∷ minus-one ∷ two ∷ limit-tie ∷ zero′
+    ∷ nan ∷ nan ∷ limit-spoke ∷ zero′ ∷ zero′ ∷ minus-two
+    ∷ nan ∷ nan ∷ nan ∷ nan ∷ nan ∷ one′ ∷ []
+
+study : ReiInput
+unfolding matrix
+study =
+    record {
+      generators = 5 ∷ [];
+      loads = 9 ∷ 2 ∷ [];
+      entries = matrix;
+      p = minus-zero ∷ two ∷ one′ ∷ [];
+      q = minus-zero ∷ minus-zero ∷ minus-zero ∷ [];
+      busId = 17;
+      spokeBuses = replicate 3 8;
+      spokes = replicate 6 nan;
+      tieBuses = replicate 6 8;
+      ties = replicate 6 nan;
+    }
+
+accepted : (reiRefusal study ≡ 0) × (reiBuses study ≡ 5 ∷ 9 ∷ 2 ∷ [])
+unfolding study matrix reiRefusal reiLengthRefusal sized reiSize reiBuses tieRoom
+accepted = (refl, refl)
+
+-- the sum of a list of -0 is +0
+answer : equivalentOf study ≡ record { «rei_bus_id» = 17; «rei_voltage_pu» = one′; «rei_p_mw» = three; «rei_q_mvar» = zero′; «n_ties» = 2 }
+unfolding study matrix equivalentOf tiesOf allTies upperTies rowTies isTie total reiSize reiBuses entryAt entry upTo plus0 one tieThreshold abs lt add neg sum round units odd size span climb trailingZeros ofBits ofFields cneg
+answer = refl
+
+-- a third of the diagonal; none where its magnitude is just 1e-12, or NaN
+spokes : spokesOf study ≡ one′ ∷ minus-two ∷ zero′ ∷ zero′ ∷ zero′ ∷ zero′ ∷ []
+unfolding study matrix spokesOf reiSize spokeParts spoke magnitude root rootOf radicand half wholeRoot movedBack sqmag entryAt entry upTo plus0 smallMagnitude lt add mul div ofInt sum round units odd size span climb trailingZeros ofBits ofFields
+spokes = refl
+
+-- each part negated, a zero too
+ties : (tieEnds (tiesOf study) ≡ 5 ∷ 9 ∷ 9 ∷ 2 ∷ []) × (tieParts (tiesOf study) ≡ one′ ∷ minus-two ∷ minus-zero ∷ two ∷ [])
+unfolding study matrix tiesOf allTies upperTies rowTies isTie tieEnds tieParts reiSize reiBuses entryAt entry upTo tieThreshold abs lt neg ofBits ofFields size span climb odd trailingZeros cneg
+ties = (refl, refl)
+
+-- ---- refusals, by the number of buses, of P and of Q, and whether the lengths are right
+
+-- too many buses, or too many injections
+refused-many : (reiLengthRefusal (limit + 1) (limit + 1) (limit + 1) (sized (limit + 1) 0 0 0 0 0) ≡ 1)
+    × (reiLengthRefusal 1 (limit + 1) 1 (sized 1 2 1 2 0 0) ≡ 1)
+unfolding reiLengthRefusal
+refused-many = (refl, refl)
+
+-- a wrong length, unlike injections; no bus with a matrix is 2, with injections 3, and otherwise 4
+refused : (reiLengthRefusal 1 0 1 (sized 1 2 1 2 0 1) ≡ 2)
+    × (reiLengthRefusal 1 0 1 (sized 1 2 1 2 0 0) ≡ 3)
+    × (reiLengthRefusal 0 0 0 (sized 0 2 0 0 0 0) ≡ 2)
+    × (reiLengthRefusal 0 1 1 (sized 0 0 0 0 0 0) ≡ 3)
+    × (reiLengthRefusal 0 0 0 (sized 0 0 0 0 0 0) ≡ 4)
+unfolding reiLengthRefusal sized tieRoom
+refused = (refl, refl, refl, refl, refl)

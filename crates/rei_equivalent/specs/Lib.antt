@@ -1,0 +1,2 @@
+pub mod Rei
+pub mod Inner

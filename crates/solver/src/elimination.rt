@@ -1,0 +1,162 @@
+// Gauss-Jordan elimination in a lent work slice, for the layers above: n rows of w entries, the system's n columns first, then w - n right
+// sides. The functions here have a `requires`, which their callers prove.
+use crate::blocks::Span;
+use crate::blocks::span_of;
+use crate::rows;
+use complex::constants::DIVISION_LIMIT;
+use complex::entry::get;
+use refusals::LIMIT;
+ghost use mathlib.Core.Path.{_≡_};
+ghost use mathlib.Core.Bool.{cond};
+ghost use Prim.Native.Nat.{ℕ, _+_, _*_, _<_, _≤_};
+ghost use lib.ListN.{length};
+ghost use Rattle.complex.specs.Entries.{entry};
+ghost use Rattle.complex.specs.Matrices.{entryAt, grid};
+ghost use Rattle.refusals.specs.Refusals.{limit};
+ghost use Rattle.solver.specs.GaussJordan as spec;
+ghost use Rattle.solver.specs.Solving.{operations};
+ghost use Rattle.solver.specs.Inner.Work.{WorkRows, BesideTurned, ColumnDone, withRow, reducedRow};
+
+// Of two rows, the one that is held: the first, unless the other's squared magnitude is strictly greater.
+fn stronger(work: &[f64], n: usize, w: usize, c: usize, held: usize, next: usize) -> usize
+    requires { ⌜ (WorkRows n w (length (now work))) × (c < n) × (held < n) × (next < n) ⌝ }
+    ensures { λ r. ⌜
+        r ≡ cond (spec.stays (operations .weight (entryAt w (now (work .entry)) held c))
+        (operations .weight (entryAt w (now (work .entry)) next c))) held next
+        ⌝ }
+{
+    let h = complex::sqmag(get(work, held * w + c));
+    let x = complex::sqmag(get(work, next * w + c));
+    if h < x { next } else { held }
+}
+
+// The pivot's row for column c.
+fn pivot_row(work: &[f64], n: usize, w: usize, c: usize) -> usize
+    requires { ⌜ (WorkRows n w (length (now work))) × (c < n) ⌝ }
+    ensures { λ r. ⌜ (r ≡ spec.pivotRow operations n (entryAt w (now (work .entry))) c) × (r < n) ⌝ }
+{
+    let mut held = c;
+    let mut next = c + 1;
+    let row = loop {
+        if next == n {
+            break held;
+        }
+        held = stronger(work, n, w, c, held, next);
+        next += 1;
+    };
+    row
+}
+
+// Rows c and p change places; `row` then holds row c.
+fn swap(work: &mut [f64], n: usize, w: usize, c: usize, p: usize, row: &mut [f64])
+    requires { ⌜ (WorkRows n w (length (now work))) × (c < n) × (p < n) × (length (now row) ≡ 2 * w) ⌝ }
+    ensures { λ _. ⌜
+        ((i j : ℕ) → j < w → entryAt w (now (work .exit)) i j ≡ spec.swapped operations c p (entryAt w (now (work .entry))) i j)
+        × ((j : ℕ) → j < w → entry (now (row .exit)) j ≡ entryAt w (now (work .exit)) c j)
+        ⌝ }
+{
+    let Span { start: a, end: b } = span_of(n, w, 0, w, c);
+    let Span { start, end } = span_of(n, w, 0, w, p);
+    rows::copy(&work[a..b], row);
+    rows::exchange(&mut work[start..end], row);
+    rows::copy(row, &mut work[a..b]);
+}
+
+// Row i is reduced by the pivot row in column c, unless it is row c itself.
+fn reduce_row(work: &mut [f64], n: usize, w: usize, i: usize, c: usize, pivot: &[f64])
+    requires { ⌜ (WorkRows n w (length (now work))) × (i < n) × (c < n) × (BesideTurned w (now pivot)) ⌝ }
+    ensures { λ _. ⌜
+        ((r j : ℕ) → j < w → entryAt w (now (work .exit)) r j
+        ≡ withRow i (reducedRow c (entry (now (pivot .entry))) (entryAt w (now (work .entry))) i) (entryAt w (now (work .entry))) r j)
+        ⌝ }
+{
+    if i != c {
+        let Span { start, end } = span_of(n, w, 0, w, i);
+        rows::reduce(&mut work[start..end], w, c, pivot);
+    }
+}
+
+// All rows but row c are reduced by the pivot row, which is row c.
+fn reduce_others(work: &mut [f64], n: usize, w: usize, c: usize, pivot: &[f64])
+    requires { ⌜
+        (WorkRows n w (length (now work)))
+        × (c < n)
+        × (BesideTurned w (now pivot))
+        × ((j : ℕ) → j < w → entry (now pivot) j ≡ entryAt w (now work) c j)
+        ⌝ }
+    ensures { λ _. ⌜
+        ((i j : ℕ) → i < n → j < w → entryAt w (now (work .exit)) i j ≡ spec.reduced operations c (entryAt w (now (work .entry))) i j)
+        ⌝ }
+{
+    let mut i = 0;
+    while i < n {
+        reduce_row(work, n, w, i, c, pivot);
+        i += 1;
+    }
+}
+
+// Row c, which the first half of `row` holds, is scaled by its pivot's inverse, and the others are reduced.
+fn clear_column(work: &mut [f64], n: usize, w: usize, c: usize, row: &mut [f64])
+    requires { ⌜
+        (WorkRows n w (length (now work)))
+        × (c < n)
+        × (length (now row) ≡ 4 * w)
+        × ((j : ℕ) → j < w → entry (now row) j ≡ entryAt w (now work) c j)
+        ⌝ }
+    ensures { λ _. ⌜
+        ((i j : ℕ) → i < n → j < w → entryAt w (now (work .exit)) i j ≡ spec.cleared operations c (entryAt w (now (work .entry))) i j)
+        ⌝ }
+{
+    rows::scale(row, w, complex::complex_inv(get(row, c)));
+    let Span { start, end } = span_of(n, w, 0, w, c);
+    let e = 2 * w;
+    rows::copy(&row[0..e], &mut work[start..end]);
+    rows::turn(row, w);
+    reduce_others(work, n, w, c, row);
+}
+
+// One column; `row` has room for a row and the same row turned. Whether its pivot is too small: then the rows have changed places, and no
+// more.
+fn column(work: &mut [f64], n: usize, w: usize, c: usize, row: &mut [f64]) -> bool
+    requires { ⌜ (WorkRows n w (length (now work))) × (c < n) × (length (now row) ≡ 4 * w) ⌝ }
+    ensures { λ r. ⌜ ColumnDone n w c r (now (work .entry)) (now (work .exit)) ⌝ }
+{
+    let p = pivot_row(work, n, w, c);
+    let e = 2 * w;
+    swap(work, n, w, c, p, &mut row[0..e]);
+    if complex::sqmag(get(row, c)) < DIVISION_LIMIT {
+        return true;
+    }
+    clear_column(work, n, w, c, row);
+    false
+}
+
+fn columns(work: &mut [f64], n: usize, w: usize, row: &mut [f64]) -> bool
+    requires { ⌜ (WorkRows n w (length (now work))) × (length (now row) ≡ 4 * w) ⌝ }
+    ensures { λ r. ⌜
+        (r ≡ spec.gaussJordan operations n (entryAt w (now (work .entry))) .singular)
+        × (now (work .exit) ≡ grid n w (spec.gaussJordan operations n (entryAt w (now (work .entry))) .left))
+        ⌝ }
+{
+    let mut c = 0;
+    while c < n {
+        if column(work, n, w, c, row) {
+            return true;
+        }
+        c += 1;
+    }
+    false
+}
+
+// All columns. Whether a pivot was too small; then the work ends there.
+pub fn gauss_jordan(work: &mut [f64], n: usize, w: usize) -> bool
+    requires { ⌜ (n ≤ w) × (w ≤ 2 * limit) × (length (now work) ≡ 2 * (n * w)) ⌝ }
+    ensures { λ r. ⌜
+        (r ≡ spec.gaussJordan operations n (entryAt w (now (work .entry))) .singular)
+        × (now (work .exit) ≡ grid n w (spec.gaussJordan operations n (entryAt w (now (work .entry))) .left))
+        ⌝ }
+{
+    let mut buffer = [0.0; 8 * LIMIT];
+    let e = 4 * w;
+    columns(work, n, w, &mut buffer[0..e])
+}

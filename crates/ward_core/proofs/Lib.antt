@@ -1,9 +1,0 @@
-pub mod WardBuses
-pub mod WardTold
-pub mod WardExtendedTold
-pub mod WardNaming
-pub mod WardNamed
-pub mod WardLaws
-pub mod WardTies
-pub mod WardExtended
-pub mod WardCases

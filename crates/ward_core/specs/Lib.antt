@@ -1,2 +1,0 @@
-pub mod WardLengths
-pub mod WardNumbers

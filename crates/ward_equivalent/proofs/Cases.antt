@@ -1,0 +1,238 @@
+-- Studies for the order of rows, the sign of the currents and the buses' numbers, one that retains nothing, and one for each refusal, computed from
+-- the definitions.
+use Rattle.prelude.proofs.Prelude.{_≡_, refl, List, [], _∷_, ℕ, _+_, _*_, length, replicate, Float, binary64, ofBits, span, climb, size, odd, units, round, neg, sum, add, sub, mul, div, lt, eq, ofInt, ofFields}
+use Rattle.complex.specs.{entryAt, row, rows, zeros, cadd, csub, cmul, sqmag, cdiv, complexInv, plus0, one, divisionLimit, smallMagnitude, entry, abs, magnitude}
+use Rattle.lists.specs.Buses.{upTo, place, repeats, within, rowsIn}
+use Rattle.ward_equivalent.specs.declared.answers.WardAnswer.{WardAnswer}
+use Rattle.ward_equivalent.specs.declared.answers.WardAnswer.the-variants.{Done, Refused}
+use Rattle.ward_equivalent.specs.Arithmetic.{sumUp, current, injectedP, injectedQ}
+use Rattle.ward_equivalent.specs.Ward.{Study, Outputs, retained, listed, externals, admittance, yEE, solvedColumn, rowTimes, equivalent, solvedCurrents, boundaryCurrent, injectionP, injectionQ, thenSingular, reduction, summary, wardAnswer, acceptedOutputs, workAfter, outputsAfter, AfterWard, studied}
+use Rattle.ward_equivalent.specs.Calls.{studyOf, outputsOf, afterExtended}
+use Rattle.refusals.specs.Refusals.{limit}
+use Rattle.solver.specs.GaussJordan.{stays, heldAfter, pivotRow, swapped, scaled, reduced, pivoted, cleared, gaussJordanFrom, gaussJordan, augmented, solution, singularSystem}
+use Rattle.solver.specs.Solving.{skipped}
+use Rattle.binary64.specs.Root.{root, rootOf, wholeRoot, half, radicand}
+use Rattle.ward_equivalent.specs.Extended.{ExtendedOutputs, addUp, deviation, weight, weightSum, weightedSum, meanOf, voltageCorrection, reactive, qCompensation, extendedOutputsAfter, studiedExtended}
+use Rattle.ward_equivalent.specs.Lengths.{overLimit, wrongLengths, unmatched, lengthRefusal}
+use Rattle.ward_equivalent.specs.Numbers.{NumberedStudy, NumberedExtended, numberedOf, numberedExtendedOf, inRows, extendedInRows, busRefusal, wardRefusal, extendedRefusal, afterCompute, afterComputeExtended}
+
+abbrev float : ℕ → Float
+float b = ofBits binary64 b
+
+-- 0, 1, -1, 2, 0.5, -0.5, 100
+abbrev z : Float
+z = float 0
+
+abbrev I : Float
+I = float 0x3ff0000000000000
+
+abbrev -I : Float
+-I = float 0xbff0000000000000
+
+abbrev II : Float
+II = float 0x4000000000000000
+
+abbrev +½ : Float
++½ = float 0x3fe0000000000000
+
+abbrev -½ : Float
+-½ = float 0xbfe0000000000000
+
+abbrev C : Float
+C = float 0x4059000000000000
+
+abbrev M : List Float
+M = I ∷ z ∷ -I ∷ z ∷ -I ∷ z ∷ II ∷ z ∷ []
+
+-- slices of the right lengths, full of ones
+abbrev room : Study → Outputs
+unfolding retained
+room S =
+    record {
+      y-ward = replicate (2 * (length (retained S) * length (retained S))) I;
+      p-ward = replicate (length (S .boundary)) I;
+      q-ward = replicate (length (S .boundary)) I;
+      work = replicate (2 * (externals S * (externals S + length (retained S) + 1))) I;
+    }
+
+-- two buses with these numbers, base 100
+abbrev study : List ℕ → List Float → List ℕ → List ℕ → List ℕ → List Float → List Float → NumberedStudy
+study ns ys is es bs ps qs = numberedOf ns (studyOf 2 ys is es bs C ps qs)
+
+-- number and slices at exit
+abbrev after : NumberedStudy → AfterWard
+after N = afterCompute N (room (N .study))
+
+abbrev done : ℕ → ℕ → Float → WardAnswer
+done n r x = Done (record { «n_buses_reduced» = n; «n_buses_equivalent» = r; «reduction_ratio» = x })
+
+-- to open this is to open all that the cases compute with
+opened : Unit {0}
+unfolding retained listed admittance sumUp yEE solvedColumn rowTimes equivalent current injectedP injectedQ solvedCurrents boundaryCurrent injectionP injectionQ thenSingular reduction summary wardAnswer acceptedOutputs workAfter outputsAfter studied place repeats within rowsIn inRows overLimit wrongLengths unmatched lengthRefusal busRefusal wardRefusal afterCompute stays heldAfter pivotRow swapped scaled reduced pivoted cleared gaussJordanFrom gaussJordan augmented solution singularSystem skipped cadd csub cmul sqmag cdiv complexInv plus0 one divisionLimit entry abs upTo entryAt row rows zeros ofBits span climb size odd units round neg sum add sub mul div lt eq ofInt ofFields
+opened = tt
+
+-- numbers as rows, for what is not about numbers
+abbrev rows-own : List ℕ
+rows-own = 0 ∷ 1 ∷ []
+
+-- internal before boundary, whatever their numbers
+order : after (study rows-own M (1 ∷ []) [] (0 ∷ []) [] []) ≡ record { answer = done 2 2 z; outputs = record { y-ward = II ∷ z ∷ -I ∷ z ∷ -I ∷ z ∷ I ∷ z ∷ []; p-ward = z ∷ []; q-ward = z ∷ []; work = [] } }
+unfolding opened
+order = refl
+
+-- nothing retained
+none : after (study rows-own M [] (0 ∷ 1 ∷ []) [] (z ∷ z ∷ []) (z ∷ z ∷ [])) ≡ record { answer = done 2 0 I; outputs = record { y-ward = []; p-ward = []; q-ward = []; work = zeros 12 } }
+unfolding opened
+none = refl
+
+-- ---- the sign of the currents
+
+-- 1, -1 / -1, (1, 1), base 1, P 0, Q 1: the current is -j, so bus 0 gets P -0.5 and Q 0.5. The current +j would give P 0.5, since Y is not real.
+abbrev turning : List Float
+turning = I ∷ z ∷ -I ∷ z ∷ -I ∷ z ∷ I ∷ I ∷ []
+
+currents : after (numberedOf rows-own (studyOf 2 turning [] (1 ∷ []) (0 ∷ []) I (z ∷ []) (I ∷ [])))
+    ≡ record { answer = done 2 1 +½; outputs = record { y-ward = +½ ∷ +½ ∷ []; p-ward = -½ ∷ []; q-ward = +½ ∷ []; work = zeros 6 } }
+unfolding opened
+currents = refl
+
+-- the same with no external bus: nothing is turned, both injections are +0
+no-currents : after (numberedOf rows-own (studyOf 2 turning [] [] (0 ∷ []) I [] []))
+    ≡ record { answer = done 2 1 z; outputs = record { y-ward = I ∷ z ∷ []; p-ward = z ∷ []; q-ward = z ∷ []; work = [] } }
+unfolding opened
+no-currents = refl
+
+-- ---- refused, with every slice as it was but the work slice at 13
+
+abbrev refused : NumberedStudy → ℕ → Type 0
+refused N k = after N ≡ record { answer = Refused k; outputs = room (N .study) }
+
+lacks : refused (study rows-own M [] (2 ∷ []) (0 ∷ []) (z ∷ []) (z ∷ [])) 7
+unfolding opened
+lacks = refl
+
+twice : refused (study rows-own M (0 ∷ []) (1 ∷ []) (0 ∷ []) (z ∷ []) (z ∷ [])) 8
+unfolding opened
+twice = refl
+
+unlike : refused (study rows-own M [] (1 ∷ []) (0 ∷ []) (z ∷ z ∷ []) (z ∷ [])) 3
+unfolding opened
+unlike = refl
+
+short : refused (study rows-own (I ∷ M) [] (1 ∷ []) (0 ∷ []) (z ∷ []) (z ∷ [])) 2
+unfolding opened
+short = refl
+
+many : refused (numberedOf rows-own (studyOf (limit + 1) M [] (1 ∷ []) (0 ∷ []) C (z ∷ []) (z ∷ []))) 1
+unfolding opened
+many = refl
+
+abbrev flat : NumberedStudy
+flat = study rows-own (z ∷ z ∷ z ∷ z ∷ z ∷ z ∷ z ∷ z ∷ []) [] (1 ∷ []) (0 ∷ []) (z ∷ []) (z ∷ [])
+
+pivot : after flat ≡ record { answer = Refused 13; outputs = outputsOf (I ∷ I ∷ []) (I ∷ []) (I ∷ []) (zeros 6) }
+unfolding opened
+pivot = refl
+
+-- ---- numbers
+
+-- M in row order, its second bus external with P 100: 0.5 is left, and the first bus gets 50
+abbrev halved : AfterWard
+halved = record { answer = done 2 1 +½; outputs = outputsOf (+½ ∷ z ∷ []) (float 0x4049000000000000 ∷ []) (z ∷ []) (zeros 6) }
+
+own : after (study rows-own M [] (1 ∷ []) (0 ∷ []) (C ∷ []) (z ∷ [])) ≡ halved
+unfolding opened
+own = refl
+
+-- a list numbered from one, boundary 1 and external 2: no row has the number 2, or it is right
+from-one : refused (study rows-own M [] (2 ∷ []) (1 ∷ []) (C ∷ []) (z ∷ [])) 7
+unfolding opened
+from-one = refl
+
+numbered-from-one : after (study (1 ∷ 2 ∷ []) M [] (2 ∷ []) (1 ∷ []) (C ∷ []) (z ∷ [])) ≡ halved
+unfolding opened
+numbered-from-one = refl
+
+-- the smallest number and the largest
+furthest : after (study (4294967295 ∷ 0 ∷ []) M [] (0 ∷ []) (4294967295 ∷ []) (C ∷ []) (z ∷ [])) ≡ halved
+unfolding opened
+furthest = refl
+
+-- boundary 1, external 0: where row 0 has number 1, and where the numbers are the rows. Entry and injection are twice as large there
+turned : after (study (1 ∷ 0 ∷ []) M [] (0 ∷ []) (1 ∷ []) (C ∷ []) (z ∷ [])) ≡ halved
+unfolding opened
+turned = refl
+
+not-turned : after (study rows-own M [] (0 ∷ []) (1 ∷ []) (C ∷ []) (z ∷ [])) ≡ record { answer = done 2 1 +½; outputs = outputsOf (I ∷ z ∷ []) (C ∷ []) (z ∷ []) (zeros 6) }
+unfolding opened
+not-turned = refl
+
+-- rows of the equivalent are in the lists' order, not in that of the numbers
+unsorted : after (study (7 ∷ 3 ∷ []) M (7 ∷ []) [] (3 ∷ []) [] []) ≡ record { answer = done 2 2 z; outputs = outputsOf M (z ∷ []) (z ∷ []) [] }
+unfolding opened
+unsorted = refl
+
+-- a number that stands twice, also where no list names it
+number-twice : refused (study (1 ∷ 1 ∷ []) M [] [] (1 ∷ []) [] []) 8
+unfolding opened
+number-twice = refl
+
+number-twice-unlisted : refused (study (1 ∷ 1 ∷ []) M [] [] [] [] []) 8
+unfolding opened
+number-twice-unlisted = refl
+
+-- 7 comes before 8, of the numbers and of the lists
+lacks-first : refused (study (1 ∷ 1 ∷ []) M [] [] (2 ∷ []) [] []) 7
+unfolding opened
+lacks-first = refl
+
+lacks-before-twice : refused (study rows-own M (0 ∷ []) (2 ∷ []) (0 ∷ []) (z ∷ []) (z ∷ [])) 7
+unfolding opened
+lacks-before-twice = refl
+
+-- one number short, one too many, more than the limit; these come before 3, 7 and 8
+one-short : refused (study (0 ∷ []) M [] (1 ∷ []) (0 ∷ []) [] []) 2
+unfolding opened
+one-short = refl
+
+one-long : refused (study (0 ∷ 0 ∷ 0 ∷ []) M [] (1 ∷ []) (0 ∷ []) (z ∷ []) (z ∷ [])) 2
+unfolding opened
+one-long = refl
+
+many-numbers : refused (study (replicate (limit + 1) 0) M [] (1 ∷ []) (0 ∷ []) (z ∷ []) (z ∷ [])) 1
+unfolding opened
+many-numbers = refl
+
+-- ---- extended
+
+-- (3, -4), (-3, 4) / (-3, 4), (1, 1)
+abbrev skew : List Float
+skew =
+    float 0x4008000000000000 ∷ float 0xc010000000000000 ∷ float 0xc008000000000000 ∷ float 0x4010000000000000
+    ∷ float 0xc008000000000000 ∷ float 0x4010000000000000 ∷ I ∷ I ∷ []
+
+-- base 1, P 0, Q 1; rows 0 and 1 have the numbers 7 and 3
+abbrev extended : ℕ → List Float → NumberedExtended
+extended k vs = numberedExtendedOf (numberedOf (7 ∷ 3 ∷ []) (studyOf 2 skew [] (k ∷ []) (7 ∷ []) I (z ∷ []) (I ∷ []))) vs
+
+abbrev wide : NumberedExtended → ExtendedOutputs
+wide X = record { outputs = room (X .study .study); correction = I ∷ []; compensation = I ∷ [] }
+
+opened-extended : Unit {0}
+unfolding opened magnitude root rootOf wholeRoot half radicand smallMagnitude addUp deviation weight weightSum weightedSum meanOf voltageCorrection reactive qCompensation extendedOutputsAfter studiedExtended extendedInRows extendedRefusal afterComputeExtended
+opened-extended = tt
+
+-- voltage 1.25: bus 7 gets P -3.5 and Q -0.5; its correction is 0.25, and the extended form's own Q -1
+both-q : let X = extended 3 (float 0x3ff4000000000000 ∷ []) in
+    afterComputeExtended X (wide X)
+    ≡ afterExtended (done 2 1 +½) (outputsOf (float 0x4032800000000000 ∷ float 0x4012000000000000 ∷ []) (float 0xc00c000000000000 ∷ []) (-½ ∷ []) (zeros 6)) (float 0x3fd0000000000000 ∷ []) (-I ∷ [])
+unfolding opened-extended
+both-q = refl
+
+unlike-v : afterComputeExtended (extended 3 []) (wide (extended 3 [])) ≡ record { answer = Refused 3; outputs = wide (extended 3 []) }
+unfolding opened-extended
+unlike-v = refl
+
+lacks-v : let X = extended 1 (I ∷ []) in afterComputeExtended X (wide X) ≡ record { answer = Refused 7; outputs = wide X }
+unfolding opened-extended
+lacks-v = refl

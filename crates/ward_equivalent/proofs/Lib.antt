@@ -1,0 +1,13 @@
+pub mod Places
+pub mod Signs
+pub mod Solved
+pub mod Studied
+pub mod Sums
+pub mod Buses
+pub mod Told
+pub mod Naming
+pub mod Named
+pub mod Laws
+pub mod Ties
+pub mod Extended
+pub mod Cases

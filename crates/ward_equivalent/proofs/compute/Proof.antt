@@ -1,0 +1,84 @@
+-- `ward_equivalent::compute` meets its contract.
+use Rattle.prelude.proofs.Prelude.{_≡_, sym, ap, _∙_, _+_, _-_, _*_, _≤_, _++_, arith, needs, length, take, drop}
+use Rattle.refusals.specs.Refusals.{limit}
+use Rattle.lists.specs.Buses.{rowsIn}
+use Rattle.ward_equivalent.specs.declared.lengths.Lengths.{Lengths}
+use Rattle.ward_equivalent.specs.Lengths.{lengthRefusal}
+use Rattle.ward_equivalent.specs.Ward.{Study, Outputs, retained, listed, studied}
+use Rattle.ward_equivalent.specs.Calls.{studyOf, outputsOf}
+use Rattle.ward_equivalent.specs.Numbers.{NumberedStudy, numberedOf, lengthsOf, busRefusal}
+use Rattle.ward_equivalent.proofs.Told.{Fitting, lengths-pass}
+use Rattle.ward_equivalent.proofs.Naming.{front-joined}
+use Rattle.ward_equivalent.proofs.Named.{rows-listed, cut-rows, told-first, told-then, answered, answered-refused}
+use Rattle.ward_equivalent.proofs.compute.Statement.{statement}
+use Rattle.ward_equivalent.proofs.compute.Tie as tie
+
+-- what is given, the slices at entry, and all lengths
+module _ (s : tie.Start) where
+  abbrev given : NumberedStudy
+  given = numberedOf (s .args .numbers .now) (studyOf (s .args .n) (s .args .y .now) (s .args .internal .now) (s .args .external .now) (s .args .boundary .now) (s .args .base-mva) (s .args .p-ext .now) (s .args .q-ext .now))
+
+  abbrev outputs : Outputs
+  outputs = outputsOf (s .args .y-ward .now) (s .args .p-ward .now) (s .args .q-ward .now) (s .args .work .now)
+
+  abbrev lengths : Lengths
+  lengths = lengthsOf given outputs
+
+returns : tie.Need-returns
+returns c =
+    let s = c .before .before .before .before .before .before .before .before .before .before .before .before .before in
+    let (e, k) = told-first (lengths s) (s .args .numbers .now) (listed (given s .study)) (c .before .length-refusal .result) (c .before .length-refusal .ensures) (c .if1 .taken) in
+    (answered-refused (given s) (outputs s) (c .before .length-refusal .result) e (c .if1 .taken) k, c .before .before .before .before .before .before .before .before .before .before .before .before .shared-slice-known .given)
+
+-- where the lengths are right
+module _ (c : tie.Else1) where
+  abbrev start : tie.Start
+  start = c .before .before .before .before .before .before .before .before .before .before .before .before .before
+
+  fits : Fitting (lengths start)
+  fits = lengths-pass (lengths start) 0 (sym (c .before .length-refusal .ensures) ∙ c .if1 .left) .0 .fits
+
+  few : length (start .args .external .now) + length (start .args .internal .now) + length (start .args .boundary .now) ≤ 3 * limit
+  few = let f = fits .few in omega (arith, f .internal, f .external, f .boundary)
+
+-- and the rows are looked up
+module _ (c : tie.After-placed) where
+  abbrev test : tie.Else1
+  test = c .before .before
+
+  told : (c .placed .result ≡ lengthRefusal (lengths (start test)) (busRefusal (start test .args .numbers .now) (listed (given (start test) .study)))) × (c .placed .result ≤ 8)
+  unfolding listed retained
+  told = told-then (lengths (start test)) (start test .args .numbers .now) (listed (given (start test) .study)) (test .before .length-refusal .result) (test .before .length-refusal .ensures) (test .if1 .left) (c .placed .result) (c .placed .ensures .1)
+
+returns-2 : tie.Need-returns-2
+returns-2 c =
+    let p = c .before .before in let s = start (test p) in
+    (answered-refused (given s) (outputs s) (p .placed .result) (told p .0) (c .if2 .taken) (told p .1), c .before .before .before .before .before .before .before .before .before .before .before .before .before .before .before .before .shared-slice-known .given)
+
+-- and no bus is refused
+module _ (c : tie.Else2) where
+  abbrev placed : tie.After-placed
+  placed = c .before .before
+
+  abbrev begun : tie.Start
+  begun = start (test placed)
+
+  rows : take (length (begun .args .external .now) + length (begun .args .internal .now) + length (begun .args .boundary .now) - 0) (drop 0 (placed .placed .last .1 .1 .1 .1 .0))
+      ≡ rowsIn (begun .args .numbers .now) (begun .args .external .now ++ (begun .args .internal .now ++ begun .args .boundary .now))
+  rows = front-joined (begun .args .numbers .now) (begun .args .external .now) (begun .args .internal .now) (begun .args .boundary .now) (placed .placed .last .1 .1 .1 .1 .0) (placed .placed .ensures .0)
+
+study-requires : tie.Need-study-requires
+study-requires c κs =
+    let e = c .before .before .before .before .before .before in let s = begun e in
+    rows-listed (given s) (outputs s) _ (fits (test (placed e))) (sym (placed e .placed .ensures .1) ∙ e .if2 .left) (rows e)
+
+returns-3 : tie.Need-returns-3
+returns-3 c =
+    let e = c .before .before .before .before .before .before .before .before .before .before .before .before .before .before .before in let s = begun e in
+    (c .before .before .before .before .before .before .before .before .study .ensures ∙ ap (λ (S : Study). studied S (outputs s) 0) (cut-rows (given s) _ (rows e)) ∙ answered (given s) (outputs s) 0 (sym (e .if2 .left) ∙ told (placed e) .0), c .before .before .before .before .before .before .before .before .before .before .before .before .before .before .before .before .before .before .before .before .before .before .before .before .before .before .before .before .before .before .before .shared-slice-known .given)
+
+pub compute-spec : {M : Type 1} → statement M
+compute-spec = tie.close (tie.spec (λ c κs. search needs) returns (λ c. search needs) (λ c κs. omega (arith, few (c .before))) returns-2
+    (λ c. search needs) (λ c. search needs) (λ c. search needs) (λ c. search needs)
+    (λ c. omega (arith, few (test (placed (c .before))), placed (c .before) .placed .kept .1 .1 .1 .1 .0)) study-requires
+    (λ c. search needs) (λ c. search needs) (λ c. search needs) (λ c. search needs) returns-3)

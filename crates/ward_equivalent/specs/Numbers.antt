@@ -1,0 +1,128 @@
+-- A Ward study as the calls take it: its lists name buses by number. What `compute` and `compute_extended` answer and leave, for every
+-- input.
+use Prim.Native.Nat.{ℕ}
+use mathlib.Core.Bool.{not, _||_}
+use mathlib.Core.List.{List}
+use lib.Dec.{T, eqb}
+use lib.ListN.{length}
+use lib.Ieee.{Float}
+use Rattle.refusals.specs.Refusals.{noSuchBus, busTwice, refuse}
+use Rattle.lists.specs.Buses.{repeats, within, rowsIn}
+use Rattle.ward_equivalent.specs.declared.lengths.Lengths.{Lengths}
+use Rattle.ward_equivalent.specs.Lengths.{lengthRefusal}
+use Rattle.ward_equivalent.specs.Ward.{Study, Outputs, listed, externals, thenSingular, AfterWard, studied}
+use Rattle.ward_equivalent.specs.Extended.{ExtendedStudy, ExtendedOutputs, AfterExtended, studiedExtended}
+
+-- the number of each row's bus, and a study whose lists hold numbers
+pub record NumberedStudy : Type 0 where
+  pub numbers : List ℕ
+  pub study : Study
+
+abbrev pub numberedOf : List ℕ → Study → NumberedStudy
+numberedOf ns S = record { numbers = ns; study = S }
+
+-- the study with each bus as its row; a number that no row has becomes the count of rows
+unfoldable pub inRows : NumberedStudy → Study
+unfolding rowsIn
+inRows N =
+    let S = N .study in
+    let rows = rowsIn (N .numbers) in
+    record {
+      size = S .size;
+      given = S .given;
+      internal = rows (S .internal);
+      external = rows (S .external);
+      boundary = rows (S .boundary);
+      base = S .base;
+      p-ext = S .p-ext;
+      q-ext = S .q-ext;
+    }
+
+-- ---- told from the input
+
+-- A study without voltages answers no corrections and compensations. So its lengths have as many of the three as are asked for, by which it
+-- is never refused.
+abbrev pub lengthsOf : NumberedStudy → Outputs → Lengths
+lengthsOf N o =
+    let S = N .study in
+    record {
+      size = S .size;
+      given = length (S .given);
+      numbers = length (N .numbers);
+      internal = length (S .internal);
+      external = externals S;
+      boundary = length (S .boundary);
+      «p_ext» = length (S .p-ext);
+      «q_ext» = length (S .q-ext);
+      «v_ext» = externals S;
+      «y_ward» = length (o .y-ward);
+      «p_ward» = length (o .p-ward);
+      «q_ward» = length (o .q-ward);
+      correction = length (S .boundary);
+      compensation = length (S .boundary);
+      work = length (o .work);
+    }
+
+-- of the numbers ns and the listed buses ks. 7: a bus outside the numbers. 8: a number that stands twice, or a bus listed twice, in one
+-- list or in two
+unfoldable pub busRefusal : List ℕ → List ℕ → ℕ
+unfolding repeats within
+busRefusal ns ks = refuse (not (within ns ks)) noSuchBus (refuse (repeats ns || repeats ks) busTwice 0)
+
+-- 1, 2, 3, 7, 8 or 0
+unfoldable pub wardRefusal : NumberedStudy → Outputs → ℕ
+unfolding lengthRefusal listed busRefusal
+wardRefusal N o = lengthRefusal (lengthsOf N o) (busRefusal (N .numbers) (listed (N .study)))
+
+abbrev pub AcceptedStudy : NumberedStudy → Outputs → Type 0
+AcceptedStudy N o = T (eqb (thenSingular (inRows N) (wardRefusal N o)) 0)
+
+-- ---- the calls
+
+unfoldable pub afterCompute : NumberedStudy → Outputs → AfterWard
+unfolding inRows wardRefusal studied
+afterCompute N o = studied (inRows N) o (wardRefusal N o)
+
+-- with the voltages at the external buses, per unit
+pub record NumberedExtended : Type 0 where
+  pub study : NumberedStudy
+  pub v-ext : List Float
+
+abbrev pub numberedExtendedOf : NumberedStudy → List Float → NumberedExtended
+numberedExtendedOf N vs = record { study = N; v-ext = vs }
+
+unfoldable pub extendedInRows : NumberedExtended → ExtendedStudy
+unfolding inRows
+extendedInRows X = record { study = inRows (X .study); v-ext = X .v-ext }
+
+abbrev pub extendedLengthsOf : NumberedExtended → ExtendedOutputs → Lengths
+extendedLengthsOf X o =
+    let l = lengthsOf (X .study) (o .outputs) in
+    record {
+      size = l .size;
+      given = l .given;
+      numbers = l .numbers;
+      internal = l .internal;
+      external = l .external;
+      boundary = l .boundary;
+      «p_ext» = l .«p_ext»;
+      «q_ext» = l .«q_ext»;
+      «v_ext» = length (X .v-ext);
+      «y_ward» = l .«y_ward»;
+      «p_ward» = l .«p_ward»;
+      «q_ward» = l .«q_ward»;
+      correction = length (o .correction);
+      compensation = length (o .compensation);
+      work = l .work;
+    }
+
+unfoldable pub extendedRefusal : NumberedExtended → ExtendedOutputs → ℕ
+unfolding lengthRefusal listed busRefusal
+extendedRefusal X o = lengthRefusal (extendedLengthsOf X o) (busRefusal (X .study .numbers) (listed (X .study .study)))
+
+abbrev pub AcceptedExtended : NumberedExtended → ExtendedOutputs → Type 0
+AcceptedExtended X o = T (eqb (thenSingular (inRows (X .study)) (extendedRefusal X o)) 0)
+
+unfoldable pub afterComputeExtended : NumberedExtended → ExtendedOutputs → AfterExtended
+unfolding extendedInRows extendedRefusal studiedExtended
+afterComputeExtended X o = studiedExtended (extendedInRows X) o (extendedRefusal X o)

@@ -1,0 +1,165 @@
+-- Ward's study: its formulas, and what it answers and leaves. Buses are rows of the given matrix here, counted from 0; Numbers.antt says
+-- how numbers come in, and what is told from the input.
+use Prim.Native.Nat.{ℕ, zero, suc}
+use mathlib.Core.Bool.{_||_, cond}
+use mathlib.Core.List.{List, _++_, map}
+use lib.Dec.{eqb}
+use lib.ListN.{length, getD}
+use lib.IntN.{pos}
+use lib.Ieee.{Float, nan, binary64, ofInt}
+use Rattle.complex.specs.declared.Complex.{Complex}
+use Rattle.complex.specs.Constants.{plus0, one}
+use Rattle.complex.specs.Arithmetic.{_⊖_, _⊘_, csub, cmul}
+use Rattle.complex.specs.Matrices.{Matrix, entryAt, rows, zeros}
+use Rattle.ward_equivalent.specs.Arithmetic.{sumUp, current, injectedP, injectedQ}
+use Rattle.refusals.specs.Refusals.{singular, refuse}
+use Rattle.solver.specs.Solving.{solve, isSingular}
+use Rattle.ward_equivalent.specs.declared.answers.WardSummary.{WardSummary}
+use Rattle.ward_equivalent.specs.declared.answers.WardAnswer.{WardAnswer}
+use Rattle.ward_equivalent.specs.declared.answers.WardAnswer.the-variants.{Done, Refused}
+
+-- what is given: base in MVA, injections at the external buses in MW and MVAr; the lists name rows here, and numbers in a `NumberedStudy`
+pub record Study : Type 0 where
+  pub size : ℕ
+  pub given : List Float
+  pub internal : List ℕ
+  pub external : List ℕ
+  pub boundary : List ℕ
+  pub base : Float
+  pub p-ext : List Float
+  pub q-ext : List Float
+
+-- the slices that the answer goes to, and the work slice
+pub record Outputs : Type 0 where
+  pub y-ward : List Float
+  pub p-ward : List Float
+  pub q-ward : List Float
+  pub work : List Float
+
+-- ---- buses
+
+-- row and column order of the equivalent
+unfoldable pub retained : Study → List ℕ
+retained S = S .internal ++ S .boundary
+
+-- the three lists together
+unfoldable pub listed : Study → List ℕ
+unfolding retained
+listed S = S .external ++ retained S
+
+abbrev pub externals : Study → ℕ
+externals S = length (S .external)
+
+abbrev pub externalAt : Study → ℕ → ℕ
+externalAt S k = getD (S .external) k 0
+
+-- the given admittance between two buses
+unfoldable pub admittance : Study → Matrix
+admittance S = entryAt (S .size) (S .given)
+
+-- ---- Ward's formula
+
+-- Y_ee, by place in the external list
+unfoldable pub yEE : Study → Matrix
+unfolding admittance
+yEE S k l = admittance S (externalAt S k) (externalAt S l)
+
+-- X: the solution of Y_ee x = the column of bus j in Y_er
+unfoldable pub solvedColumn : Study → ℕ → ℕ → Complex
+unfolding yEE admittance
+solvedColumn S j k = solve (externals S) (yEE S) (λ (l : ℕ). admittance S (externalAt S l) j) k
+
+-- row i of Y_re times a vector over the external buses
+unfoldable pub rowTimes : Study → ℕ → (ℕ → Complex) → Complex
+unfolding sumUp admittance
+rowTimes S i x = sumUp (externals S) (λ (k : ℕ). cmul (admittance S i (externalAt S k)) (x k))
+
+-- Y_rr - Y_re X, by bus; with no external bus the given matrix
+unfoldable pub equivalent : Study → Matrix
+unfolding rowTimes solvedColumn admittance
+equivalent S i j = cond (eqb (externals S) 0) (admittance S i j) (csub (admittance S i j) (rowTimes S i (solvedColumn S j)))
+
+-- ---- injections
+
+-- x: the solution of Y_ee x = the currents
+unfoldable pub solvedCurrents : Study → ℕ → Complex
+unfolding yEE current
+solvedCurrents S k = solve (externals S) (yEE S) (λ (l : ℕ). current (S .base) (getD (S .p-ext) l nan) (getD (S .q-ext) l nan)) k
+
+-- Y_be x at boundary bus i
+unfoldable pub boundaryCurrent : Study → ℕ → Complex
+unfolding rowTimes solvedCurrents
+boundaryCurrent S i = rowTimes S i (solvedCurrents S)
+
+unfoldable pub injectionP : Study → ℕ → Float
+unfolding plus0 injectedP boundaryCurrent
+injectionP S i = cond (eqb (externals S) 0) plus0 (injectedP (S .base) (boundaryCurrent S i))
+
+unfoldable pub injectionQ : Study → ℕ → Float
+unfolding plus0 injectedQ boundaryCurrent
+injectionQ S i = cond (eqb (externals S) 0) plus0 (injectedQ (S .base) (boundaryCurrent S i))
+
+-- ---- the answer
+
+-- 13 after the input refusal f
+unfoldable pub thenSingular : Study → ℕ → ℕ
+unfolding yEE
+thenSingular S f = cond (eqb f 0) (refuse (isSingular (externals S) (yEE S)) singular 0) f
+
+-- 1 - r / n, in binary64
+unfoldable pub reduction : ℕ → ℕ → Float
+unfolding one
+reduction r n = one ⊖ ofInt binary64 (pos r) ⊘ ofInt binary64 (pos n)
+
+-- the original size, and the size of the equivalent
+unfoldable pub summary : Study → WardSummary
+unfolding reduction retained plus0
+summary S =
+    record {
+      «n_buses_reduced» = S .size;
+      «n_buses_equivalent» = length (retained S);
+      «reduction_ratio» = cond (eqb (externals S) 0) plus0 (reduction (length (retained S)) (S .size));
+    }
+
+-- the answer of a study with this refusal
+unfoldable pub wardAnswer : ℕ → WardSummary → WardAnswer
+wardAnswer zero s = Done s
+wardAnswer (suc k) s = Refused (suc k)
+
+-- the number of an answer
+unfoldable pub wardNumber : WardAnswer → ℕ
+wardNumber (Done s) = 0
+wardNumber (Refused k) = k
+
+-- the outputs of an accepted study
+unfoldable pub acceptedOutputs : Study → List Float → Outputs
+unfolding equivalent injectionP injectionQ retained rows
+acceptedOutputs S ws =
+    record {
+      y-ward = rows (equivalent S) (retained S) (retained S);
+      p-ward = map (injectionP S) (S .boundary);
+      q-ward = map (injectionQ S) (S .boundary);
+      work = ws;
+    }
+
+-- the work slice after refusal f: +0 after acceptance or 13, else as it was
+unfoldable pub workAfter : ℕ → List Float → List Float
+unfolding zeros
+workAfter f ws = cond (eqb f 0 || eqb f singular) (zeros (length ws)) ws
+
+-- the slices after refusal f: outputs are written only where there is none
+unfoldable pub outputsAfter : Study → ℕ → Outputs → Outputs
+unfolding acceptedOutputs workAfter
+outputsAfter S f o =
+    cond (eqb f 0)
+    (acceptedOutputs S (workAfter f (o .work)))
+    (record { y-ward = o .y-ward; p-ward = o .p-ward; q-ward = o .q-ward; work = workAfter f (o .work) })
+
+pub record AfterWard : Type 0 where
+  pub answer : WardAnswer
+  pub outputs : Outputs
+
+-- after the input refusal f
+unfoldable pub studied : Study → Outputs → ℕ → AfterWard
+unfolding thenSingular wardAnswer summary outputsAfter
+studied S o f = let k = thenSingular S f in record { answer = wardAnswer k (summary S); outputs = outputsAfter S k o }

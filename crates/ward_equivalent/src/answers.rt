@@ -1,0 +1,25 @@
+// The answers of the Ward calls, and an answer's number.
+ghost use mathlib.Core.Path.{_≡_};
+ghost use Rattle.ward_equivalent.specs.Ward as ward;
+
+// Of a study: the size of the given matrix, how many buses the equivalent keeps, and 1 less their quotient, or 0 where no bus is external.
+pub struct WardSummary {
+    pub n_buses_reduced: usize,
+    pub n_buses_equivalent: usize,
+    pub reduction_ratio: f64,
+}
+
+pub enum WardAnswer {
+    Done(WardSummary),
+    Refused(u32),
+}
+
+// The refusal's number, 0 where there is none.
+pub fn number_of(answer: WardAnswer) -> u32
+    ensures { λ r. ⌜ r ≡ ward.wardNumber answer ⌝ }
+{
+    match answer {
+        WardAnswer::Done(_) => 0,
+        WardAnswer::Refused(k) => k,
+    }
+}

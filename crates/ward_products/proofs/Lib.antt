@@ -1,2 +1,0 @@
-pub mod WardPlaces
-pub mod WardSigns

@@ -1,2 +1,0 @@
-pub mod WardArithmetic
-pub mod WardWork

@@ -1,3 +1,0 @@
-pub mod WardSolved
-pub mod WardStudied
-pub mod WardSums

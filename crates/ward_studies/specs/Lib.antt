@@ -1,4 +1,0 @@
-pub mod Ward
-pub mod WardExtended
-pub mod WardCalls
-pub mod WardComputed
