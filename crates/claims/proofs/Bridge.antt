@@ -9,8 +9,8 @@ use Rattle.complex.specs.{tooSmall}
 use Rattle.kron_reduction.specs.Reducer.{ReducerInput, AcceptedMaking, makingRefusal, activeOf, afterNew, inputRefusal, ReducerState, reducerStateOf, stored, leaves, removedRows, removalsRefusal, afterBus, afterBuses}
 use Rattle.kron_reduction.proofs.States.{Accepted, taken-accepted, append-accepted, eliminate-append, eliminate-active, Regular, regular-start, regular-eliminate}
 use Rattle.kron_reduction.proofs.Making.{Makes, makes-has}
-use Rattle.kron_reduction.proofs.Reducer.{active-recordOf, entry-laidOut, laidOut-all, input-laid, removable-laid, refusal-laid, leaves-laid, input-long, removable-long}
-use Rattle.claims.specs.Accounts.{Call, bus, buses, stepHeld, leftFrom, left, entryIn, Account, fresh, stateAfter, removes, step, accountFrom, account, kept, rowAt}
+use Rattle.kron_reduction.proofs.Reducer.{active-recordOf, entry-rowMajor, rowMajor-all, input-stored, removed-stored, refusal-stored, leaves-stored, input-long, removable-long}
+use Rattle.claims.specs.Accounts.{Call, bus, buses, afterCall, leftFrom, left, entryIn, Account, fresh, stateAfter, removes, step, accountFrom, account, kept, rowAt}
 
 -- ---- a making that is accepted
 
@@ -52,39 +52,39 @@ by-length l P f g = (elim (leb l limit) as (λ b. (T b → l ≤ limit) → (T (
     [ true ↦ λ u v. f (u tt) | false ↦ λ u v. g (v tt) ]) (leb→le l limit) (nleb→lt l limit)
 
 -- the record and layout of an account's state
-abbrev pub laidOf : Account → ReducerState
-laidOf a = stored (a .size) (a .numbers) (stateAfter a)
+abbrev pub storedOf : Account → ReducerState
+storedOf a = stored (a .size) (a .numbers) (stateAfter a)
 
 module _ (a : Account) (small : a .size ≤ limit) (many : length (a .numbers) ≡ a .size) (distinct : repeats (a .numbers) ≡ false) where
   abbrev here : ReducerState
-  here = laidOf a
+  here = storedOf a
 
   within : (ks : List ℕ) → length ks ≤ limit
       → leaves (here .rec) (here .slice) (removedRows (here .rec) (here .slice) ks) ≡ stored (a .size) (a .numbers) (eliminate (stateAfter a) (carriedOut (stateAfter a) (rowsIn (a .numbers) ks)))
   within ks l =
-      ap (leaves (here .rec) (here .slice)) (removable-laid (a .size) (a .numbers) (stateAfter a) small many distinct (regular-state a) ks l)
-      ∙ leaves-laid (a .size) (a .numbers) (stateAfter a) small many distinct (regular-state a) (carriedOut (stateAfter a) (rowsIn (a .numbers) ks)) (taken-accepted (stateAfter a) (rowsIn (a .numbers) ks))
+      ap (leaves (here .rec) (here .slice)) (removed-stored (a .size) (a .numbers) (stateAfter a) small many distinct (regular-state a) ks l)
+      ∙ leaves-stored (a .size) (a .numbers) (stateAfter a) small many distinct (regular-state a) (carriedOut (stateAfter a) (rowsIn (a .numbers) ks)) (taken-accepted (stateAfter a) (rowsIn (a .numbers) ks))
 
-  one-call : (c : Call) → stepHeld here c ≡ stored (a .size) (a .numbers) (eliminate (stateAfter a) (removes a c))
-  unfolding stepHeld afterBus afterBuses removes
+  one-call : (c : Call) → afterCall here c ≡ stored (a .size) (a .numbers) (eliminate (stateAfter a) (removes a c))
+  unfolding afterCall afterBus afterBuses removes
   one-call (bus k) = within (k ∷ []) (lit≤ tt)
-  one-call (buses ks) = by-length (length ks) (λ (b : Bool). stepHeld here (buses ks)
+  one-call (buses ks) = by-length (length ks) (λ (b : Bool). afterCall here (buses ks)
       ≡ stored (a .size) (a .numbers) (eliminate (stateAfter a) (cond b (carriedOut (stateAfter a) (rowsIn (a .numbers) ks)) [])))
       (within ks) λ h. ap (leaves (here .rec) (here .slice)) (removable-long (here .rec) (here .slice) ks h) ∙ unfold leaves eliminate in refl
 
 -- ---- all calls
 
 left-from : (a : Account) (calls : List Call) → a .size ≤ limit → length (a .numbers) ≡ a .size → repeats (a .numbers) ≡ false
-    → leftFrom (laidOf a) calls ≡ stored (a .size) (a .numbers) (stateAfter (accountFrom a calls))
+    → leftFrom (storedOf a) calls ≡ stored (a .size) (a .numbers) (stateAfter (accountFrom a calls))
 unfolding leftFrom accountFrom step
 left-from a [] small many distinct = refl
 left-from a (c ∷ cs) small many distinct =
     ap (λ (h : ReducerState). leftFrom h cs) (one-call a small many distinct c ∙ ap (stored (a .size) (a .numbers)) (sym (state-step a c)))
     ∙ left-from (step a c) cs small many distinct
 
-fresh-is : (M : ReducerInput) → AcceptedMaking M → reducerStateOf (afterNew M .rec) (M .given) ≡ laidOf (fresh M)
+fresh-is : (M : ReducerInput) → AcceptedMaking M → reducerStateOf (afterNew M .rec) (M .given) ≡ storedOf (fresh M)
 unfolding afterNew stored stateAfter fresh eliminate
-fresh-is M made = rw (is-true (eqb (makingRefusal M) 0) made, laidOut-all (M .size) (M .given) (made-length M made))
+fresh-is M made = rw (is-true (eqb (makingRefusal M) 0) made, rowMajor-all (M .size) (M .given) (made-length M made))
 
 pub left-is : (M : ReducerInput) (calls : List Call) → AcceptedMaking M → left M calls ≡ stored (M .size) (M .numbers) (stateAfter (account M calls))
 unfolding left
@@ -130,7 +130,7 @@ unfolding stored
 entry-is M calls made p q x y =
     let s = stateAfter (account M calls) in
     let e = kept-state (account M calls) in
-    rw (left-is M calls made, ← e) (entry-laidOut (2 * (M .size * M .size)) (s .active) (s .entries) p q (rw e x) (rw e y))
+    rw (left-is M calls made, ← e) (entry-rowMajor (2 * (M .size * M .size)) (s .active) (s .entries) p q (rw e x) (rw e y))
 
 -- ---- the refusals and removals of a call after a list of calls
 
@@ -167,20 +167,20 @@ module _ (M : ReducerInput) (calls : List Call) (made : AcceptedMaking M) where
   pub no-input-refusal : (l : ℕ) → l ≤ limit → inputRefusal rec slice l ≡ 0
   no-input-refusal l h = let m = made-has M made in
       by-layout (λ (g : ReducerState). inputRefusal (g .rec) (g .slice) l ≡ 0)
-      (input-laid (M .size) (M .numbers) present (m .size) (m .many) (m .distinct) regular-present l h)
+      (input-stored (M .size) (M .numbers) present (m .size) (m .many) (m .distinct) regular-present l h)
 
   -- so a call answers what the account's state tells
   pub refusal-is : (ks : List ℕ) → length ks ≤ limit → removalsRefusal rec slice ks ≡ stoppedBy present (rows ks)
   refusal-is ks h = let m = made-has M made in
       by-layout (λ (g : ReducerState). removalsRefusal (g .rec) (g .slice) ks ≡ stoppedBy present (rows ks))
-      (refusal-laid (M .size) (M .numbers) present (m .size) (m .many) (m .distinct) regular-present ks h)
+      (refusal-stored (M .size) (M .numbers) present (m .size) (m .many) (m .distinct) regular-present ks h)
 
   -- and it removes the buses that the account says
   pub removed-is : (ks : List ℕ) → removedRows rec slice ks ≡ removes (account M calls) (buses ks)
   unfolding removes
   removed-is ks = by-length (length ks) (λ (b : Bool). removedRows rec slice ks ≡ cond b (carriedOut present (rows ks)) [])
       (λ h. let m = made-has M made in by-layout (λ (g : ReducerState). removedRows (g .rec) (g .slice) ks ≡ carriedOut present (rows ks))
-      (removable-laid (M .size) (M .numbers) present (m .size) (m .many) (m .distinct) regular-present ks h))
+      (removed-stored (M .size) (M .numbers) present (m .size) (m .many) (m .distinct) regular-present ks h))
       (removable-long rec slice ks)
       ∙ ap (λ (ns : List ℕ). cond (leb (length ks) limit) (carriedOut present (rowsIn ns ks)) []) (sym same-numbers)
 
@@ -199,8 +199,8 @@ module _ (M : ReducerInput) (calls : List Call) (made : AcceptedMaking M) where
   count-is ks = ap length (removed-is ks)
 
   -- a call that removes nothing leaves all as it was, and what stands behind the rows too
-  pub nothing-removed : (c : Call) → removes (account M calls) c ≡ [] → stepHeld (left M calls) c ≡ left M calls
-  unfolding stepHeld afterBus afterBuses leaves removes
+  pub nothing-removed : (c : Call) → removes (account M calls) c ≡ [] → afterCall (left M calls) c ≡ left M calls
+  unfolding afterCall afterBus afterBuses leaves removes
   nothing-removed (bus k) e = ap (leaves rec slice) (removed-is (k ∷ []) ∙ e)
   nothing-removed (buses ks) e = ap (leaves rec slice) (removed-is ks ∙ e)
 

@@ -11,7 +11,7 @@ use Rattle.ward_equivalent.specs.Extended.{ExtendedStudy, ExtendedOutputs, devi
 use Rattle.ward_equivalent.specs.Computed.{ofStudy, ofTies, ofCorrection, ofExtended}
 use Rattle.ward_equivalent.proofs.Laws.{soundX, left-acceptedX, correction-accepted, compensation-accepted}
 use Rattle.lists.proofs.Lookups.{getD-map}
-use Rattle.ward_equivalent.proofs.Sums.{Null, plus0-zero, sum-zero, magnitude-zero, weak-above, each-at}
+use Rattle.ward_equivalent.proofs.Sums.{Null, plus0-zero, sum-zero, magnitude-zero, none-above, each-at}
 use Rattle.ward_equivalent.specs.Numbers.{NumberedExtended, inRows, extendedInRows, AcceptedExtended, afterComputeExtended}
 use Rattle.claims.specs.WardRows.{givenOf, FiniteExtended, old, rowBuses, busOfRow, ZeroRow, ZeroAt, KeepsRow, KeepsExtendedRow, WardRows}
 use Rattle.claims.proofs.WardKeeps.{row-null, bus-at, keeps-row, zero-row}
@@ -49,7 +49,7 @@ module _ (S : ExtendedStudy) (i : ℕ) (none : (e : ℕ) → e isOneOf S .study 
 
   pub no-correction : voltageCorrection S i ≡ plus0
   unfolding voltageCorrection
-  no-correction = rw (weak-above (weightSum S i) no-weight)
+  no-correction = rw (none-above (weightSum S i) no-weight)
 
   pub no-compensation : F.Zero (qCompensation S i)
   unfolding qCompensation reactive

@@ -7,7 +7,7 @@ use Rattle.refusals.specs.Refusals.{limit}
 use Rattle.lists.proofs.Buses.{in-cases, in-upTo}
 use Rattle.kron_reduction.specs.Kron.{kron, removalRefusal, eliminate, carriedOut, ofRow, ofRows, ofRemovals}
 use Rattle.kron_reduction.specs.Reducer.{ReducerInput, reducerInputOf, makingRefusal, AcceptedMaking, afterNew, soundRows, soundNumbers, inputRefusal, stateOf, stored, leaves, removedRows, afterBus, afterBuses}
-use Rattle.claims.specs.Accounts.{Call, bus, buses, stepHeld, leftFrom, left, entryIn, fresh, stateAfter, removes, step, accountFrom, Account, account, kept}
+use Rattle.claims.specs.Accounts.{Call, bus, buses, afterCall, leftFrom, left, entryIn, fresh, stateAfter, removes, step, accountFrom, Account, account, kept}
 use Rattle.claims.specs.Chains.{Linked, Steps, Within, Chain, Into, Out, SameOutside}
 use Rattle.claims.specs.Finite.{ofAccount, Finite, ofBitPatterns}
 use Rattle.claims.specs.Removals.{Alike, NoInto}
@@ -24,7 +24,7 @@ book-words = 0x3ff0000000000000 ∷ 0 ∷ 0xbff0000000000000 ∷ 0 ∷ 0xbff0000
 unfoldable pub opened : Unit {0}
 unfolding book-words ofBitPatterns csub cmul cdiv upTo others place entryOf entryAt kron removalRefusal eliminate carriedOut fresh stateAfter
     removes step accountFrom sub mul div lt ofBits eq stored makingRefusal afterNew rising allBelow allZero soundRows soundNumbers inputRefusal
-    stateOf leaves removedRows afterBus afterBuses stepHeld leftFrom left allFinite ofAccount ofRemovals ofRow ofRows
+    stateOf leaves removedRows afterBus afterBuses afterCall leftFrom left allFinite ofAccount ofRemovals ofRow ofRows
 opened = tt
 
 abbrev pub book : ReducerInput

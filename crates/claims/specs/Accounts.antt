@@ -18,14 +18,14 @@ pub data Call : Type 0 where
 
 -- ---- what is left: record and slice, by the definitions that the contracts of the calls cite
 
-unfoldable pub stepHeld : ReducerState → Call → ReducerState
-stepHeld h (bus k) = let a = afterBus (h .rec) (h .slice) k in reducerStateOf (a .out .rec) (a .slice)
-stepHeld h (buses ks) = let a = afterBuses (h .rec) (h .slice) ks in reducerStateOf (a .out .rec) (a .slice)
+unfoldable pub afterCall : ReducerState → Call → ReducerState
+afterCall h (bus k) = let a = afterBus (h .rec) (h .slice) k in reducerStateOf (a .out .rec) (a .slice)
+afterCall h (buses ks) = let a = afterBuses (h .rec) (h .slice) ks in reducerStateOf (a .out .rec) (a .slice)
 
 -- each call gets what the one before left, also after a refusal
 unfoldable pub leftFrom : ReducerState → List Call → ReducerState
 leftFrom h [] = h
-leftFrom h (c ∷ cs) = leftFrom (stepHeld h c) cs
+leftFrom h (c ∷ cs) = leftFrom (afterCall h c) cs
 
 -- from the record of the making and the slice that it was made of
 unfoldable pub left : ReducerInput → List Call → ReducerState

@@ -150,9 +150,9 @@ pub record Divisor (b : Complex) : Type 0 where
   pub sum : T (finite (sqmag b))
   pub big : T (not (lt (sqmag b) divisionLimit))
 
-tiny-is : divisionLimit ≡ fin false 0x156e1fc2f8f359 (negsuc 1048)
+limit-is : divisionLimit ≡ fin false 0x156e1fc2f8f359 (negsuc 1048)
 unfolding divisionLimit ofBits
-tiny-is = refl
+limit-is = refl
 
 zero-lt : (x : Float) (n : ℕ) (d : ℤ) → 0 < n → Zero x → T (lt x (fin false n d))
 unfolding lt
@@ -168,11 +168,11 @@ zero-lt (fin s zero e) n d h z = simp zero-mul (go s)
     go true = lt→ltb 0 (0 + n * up d * down e) (rw zero-add above)
     go false = lt→ltb 0 (n * up d * down e) above
 
-zero-tiny : (x : Float) → Zero x → T (lt x divisionLimit)
-zero-tiny x z = rw tiny-is (zero-lt x 0x156e1fc2f8f359 (negsuc 1048) (lit< tt) z)
+zero-small : (x : Float) → Zero x → T (lt x divisionLimit)
+zero-small x z = rw limit-is (zero-lt x 0x156e1fc2f8f359 (negsuc 1048) (lit< tt) z)
 
 pub not-zero : {b : Complex} → Divisor b → Zero (sqmag b) → ⊥
-not-zero {b} d z = T-not (lt (sqmag b) divisionLimit) (d .big) (zero-tiny (sqmag b) z)
+not-zero {b} d z = T-not (lt (sqmag b) divisionLimit) (d .big) (zero-small (sqmag b) z)
 
 quotient : Complex → Complex → Complex
 quotient a b = record { re = (a .re ⊗ b .re ⊕ a .im ⊗ b .im) ⊘ sqmag b; im = (a .im ⊗ b .re ⊖ a .re ⊗ b .im) ⊘ sqmag b }

@@ -6,7 +6,7 @@ use Rattle.complex.proofs.Matrices.{row-within}
 use Rattle.refusals.specs.Refusals.{limit, tooMany, wrongLength, badRecord, singular, refuse}
 use Rattle.solver.specs.GaussJordan.{augmented, solution}
 use Rattle.solver.specs.Solving.{operations, isSingular, inverse, unitColumn}
-use Rattle.solver.proofs.GaussJordan.{run-same, singular-system, beside-system}
+use Rattle.solver.proofs.GaussJordan.{run-same, singular-system, augmented-system}
 use Rattle.kron_reduction.specs.declared.KronReducer.{KronReducer}
 use Rattle.kron_reduction.specs.declared.Impedance.{Impedance}
 use Rattle.kron_reduction.specs.declared.Impedance.the-variants.{Refused}
@@ -37,7 +37,7 @@ module _ (n : ℕ) (A B : Matrix) (same : (i j : ℕ) → i < n → j < n → A 
 
   beside-same : (R : Matrix) (i j : ℕ) → i < n → augmented operations n A R i j ≡ augmented operations n B R i j
   beside-same R i j h = elim (lt-or-ge j n) [
-    | inl k ↦ beside-system operations n A R i j k ∙ same i j h k ∙ sym (beside-system operations n B R i j k)
+    | inl k ↦ augmented-system operations n A R i j k ∙ same i j h k ∙ sym (augmented-system operations n B R i j k)
     | inr k ↦ past R i j k
   ]
 

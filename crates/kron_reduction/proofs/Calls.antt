@@ -61,10 +61,10 @@ pub entryAt-take : (w n : ℕ) (ys : List Float) (p q : ℕ) → p * w + q < n �
 unfolding entryAt
 entryAt-take w n ys p q h = entry-take n ys (p * w + q) h
 
-pub laid-front : (s : State) (m len : ℕ) (ys : List Float) → length (s .active) ≡ m → StandsIn s ys → length ys ≡ len → 2 * (m * m) ≤ len
+pub stored-front : (s : State) (m len : ℕ) (ys : List Float) → length (s .active) ≡ m → StandsIn s ys → length ys ≡ len → 2 * (m * m) ≤ len
     → take (2 * (m * m)) ys ++ zeros (len - 2 * (m * m)) ≡ rowMajor len (s .active) (s .entries)
 unfolding rowMajor
-laid-front s m len ys e shows long fits = ap₂ (λ (a b : List Float). a ++ b) front (ap (λ (k : ℕ). zeros (len - 2 * (k * k))) (sym e))
+stored-front s m len ys e shows long fits = ap₂ (λ (a b : List Float). a ++ b) front (ap (λ (k : ℕ). zeros (len - 2 * (k * k))) (sym e))
   where
     front : take (2 * (m * m)) ys ≡ rows (s .entries) (s .active) (s .active)
     front =
@@ -82,7 +82,7 @@ back-end a len ys zs long =
 pub laid-out : (s : State) (m len : ℕ) (ys zs : List Float) → length (s .active) ≡ m → StandsIn s ys → length ys ≡ len → 2 * (m * m) ≤ len → zs ≡ zeros (len - 2 * (m * m))
     → back (2 * (m * m)) (len - 2 * (m * m)) ys zs ≡ rowMajor len (s .active) (s .entries)
 laid-out s m len ys zs e shows long fits clear =
-    back-end (2 * (m * m)) len ys zs long ∙ ap (λ (b : List Float). take (2 * (m * m)) ys ++ b) clear ∙ laid-front s m len ys e shows long fits
+    back-end (2 * (m * m)) len ys zs long ∙ ap (λ (b : List Float). take (2 * (m * m)) ys ++ b) clear ∙ stored-front s m len ys e shows long fits
 
 -- ---- a list of removals
 

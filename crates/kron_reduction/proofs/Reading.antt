@@ -12,7 +12,7 @@ use Rattle.kron_reduction.specs.Inner.Removal.{Holds}
 use Rattle.kron_reduction.specs.Reading.{readingRefusal, afterMatrix}
 use Rattle.kron_reduction.proofs.Showing.{shown-shows}
 use Rattle.kron_reduction.proofs.Taking.{holds-long}
-use Rattle.kron_reduction.proofs.Calls.{accepts-has, accepted-holds, laid-front, back-end}
+use Rattle.kron_reduction.proofs.Calls.{accepts-has, accepted-holds, stored-front, back-end}
 
 -- ---- the input refusals
 
@@ -26,12 +26,12 @@ module _ (per : ℕ) (r : KronReducer) (ys : List Float) (m : ℕ) where
 
 -- ---- the answer
 
-laid-now : (r : KronReducer) (ys : List Float) → length ys ≡ 2 * (r .made * r .made) → Holds (r .«n_buses») (r .«active_buses») ys
+stored-now : (r : KronReducer) (ys : List Float) → length ys ≡ 2 * (r .made * r .made) → Holds (r .«n_buses») (r .«active_buses») ys
     → take (2 * (r .«n_buses» * r .«n_buses»)) ys ++ zeros (length ys - 2 * (r .«n_buses» * r .«n_buses»)) ≡ rowMajor (2 * (r .made * r .made)) (activeOf r) (stateOf r ys .entries)
 unfolding stateOf
-laid-now r ys long h =
+stored-now r ys long h =
     let e : length (activeOf r) ≡ r .«n_buses» = holds-long (r .«n_buses») (r .«active_buses») ys h in
-    laid-front (stateIn (r .«n_buses») (activeOf r) ys) (r .«n_buses») (length ys) ys e (shown-shows (r .«n_buses») (activeOf r) ys (h .rises) e) refl (h .fits)
+    stored-front (stateIn (r .«n_buses») (activeOf r) ys) (r .«n_buses») (length ys) ys e (shown-shows (r .«n_buses») (activeOf r) ys (h .rises) e) refl (h .fits)
     ∙ ap (λ (len : ℕ). rowMajor len (activeOf r) (stateOf r ys .entries)) long
 
 module _ (r : KronReducer) (ys os : List Float) where
@@ -56,7 +56,7 @@ module _ (r : KronReducer) (ys os : List Float) where
       h = matrix-holds e long
 
       rowsOf : take (2 * (r .«n_buses» * r .«n_buses»)) ys ++ zeros (length ys - 2 * (r .«n_buses» * r .«n_buses»)) ≡ rowMajor (2 * (r .made * r .made)) (activeOf r) (stateOf r ys .entries)
-      rowsOf = laid-now r ys (accepts-has r ys 0 (reading-accepted 2 r ys (length os) e .1) .slice) h
+      rowsOf = stored-now r ys (accepts-has r ys 0 (reading-accepted 2 r ys (length os) e .1) .slice) h
 
 -- the front of os becomes that of ys, the rest +0
 pub front-cleared : (a w : ℕ) (ys os zs cs : List Float) → w ≡ a → a ≤ length ys → length os ≡ length ys → zs ≡ take w ys

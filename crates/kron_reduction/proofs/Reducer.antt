@@ -98,29 +98,29 @@ filled-places n xs h e z =
 
 -- ---- the layout of a matrix
 
-pub length-laidOut : (len : ℕ) (xs : List ℕ) (Y : Matrix) → 2 * (length xs * length xs) ≤ len → length (rowMajor len xs Y) ≡ len
+pub length-rowMajor : (len : ℕ) (xs : List ℕ) (Y : Matrix) → 2 * (length xs * length xs) ≤ len → length (rowMajor len xs Y) ≡ len
 unfolding rowMajor
-length-laidOut len xs Y h = simp (length-append, length-rows, length-zeros) (omega arith)
+length-rowMajor len xs Y h = simp (length-append, length-rows, length-zeros) (omega arith)
 
-pub entry-laidOut : (len : ℕ) (xs : List ℕ) (Y : Matrix) (p q : ℕ) → p < length xs → q < length xs → entryAt (length xs) (rowMajor len xs Y) p q ≡ Y (getD xs p 0) (getD xs q 0)
+pub entry-rowMajor : (len : ℕ) (xs : List ℕ) (Y : Matrix) (p q : ℕ) → p < length xs → q < length xs → entryAt (length xs) (rowMajor len xs Y) p q ≡ Y (getD xs p 0) (getD xs q 0)
 unfolding rowMajor entryAt
-entry-laidOut len xs Y p q h k =
+entry-rowMajor len xs Y p q h k =
     entry-append-left (rows Y xs xs) (zeros (len - 2 * (length xs * length xs))) (p * length xs + q)
     (let l = entry-within (length xs) (length xs) p q h k in rw length-rows (omega arith))
     ∙ unfold entryAt in entry-rows Y xs xs p q h k
 
 -- a slice of n rows of n is the layout of the matrix that it holds
-pub laidOut-all : (n : ℕ) (ys : List Float) → length ys ≡ 2 * (n * n) → rowMajor (2 * (n * n)) (upTo n) (entryAt n ys) ≡ ys
+pub rowMajor-all : (n : ℕ) (ys : List Float) → length ys ≡ 2 * (n * n) → rowMajor (2 * (n * n)) (upTo n) (entryAt n ys) ≡ ys
 unfolding rowMajor zeros grid
-laidOut-all n ys e =
+rowMajor-all n ys e =
     let none : 2 * (n * n) - 2 * (length (upTo n) * length (upTo n)) ≡ 0 = rw length-upTo (sub-self (2 * (n * n))) in
     let front : ys ≡ rows (entryAt n ys) (upTo n) (upTo n) = grid-ext n n (entryAt n ys) ys e (λ i j x y. refl) in
     rw (none, append-nil, ← front)
 
 -- states that agree have one layout
-pub agree-laid : (n : ℕ) (ns : List ℕ) {s t : State} → Agree s t → stored n ns s ≡ stored n ns t
+pub agree-stored : (n : ℕ) (ns : List ℕ) {s t : State} → Agree s t → stored n ns s ≡ stored n ns t
 unfolding stored rowMajor
-agree-laid n ns {s} {t} h = rw (← h .active, rows-same (s .entries) (t .entries) (s .active) (s .active) (h .entries))
+agree-stored n ns {s} {t} h = rw (← h .active, rows-same (s .entries) (t .entries) (s .active) (s .active) (h .entries))
 
 -- ---- a state as record and slice, given to a call
 
@@ -128,49 +128,49 @@ module _ (n : ℕ) (ns : List ℕ) (s : State) (small : n ≤ limit) (many : len
   pub active-room : length (s .active) ≤ n
   active-room = rising-length n (s .active) (regular .rises) (regular .below)
 
-  pub length-laid : length (stored n ns s .slice) ≡ 2 * (n * n)
+  pub length-stored : length (stored n ns s .slice) ≡ 2 * (n * n)
   unfolding stored
-  length-laid = length-laidOut (2 * (n * n)) (s .active) (s .entries) (mul-le-mul-left 2 (mul-le-mul active-room active-room))
+  length-stored = length-rowMajor (2 * (n * n)) (s .active) (s .entries) (mul-le-mul-left 2 (mul-le-mul active-room active-room))
 
-  pub numbers-laid : numbersOf (stored n ns s .rec) ≡ ns
+  pub numbers-stored : numbersOf (stored n ns s .rec) ≡ ns
   unfolding stored
-  numbers-laid = numbers-recordOf n ns (s .active) many
+  numbers-stored = numbers-recordOf n ns (s .active) many
 
   -- no input refusal comes, with a list within the limit
-  pub input-laid : (l : ℕ) → l ≤ limit → inputRefusal (stored n ns s .rec) (stored n ns s .slice) l ≡ 0
+  pub input-stored : (l : ℕ) → l ≤ limit → inputRefusal (stored n ns s .rec) (stored n ns s .slice) l ≡ 0
   unfolding inputRefusal stored
-  input-laid l h =
-      rw (le-ltb limit n small, le-ltb limit l h, eq-eqb (length (stored n ns s .slice)) (2 * (n * n)) length-laid, is-true (sound (recordOf n ns (s .active))) (sound-recordOf n ns (s .active) (le-trans active-room small) (regular .rises) (regular .below) many distinct))
+  input-stored l h =
+      rw (le-ltb limit n small, le-ltb limit l h, eq-eqb (length (stored n ns s .slice)) (2 * (n * n)) length-stored, is-true (sound (recordOf n ns (s .active))) (sound-recordOf n ns (s .active) (le-trans active-room small) (regular .rises) (regular .below) many distinct))
 
   -- it is read back as that state, as far as its buses are active
-  pub view-laid : Agree s (stateOf (stored n ns s .rec) (stored n ns s .slice))
+  pub state-stored : Agree s (stateOf (stored n ns s .rec) (stored n ns s .slice))
   unfolding stateOf stored
-  view-laid = record {
+  state-stored = record {
     active = sym (active-recordOf n ns (s .active));
     entries = λ (i j : ℕ). λ x y.
         sym (rw active-recordOf
-        (entry-laidOut (2 * (n * n)) (s .active) (s .entries) (place i (s .active)) (place j (s .active)) (place-lt i (s .active) x) (place-lt j (s .active) y)
+        (entry-rowMajor (2 * (n * n)) (s .active) (s .entries) (place i (s .active)) (place j (s .active)) (place-lt i (s .active) x) (place-lt j (s .active) y)
         ∙ ap₂ (s .entries) (getD-place i (s .active) x) (getD-place j (s .active) y)));
   }
 
-  pub removable-laid : (ks : List ℕ) → length ks ≤ limit → removedRows (stored n ns s .rec) (stored n ns s .slice) ks ≡ carriedOut s (rowsIn ns ks)
+  pub removed-stored : (ks : List ℕ) → length ks ≤ limit → removedRows (stored n ns s .rec) (stored n ns s .slice) ks ≡ carriedOut s (rowsIn ns ks)
   unfolding removedRows
-  removable-laid ks h =
-      rw (input-laid (length ks) h)
-      (sym (agree-taken s (stateOf (stored n ns s .rec) (stored n ns s .slice)) (rowsOf (stored n ns s .rec) ks) view-laid) ∙ ap (λ (ms : List ℕ). carriedOut s (rowsIn ms ks)) numbers-laid)
+  removed-stored ks h =
+      rw (input-stored (length ks) h)
+      (sym (agree-taken s (stateOf (stored n ns s .rec) (stored n ns s .slice)) (rowsOf (stored n ns s .rec) ks) state-stored) ∙ ap (λ (ms : List ℕ). carriedOut s (rowsIn ms ks)) numbers-stored)
 
-  pub refusal-laid : (ks : List ℕ) → length ks ≤ limit → removalsRefusal (stored n ns s .rec) (stored n ns s .slice) ks ≡ stoppedBy s (rowsIn ns ks)
+  pub refusal-stored : (ks : List ℕ) → length ks ≤ limit → removalsRefusal (stored n ns s .rec) (stored n ns s .slice) ks ≡ stoppedBy s (rowsIn ns ks)
   unfolding removalsRefusal
-  refusal-laid ks h =
-      rw (input-laid (length ks) h)
-      (sym (agree-stop s (stateOf (stored n ns s .rec) (stored n ns s .slice)) (rowsOf (stored n ns s .rec) ks) view-laid) ∙ ap (λ (ms : List ℕ). stoppedBy s (rowsIn ms ks)) numbers-laid)
+  refusal-stored ks h =
+      rw (input-stored (length ks) h)
+      (sym (agree-stop s (stateOf (stored n ns s .rec) (stored n ns s .slice)) (rowsOf (stored n ns s .rec) ks) state-stored) ∙ ap (λ (ms : List ℕ). stoppedBy s (rowsIn ms ks)) numbers-stored)
 
-  pub leaves-laid : (ks : List ℕ) → Accepted s ks → leaves (stored n ns s .rec) (stored n ns s .slice) ks ≡ stored n ns (eliminate s ks)
+  pub leaves-stored : (ks : List ℕ) → Accepted s ks → leaves (stored n ns s .rec) (stored n ns s .slice) ks ≡ stored n ns (eliminate s ks)
   unfolding leaves stored
-  leaves-laid [] ok = unfold eliminate in refl
-  leaves-laid (k ∷ ks) ok =
+  leaves-stored [] ok = unfold eliminate in refl
+  leaves-stored (k ∷ ks) ok =
       ap (λ (ms : List ℕ). stored n ms (eliminate (stateOf (stored n ns s .rec) (stored n ns s .slice)) (k ∷ ks))) (numbers-recordOf n ns (s .active) many)
-      ∙ sym (agree-laid n ns (agree-eliminate s (stateOf (stored n ns s .rec) (stored n ns s .slice)) (k ∷ ks) view-laid ok))
+      ∙ sym (agree-stored n ns (agree-eliminate s (stateOf (stored n ns s .rec) (stored n ns s .slice)) (k ∷ ks) state-stored ok))
 
 or-true : (b : Bool) → (b || true) ≡ true
 or-true true = refl

@@ -8,7 +8,7 @@ use Rattle.refusals.specs.declared.Outcome.the-variants.{Done, Refused}
 use Rattle.lists.specs.Buses.{mem}
 use Rattle.kron_reduction.specs.declared.KronReducer.{KronReducer}
 use Rattle.kron_reduction.specs.Reducer.{reducerInputOf, afterNew, afterBus, ReducerState, reducerStateOf}
-use Rattle.claims.specs.Accounts.{bus, stepHeld, leftFrom}
+use Rattle.claims.specs.Accounts.{bus, afterCall, leftFrom}
 use Rattle.text_numbers.specs.declared.Number.{Number}
 use Rattle.text_numbers.specs.declared.Number.the-variants.{Is, Not}
 use Rattle.reduce_text.specs.declared.text.Entry.{Entry}
@@ -53,7 +53,7 @@ module _ (p : ℕ) (r : KronReducer) (ys : List Float) (l : Bytes) (ls : List By
   Line R w = (heldOf R ≡ leftFrom (reducerStateOf r ys) (map bus (busIn w ++ dropped ls))) × (length (map bus (busIn w ++ dropped ls)) ≡ suc (length ls))
 
   after : (k : ℕ) (o : Outcome) → let R = onOutcome o k (afterBus r ys k .out .rec) (afterBus r ys k .slice) next in endOf R ≡ Kept → Line R (Is k)
-  unfolding leftFrom stepHeld callsOf
+  unfolding leftFrom afterCall callsOf
   after k Done h = let c = rest (afterBus r ys k .out .rec) (afterBus r ys k .slice) h in (c .ends, ap suc (c .all-lines))
   after k (Refused f) h = absurd (at-end (RefusedDrop f k) h)
 

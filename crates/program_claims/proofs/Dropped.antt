@@ -6,7 +6,7 @@ use Rattle.refusals.specs.Refusals.{outcome}
 use Rattle.lists.specs.Buses.{place, rowsIn}
 use Rattle.kron_reduction.specs.Kron.{State, removalRefusal, carriedOut}
 use Rattle.kron_reduction.specs.Reducer.{ReducerInput, AcceptedMaking, afterNew, afterBus, ReducerState, reducerStateOf}
-use Rattle.claims.specs.Accounts.{Call, bus, stepHeld, leftFrom, left, Account, fresh, stateAfter, removes, step, accountFrom, account}
+use Rattle.claims.specs.Accounts.{Call, bus, afterCall, leftFrom, left, Account, fresh, stateAfter, removes, step, accountFrom, account}
 use Rattle.claims.proofs.Bridge.{account-numbers, answer-bus}
 use Rattle.text_numbers.specs.declared.Number.{Number}
 use Rattle.text_numbers.specs.declared.Number.the-variants.{Is, Not}
@@ -19,10 +19,10 @@ use Rattle.program_claims.proofs.Calls.{at-end, endOf}
 
 -- ---- one call more
 
-left-more : (h : ReducerState) (cs : List Call) (c : Call) → leftFrom h (cs ++ (c ∷ [])) ≡ stepHeld (leftFrom h cs) c
+left-more : (h : ReducerState) (cs : List Call) (c : Call) → leftFrom h (cs ++ (c ∷ [])) ≡ afterCall (leftFrom h cs) c
 unfolding leftFrom
 left-more h [] c = refl
-left-more h (d ∷ cs) c = left-more (stepHeld h d) cs c
+left-more h (d ∷ cs) c = left-more (afterCall h d) cs c
 
 account-more : (a : Account) (cs : List Call) (c : Call) → accountFrom a (cs ++ (c ∷ [])) ≡ step (accountFrom a cs) c
 unfolding accountFrom
@@ -62,7 +62,7 @@ module _ (M : ReducerInput) (made : AcceptedMaking M) where
 
     after : (k : ℕ) (o : Outcome) → afterBus (x .rec) (x .slice) k .out .answer ≡ o
         → endOf (onOutcome o k (afterBus (x .rec) (x .slice) k .out .rec) (afterBus (x .rec) (x .slice) k .slice) (λ r ys. drops finish (p + 1) r ys ls)) ≡ Kept → Removes cs (k ∷ dropped ls)
-    unfolding left stepHeld rowsIn
+    unfolding left afterCall rowsIn
     after k Done e h =
         ap (λ (ds : List Call). account M ds .removed) (sym (append-assoc cs (bus k ∷ []) (map bus (dropped ls))))
         ∙ rest k (subst (λ (y : ReducerState). endOf (drops finish (p + 1) (y .rec) (y .slice) ls) ≡ Kept) (sym (left-more (reducerStateOf (afterNew M .rec) (M .given)) cs (bus k))) h)

@@ -12,7 +12,7 @@ use Rattle.kron_reduction.specs.Reading.{activeNumbers}
 use Rattle.kron_reduction.proofs.States.{Regular, regular-start, regular-eliminate, taken-accepted}
 use Rattle.lists.proofs.Naming.{repeats-more}
 use Rattle.kron_reduction.proofs.Making.{making-none}
-use Rattle.kron_reduction.proofs.Reducer.{sound-recordOf, active-room, length-laid, laidOut-all, removable-laid, leaves-laid}
+use Rattle.kron_reduction.proofs.Reducer.{sound-recordOf, active-room, length-stored, rowMajor-all, removed-stored, leaves-stored}
 use Rattle.text_numbers.specs.declared.Number.{Number}
 use Rattle.text_numbers.specs.declared.Number.the-variants.{Is, Not}
 use Rattle.reduce_text.specs.declared.text.Entry.{Entry}
@@ -72,12 +72,12 @@ names-more k ns b h l m = record {
 
 -- ---- record and matrix are the layout of a state
 
-pub record Laid (n : ℕ) (ns : List ℕ) (r : KronReducer) (ys : List Float) : Type 0 where
+pub record StoredRun (n : ℕ) (ns : List ℕ) (r : KronReducer) (ys : List Float) : Type 0 where
   pub state : State
   pub small : n ≤ most
   pub names : Names n ns
   pub regular : Regular n state
-  pub laid-is : reducerStateOf r ys ≡ stored n ns state
+  pub stored-is : reducerStateOf r ys ≡ stored n ns state
 
 pub making-accepted : (n : ℕ) (ns : List ℕ) (ys : List Float) → n ≤ most → Names n ns → length ys ≡ 2 * (n * n) → makingRefusal (reducerInputOf n ys ns) ≡ 0
 making-accepted n ns ys h m e =
@@ -85,13 +85,13 @@ making-accepted n ns ys h m e =
 
 pub fresh : (n : ℕ) (ns : List ℕ) (ys : List Float) → n ≤ most → Names n ns → length ys ≡ 2 * (n * n) → reducerStateOf (afterNew (reducerInputOf n ys ns) .rec) ys ≡ stored n ns (start n (entryAt n ys))
 unfolding afterNew stored
-fresh n ns ys h m e = rw (making-accepted n ns ys h m e, laidOut-all n ys e)
+fresh n ns ys h m e = rw (making-accepted n ns ys h m e, rowMajor-all n ys e)
 
-pub laid-new : (n : ℕ) (ns : List ℕ) (ys : List Float) → n ≤ most → Names n ns → length ys ≡ 2 * (n * n) → Laid n ns (afterNew (reducerInputOf n ys ns) .rec) ys
-laid-new n ns ys h m e =
-    record { state = start n (entryAt n ys); small = h; names = m; regular = regular-start n (entryAt n ys); laid-is = fresh n ns ys h m e }
+pub stored-new : (n : ℕ) (ns : List ℕ) (ys : List Float) → n ≤ most → Names n ns → length ys ≡ 2 * (n * n) → StoredRun n ns (afterNew (reducerInputOf n ys ns) .rec) ys
+stored-new n ns ys h m e =
+    record { state = start n (entryAt n ys); small = h; names = m; regular = regular-start n (entryAt n ys); stored-is = fresh n ns ys h m e }
 
-module _ (n : ℕ) (ns : List ℕ) (r : KronReducer) (ys : List Float) (k : ℕ) (h : Laid n ns r ys) where
+module _ (n : ℕ) (ns : List ℕ) (r : KronReducer) (ys : List Float) (k : ℕ) (h : StoredRun n ns r ys) where
   abbrev pub within : n ≤ limit
   within = le-trans (h .small) most-limit
 
@@ -104,17 +104,17 @@ module _ (n : ℕ) (ns : List ℕ) (r : KronReducer) (ys : List Float) (k : ℕ)
   left-is =
       let s = h .state in
       let ts = carriedOut s (rowsIn ns (k ∷ [])) in
-      ap (λ (x : ReducerState). leaves (x .rec) (x .slice) (removedRows (x .rec) (x .slice) (k ∷ []))) (h .laid-is)
-      ∙ ap (leaves (stored n ns s .rec) (stored n ns s .slice)) (removable-laid n ns s within (h .names .many) (h .names .distinct) (h .regular) (k ∷ []) (lit≤ tt))
-      ∙ leaves-laid n ns s within (h .names .many) (h .names .distinct) (h .regular) ts (taken-accepted s (rowsIn ns (k ∷ [])))
+      ap (λ (x : ReducerState). leaves (x .rec) (x .slice) (removedRows (x .rec) (x .slice) (k ∷ []))) (h .stored-is)
+      ∙ ap (leaves (stored n ns s .rec) (stored n ns s .slice)) (removed-stored n ns s within (h .names .many) (h .names .distinct) (h .regular) (k ∷ []) (lit≤ tt))
+      ∙ leaves-stored n ns s within (h .names .many) (h .names .distinct) (h .regular) ts (taken-accepted s (rowsIn ns (k ∷ [])))
 
-  pub laid-bus : Laid n ns (afterBus r ys k .out .rec) (afterBus r ys k .slice)
-  laid-bus = record {
+  pub stored-bus : StoredRun n ns (afterBus r ys k .out .rec) (afterBus r ys k .slice)
+  stored-bus = record {
     state = left;
     small = h .small;
     names = h .names;
     regular = regular-eliminate n (h .state) (carriedOut (h .state) (rowsIn ns (k ∷ []))) (h .regular);
-    laid-is = left-is;
+    stored-is = left-is;
   }
 
 -- ---- a sound record of few buses, their numbers below 2^32, and the entries between them are there
@@ -132,15 +132,15 @@ none-sound = sound-recordOf 0 [] [] (omega arith) (unfold rising in tt) (unfold 
 pub fit-none : (ys : List Float) → Fit noReducer ys
 fit-none ys = record { size = omega arith; is-sound = none-sound; few = omega arith; entries = omega arith; below = λ i. lit≤ tt }
 
-pub fit-laid : (n : ℕ) (ns : List ℕ) (r : KronReducer) (ys : List Float) → Laid n ns r ys → Fit r ys
+pub fit-stored : (n : ℕ) (ns : List ℕ) (r : KronReducer) (ys : List Float) → StoredRun n ns r ys → Fit r ys
 unfolding stored
-fit-laid n ns r ys h =
+fit-stored n ns r ys h =
     let s = h .state in
     let small′ = le-trans (h .small) most-limit in
     let m = h .names in
     let room : length (s .active) ≤ n = active-room n ns s small′ (m .many) (m .distinct) (h .regular) in
-    let rec : r ≡ recordOf n ns (s .active) = ap (λ (x : ReducerState). x .rec) (h .laid-is) in
-    let len : length ys ≡ 2 * (n * n) = ap (λ (x : ReducerState). length (x .slice)) (h .laid-is) ∙ length-laid n ns s small′ (m .many) (m .distinct) (h .regular) in
+    let rec : r ≡ recordOf n ns (s .active) = ap (λ (x : ReducerState). x .rec) (h .stored-is) in
+    let len : length ys ≡ 2 * (n * n) = ap (λ (x : ReducerState). length (x .slice)) (h .stored-is) ∙ length-stored n ns s small′ (m .many) (m .distinct) (h .regular) in
     rw rec
     (record {
       size = h .small;
@@ -157,34 +157,34 @@ FitRun R = Fit (R .reading .rec) (R .numbers)
 
 -- what follows the lines that are read
 abbrev pub FitOnward : ℕ → List ℕ → Onward → Type 0
-FitOnward n ns go = (p : ℕ) (r : KronReducer) (ys : List Float) (ls : List Bytes) → Laid n ns r ys → FitRun (go p r ys ls)
+FitOnward n ns go = (p : ℕ) (r : KronReducer) (ys : List Float) (ls : List Bytes) → StoredRun n ns r ys → FitRun (go p r ys ls)
 
 pub finish-fit : (n : ℕ) (ns : List ℕ) → FitOnward n ns finish
 unfolding finish
-finish-fit n ns p r ys [] h = fit-laid n ns r ys h
-finish-fit n ns p r ys (l ∷ ls) h = fit-laid n ns r ys h
+finish-fit n ns p r ys [] h = fit-stored n ns r ys h
+finish-fit n ns p r ys (l ∷ ls) h = fit-stored n ns r ys h
 
 pub drops-fit : (n : ℕ) (ns : List ℕ) → FitOnward n ns (drops finish)
 unfolding drops
 drops-fit n ns p r ys [] h = finish-fit n ns p r ys [] h
 drops-fit n ns p r ys (l ∷ ls) h = number (dropOf l) (λ r′ ys′ h′. drops-fit n ns (p + 1) r′ ys′ ls h′)
   where
-    outcome : (o : Outcome) (k : ℕ) (r′ : KronReducer) (ys′ : List Float) → Laid n ns r′ ys′
-        → ((r″ : KronReducer) (ys″ : List Float) → Laid n ns r″ ys″ → FitRun (drops finish (p + 1) r″ ys″ ls))
+    outcome : (o : Outcome) (k : ℕ) (r′ : KronReducer) (ys′ : List Float) → StoredRun n ns r′ ys′
+        → ((r″ : KronReducer) (ys″ : List Float) → StoredRun n ns r″ ys″ → FitRun (drops finish (p + 1) r″ ys″ ls))
         → FitRun (onOutcome o k r′ ys′ (λ r″ ys″. drops finish (p + 1) r″ ys″ ls))
     outcome Done k r′ ys′ h′ f = f r′ ys′ h′
-    outcome (Refused x) k r′ ys′ h′ f = fit-laid n ns r′ ys′ h′
+    outcome (Refused x) k r′ ys′ h′ f = fit-stored n ns r′ ys′ h′
 
-    number : (w : Number) → ((r″ : KronReducer) (ys″ : List Float) → Laid n ns r″ ys″ → FitRun (drops finish (p + 1) r″ ys″ ls))
+    number : (w : Number) → ((r″ : KronReducer) (ys″ : List Float) → StoredRun n ns r″ ys″ → FitRun (drops finish (p + 1) r″ ys″ ls))
         → FitRun (onNumber w (λ k. afterDrop k (afterBus r ys k) (λ r′ ys′. drops finish (p + 1) r′ ys′ ls)) (finish p r ys (l ∷ ls)))
     number (Is k) f =
-        outcome (afterBus r ys k .out .answer) k (afterBus r ys k .out .rec) (afterBus r ys k .slice) (laid-bus n ns r ys k h) f
+        outcome (afterBus r ys k .out .answer) k (afterBus r ys k .out .rec) (afterBus r ys k .slice) (stored-bus n ns r ys k h) f
     number Not f = finish-fit n ns p r ys (l ∷ ls) h
 
 pub entries-fit : (n : ℕ) (ns : List ℕ) (k p : ℕ) (ys : List Float) (ls : List Bytes) → n ≤ most → Names n ns → length ys + 2 * k ≡ 2 * (n * n)
     → FitRun (entries (drops finish) n ns k p ys ls)
 unfolding entries
-entries-fit n ns zero p ys ls h m e = drops-fit n ns p (afterNew (reducerInputOf n ys ns) .rec) ys ls (laid-new n ns ys h m (omega arith))
+entries-fit n ns zero p ys ls h m e = drops-fit n ns p (afterNew (reducerInputOf n ys ns) .rec) ys ls (stored-new n ns ys h m (omega arith))
 entries-fit n ns (suc k) p ys [] h m e = fit-none ys
 entries-fit n ns (suc k) p ys (l ∷ ls) h m e = found (entryOf l) (λ zs f. entries-fit n ns k (p + 1) zs ls h m f)
   where

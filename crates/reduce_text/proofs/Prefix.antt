@@ -12,7 +12,7 @@ use Rattle.kron_reduction.specs.Kron.{State, accepts, removalRefusal, eliminate
 use Rattle.kron_reduction.specs.Reducer.{reducerInputOf, removalsRefusal, afterNew, afterBus, ReducerState, stored}
 use Rattle.lists.proofs.Buses.{others-one, place-lt}
 use Rattle.kron_reduction.proofs.States.{Regular, accepted-active, eliminate-active}
-use Rattle.kron_reduction.proofs.Reducer.{refusal-laid}
+use Rattle.kron_reduction.proofs.Reducer.{refusal-stored}
 use Rattle.text_numbers.specs.declared.Number.{Number}
 use Rattle.text_numbers.specs.declared.Number.the-variants.{Is, Not}
 use Rattle.reduce_text.specs.declared.text.Entry.{Entry}
@@ -28,7 +28,7 @@ use Rattle.reduce_text.proofs.LineLaws.{span-le, entry-length}
 use Rattle.reduce_text.proofs.ReadLaws.{first-and-rest, entry-33}
 use Rattle.reduce_text.proofs.NumberSizes.{number-size, number-below, number-long, word-size, word-long}
 use Rattle.reduce_text.proofs.Cutting.{firstLine, behind, cut-same, cut-long}
-use Rattle.reduce_text.proofs.Fit.{Names, names-none, names-more, Laid, laid-new, fresh, within, left-is, laid-bus}
+use Rattle.reduce_text.proofs.Fit.{Names, names-none, names-more, StoredRun, stored-new, fresh, within, left-is, stored-bus}
 
 -- ---- a drop that is carried out: one bus fewer is left
 
@@ -60,7 +60,7 @@ length-less i s n g m =
     omega
     (arith, ap length (others-one i xs (g .rises) m), length-append (take p xs) (drop (suc p) xs), length-take-le p xs (omega arith), length-drop (suc p) xs)
 
-module _ (n : ℕ) (ns : List ℕ) (r : KronReducer) (ys : List Float) (k : ℕ) (h : Laid n ns r ys) (e : afterBus r ys k .out .answer ≡ Done) where
+module _ (n : ℕ) (ns : List ℕ) (r : KronReducer) (ys : List Float) (k : ℕ) (h : StoredRun n ns r ys) (e : afterBus r ys k .out .answer ≡ Done) where
   no-refusal : removalsRefusal r ys (k ∷ []) ≡ 0
   unfolding afterBus
   no-refusal = outcome-done (removalsRefusal r ys (k ∷ [])) e
@@ -69,8 +69,8 @@ module _ (n : ℕ) (ns : List ℕ) (r : KronReducer) (ys : List Float) (k : ℕ)
   unfolding rowsIn
   accepted =
       stop-accepts (h .state) (place k ns)
-      (sym (refusal-laid n ns (h .state) (within n ns r ys k h) (h .names .many) (h .names .distinct) (h .regular) (k ∷ []) (lit≤ tt))
-      ∙ sym (ap (λ (x : ReducerState). removalsRefusal (x .rec) (x .slice) (k ∷ [])) (h .laid-is))
+      (sym (refusal-stored n ns (h .state) (within n ns r ys k h) (h .names .many) (h .names .distinct) (h .regular) (k ∷ []) (lit≤ tt))
+      ∙ sym (ap (λ (x : ReducerState). removalsRefusal (x .rec) (x .slice) (k ∷ [])) (h .stored-is))
       ∙ no-refusal)
 
   pub bus-fewer : afterBus r ys k .out .rec .«n_buses» < r .«n_buses»
@@ -79,7 +79,7 @@ module _ (n : ℕ) (ns : List ℕ) (r : KronReducer) (ys : List Float) (k : ℕ)
       let s = h .state in
       let i = place k ns in
       omega
-      (arith, ap (λ (x : ReducerState). x .rec .«n_buses») (left-is n ns r ys k h), ap (λ (x : ReducerState). x .rec .«n_buses») (h .laid-is), ap (λ (ks : List ℕ). length (eliminate s ks .active)) (taken-one s i accepted), ap length (eliminate-active s (i ∷ [])), length-less i s n (h .regular) (accepted-active s i accepted))
+      (arith, ap (λ (x : ReducerState). x .rec .«n_buses») (left-is n ns r ys k h), ap (λ (x : ReducerState). x .rec .«n_buses») (h .stored-is), ap (λ (ks : List ℕ). length (eliminate s ks .active)) (taken-one s i accepted), ap length (eliminate-active s (i ∷ [])), length-less i s n (h .regular) (accepted-active s i accepted))
 
 -- ---- the drop lines
 
@@ -90,8 +90,8 @@ enough c m = 16 * c + 34 ≤ m
 abbrev Same : ℕ → KronReducer → List Float → Bytes → ℕ → Type 0
 Same p r ys d m = drops finish p r ys (lines d) ≡ drops finish p r ys (lines (take m d))
 
-module _ (n : ℕ) (ns : List ℕ) (p : ℕ) (r : KronReducer) (ys : List Float) (h : Laid n ns r ys)
-    (rest : (r′ : KronReducer) (ys′ : List Float) (d : Bytes) (m : ℕ) → Laid n ns r′ ys′ → r′ .«n_buses» < r .«n_buses» → enough (r′ .«n_buses») m → Same (p + 1) r′ ys′ d m) where
+module _ (n : ℕ) (ns : List ℕ) (p : ℕ) (r : KronReducer) (ys : List Float) (h : StoredRun n ns r ys)
+    (rest : (r′ : KronReducer) (ys′ : List Float) (d : Bytes) (m : ℕ) → StoredRun n ns r′ ys′ → r′ .«n_buses» < r .«n_buses» → enough (r′ .«n_buses») m → Same (p + 1) r′ ys′ d m) where
   -- a line within the cut
   short : (d : Bytes) (m : ℕ) → 0 < length d → span d < 34 → enough (r .«n_buses») m → Same p r ys d m
   unfolding drops finish
@@ -112,7 +112,7 @@ module _ (n : ℕ) (ns : List ℕ) (p : ℕ) (r : KronReducer) (ys : List Float)
       done k e Done a =
           let fewer : afterBus r ys k .out .rec .«n_buses» < r .«n_buses» = bus-fewer n ns r ys k h a in
           let size : length (firstLine d) ≤ 15 = number-size (ascii "drop ") (firstLine d) k 10 e (le-trans (number-below (ascii "drop ") (firstLine d) k e) (lit≤ tt)) (lit≤ tt) in
-          rest (afterBus r ys k .out .rec) (afterBus r ys k .slice) (behind d) (m - suc (span d)) (laid-bus n ns r ys k h) fewer
+          rest (afterBus r ys k .out .rec) (afterBus r ys k .slice) (behind d) (m - suc (span d)) (stored-bus n ns r ys k h) fewer
           (omega (arith, length-take (span d) d, span-le d, size, fewer, room))
       done k e (Refused f) a = refl
 
@@ -139,7 +139,7 @@ module _ (n : ℕ) (ns : List ℕ) (p : ℕ) (r : KronReducer) (ys : List Float)
       go (yes l) = short (b ∷ bs) m (omega arith) l room
       go (no l) = long (b ∷ bs) m (omega arith) room
 
-pub drops-cut : (c n : ℕ) (ns : List ℕ) (p : ℕ) (r : KronReducer) (ys : List Float) (d : Bytes) (m : ℕ) → Laid n ns r ys → r .«n_buses» ≤ c → enough (r .«n_buses») m → Same p r ys d m
+pub drops-cut : (c n : ℕ) (ns : List ℕ) (p : ℕ) (r : KronReducer) (ys : List Float) (d : Bytes) (m : ℕ) → StoredRun n ns r ys → r .«n_buses» ≤ c → enough (r .«n_buses») m → Same p r ys d m
 drops-cut zero n ns p r ys d m h few room = one-line n ns p r ys h (λ r′ ys′ d′ m′ h′ l e. absurd (omega arith)) d m room
 drops-cut (suc c) n ns p r ys d m h few room =
     one-line n ns p r ys h (λ r′ ys′ d′ m′ h′ l e. drops-cut c n ns (p + 1) r′ ys′ d′ m′ h′ (omega arith) e) d m room
@@ -191,7 +191,7 @@ pub entries-cut : (n : ℕ) (ns : List ℕ) (k p : ℕ) (ys : List Float) (d : B
 unfolding entries
 entries-cut n ns zero p ys d m h g e room =
     let b : afterNew (reducerInputOf n ys ns) .rec .«n_buses» ≡ n = made-buses n ns ys h g (omega arith) in
-    drops-cut n n ns p (afterNew (reducerInputOf n ys ns) .rec) ys d m (laid-new n ns ys h g (omega arith)) (omega arith) (omega arith)
+    drops-cut n n ns p (afterNew (reducerInputOf n ys ns) .rec) ys d m (stored-new n ns ys h g (omega arith)) (omega arith) (omega arith)
 entries-cut n ns (suc k) p ys d m h g e room = one-entry n ns k p ys (λ zs d′ m′ e′ room′. entries-cut n ns k (p + 1) zs d′ m′ h g e′ room′) d m e room
 
 -- ---- the number lines

@@ -210,18 +210,18 @@ module _ {E : Type 0} (O : Operations E) where
   unfolding singularSystem
   singular-system n A B s = run-same n n (omega arith) A B s .singular
 
-  pub beside-system : (n : ℕ) (A B : MatrixOf E) (i j : ℕ) → j < n → augmented O n A B i j ≡ A i j
+  pub augmented-system : (n : ℕ) (A B : MatrixOf E) (i j : ℕ) → j < n → augmented O n A B i j ≡ A i j
   unfolding augmented
-  beside-system n A B i j h = rw (lt-ltb j n h)
+  augmented-system n A B i j h = rw (lt-ltb j n h)
 
-  pub beside-right : (n : ℕ) (A B : MatrixOf E) (i c : ℕ) → augmented O n A B i (n + c) ≡ B i c
+  pub augmented-right : (n : ℕ) (A B : MatrixOf E) (i c : ℕ) → augmented O n A B i (n + c) ≡ B i c
   unfolding augmented
-  beside-right n A B i c =
+  augmented-right n A B i c =
       let e : n + c - n ≡ c = omega arith in
       rw (le-ltb (n + c) n (omega arith), e)
 
-  pub beside-singular : (n : ℕ) (A B : MatrixOf E) → gaussJordan O n (augmented O n A B) .singular ≡ singularSystem O n A
-  beside-singular n A B = singular-system n (augmented O n A B) A (λ (i j : ℕ) (h : i < n) (k : j < n). beside-system n A B i j k)
+  pub augmented-singular : (n : ℕ) (A B : MatrixOf E) → gaussJordan O n (augmented O n A B) .singular ≡ singularSystem O n A
+  augmented-singular n A B = singular-system n (augmented O n A B) A (λ (i j : ℕ) (h : i < n) (k : j < n). augmented-system n A B i j k)
 
   -- the columns of one system: the system's, and right side c
   abbrev alone : ℕ → ℕ → ℕ → ℕ
@@ -240,9 +240,9 @@ module _ {E : Type 0} (O : Operations E) where
       pick (inl e) =
           let z : n + 0 ≡ j = omega arith in
           let f : alone n c j ≡ n + c = ap (alone n c) e ∙ alone-right n c in
-          ap (augmented O n A (λ (r k : ℕ). B r c) i) (sym z) ∙ beside-right n A (λ (r k : ℕ). B r c) i 0 ∙ sym (beside-right n A B i c) ∙ ap (augmented O n A B i) (sym f)
+          ap (augmented O n A (λ (r k : ℕ). B r c) i) (sym z) ∙ augmented-right n A (λ (r k : ℕ). B r c) i 0 ∙ sym (augmented-right n A B i c) ∙ ap (augmented O n A B i) (sym f)
       pick (inr l) =
-          beside-system n A (λ (r k : ℕ). B r c) i j l ∙ sym (beside-system n A B i j l) ∙ ap (augmented O n A B i) (sym (alone-system n c j l))
+          augmented-system n A (λ (r k : ℕ). B r c) i j l ∙ sym (augmented-system n A B i j l) ∙ ap (augmented O n A B i) (sym (alone-system n c j l))
 
   pub column-alone : (n : ℕ) (A B : MatrixOf E) (i c : ℕ) → i < n → gaussJordan O n (augmented O n A B) .left i (n + c) ≡ solution O n A (λ (r : ℕ). B r c) i
   unfolding solution

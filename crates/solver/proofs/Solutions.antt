@@ -9,7 +9,7 @@ use Rattle.lists.proofs.Order.{lt-or-ge}
 use Rattle.solver.specs.GaussJordan.{gaussJordan, augmented, solution, singularSystem}
 use Rattle.solver.specs.Solving.{operations, unitColumn}
 use Rattle.solver.specs.Inner.Work.{placed, rightSides, withIdentity}
-use Rattle.solver.proofs.GaussJordan.{run-same, beside-singular, beside-system, beside-right, column-alone}
+use Rattle.solver.proofs.GaussJordan.{run-same, augmented-singular, augmented-system, augmented-right, column-alone}
 use Rattle.solver.proofs.BlockParts.{placed-in, placed-left, placed-right}
 
 -- ---- an eliminated slice
@@ -17,7 +17,7 @@ use Rattle.solver.proofs.BlockParts.{placed-in, placed-left, placed-rig
 module _ (n m : ℕ) (A B : Matrix) (ys zs : List Float)
     (filled : (i j : ℕ) → i < n → j < n + m → entryAt (n + m) ys i j ≡ augmented operations n A B i j) where
   pub singular-is : gaussJordan operations n (entryAt (n + m) ys) .singular ≡ singularSystem operations n A
-  singular-is = run-same operations n (n + m) (omega arith) (entryAt (n + m) ys) (augmented operations n A B) filled .singular ∙ beside-singular operations n A B
+  singular-is = run-same operations n (n + m) (omega arith) (entryAt (n + m) ys) (augmented operations n A B) filled .singular ∙ augmented-singular operations n A B
 
   pub solution-is : zs ≡ grid n (n + m) (gaussJordan operations n (entryAt (n + m) ys) .left) → (i c : ℕ) → i < n → c < m
       → rightSides n (entryAt (n + m) zs) i c ≡ solution operations n A (λ (r : ℕ). B r c) i
@@ -46,12 +46,12 @@ system-filled n A W b i j h = pick (lt-or-ge j n)
     pick : (j < n) ⊎ (n ≤ j) → placed n 1 (entryAt 1 b) (placed 0 n A W) i j ≡ augmented operations n A (λ (r k : ℕ). entry b r) i j
     pick (inl l) =
         placed-left n 1 (entryAt 1 b) (placed 0 n A W) i j l ∙ first-columns n A W i j l
-        ∙ sym (beside-system operations n A (λ (r k : ℕ). entry b r) i j l)
+        ∙ sym (augmented-system operations n A (λ (r k : ℕ). entry b r) i j l)
     pick (inr l) =
         let none : j - n ≡ 0 = omega arith in
         let at : n + 0 ≡ j = omega arith in
         placed-in n 1 (entryAt 1 b) (placed 0 n A W) i j l h ∙ ap (entryAt 1 b i) none ∙ entry-one b i
-        ∙ sym (beside-right operations n A (λ (r k : ℕ). entry b r) i 0) ∙ ap (augmented operations n A (λ (r k : ℕ). entry b r) i) at
+        ∙ sym (augmented-right operations n A (λ (r k : ℕ). entry b r) i 0) ∙ ap (augmented operations n A (λ (r k : ℕ). entry b r) i) at
 
 -- a cleared slice has (0, 0) everywhere
 zero-entry : (n w long i j : ℕ) → long ≡ 2 * (n * w) → i < n → j < w → entryAt w (zeros long) i j ≡ record { re = plus0; im = plus0 }
@@ -72,11 +72,11 @@ identity-filled n long A e i j h k = pick (lt-or-ge j n)
     pick (inl l) =
         ap (λ (b : Bool). cond b unit (placed 0 n A (entryAt (n + n) (zeros long)) i j)) (ne-eqb j (n + i) (λ (x : j ≡ n + i). omega arith))
         ∙ first-columns n A (entryAt (n + n) (zeros long)) i j l
-        ∙ sym (beside-system operations n A (λ (r k : ℕ). unitColumn k r) i j l)
+        ∙ sym (augmented-system operations n A (λ (r k : ℕ). unitColumn k r) i j l)
     pick (inr l) =
         let at : n + (j - n) ≡ j = omega arith in
         one (eqb i (j - n)) refl
-        ∙ sym (beside-right operations n A (λ (r k : ℕ). unitColumn k r) i (j - n)) ∙ ap (augmented operations n A (λ (r k : ℕ). unitColumn k r) i) at
+        ∙ sym (augmented-right operations n A (λ (r k : ℕ). unitColumn k r) i (j - n)) ∙ ap (augmented operations n A (λ (r k : ℕ). unitColumn k r) i) at
       where
         zeroes : placed 0 n A (entryAt (n + n) (zeros long)) i j ≡ record { re = plus0; im = plus0 }
         zeroes = placed-right 0 n A (entryAt (n + n) (zeros long)) i j (omega arith) ∙ zero-entry n (n + n) long i j e h k

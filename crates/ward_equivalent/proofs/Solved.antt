@@ -4,7 +4,7 @@ use Rattle.complex.specs.{Complex, cadd, cmul, Matrix, entryAt, grid}
 use Rattle.complex.proofs.Matrices.{entry-grid}
 use Rattle.solver.specs.GaussJordan.{gaussJordan, augmented, solution, singularSystem}
 use Rattle.solver.specs.Solving.{operations, isSingular}
-use Rattle.solver.proofs.GaussJordan.{run-same, singular-system, beside-system, beside-right, column-alone}
+use Rattle.solver.proofs.GaussJordan.{run-same, singular-system, augmented-system, augmented-right, column-alone}
 use Rattle.lists.specs.Buses.{allBelow}
 use Rattle.lists.proofs.Order.{lt-or-ge}
 use Rattle.ward_equivalent.specs.Arithmetic.{sumUp, current}
@@ -71,11 +71,11 @@ module _ (n : ℕ) (ys : List Float) (bs : List ℕ) (e f : ℕ) (base : Float) 
       behind c q (inr m) = rw (le-ltb j (length bs) (omega arith), le-ltb c (length bs - e) m)
 
       pick : (j < e) ⊎ (e ≤ j) → workMatrix n ys bs base ps qs k j ≡ augmented operations e (yEE (cut n ys bs e f base ps qs)) (rights n ys bs e base ps qs) k j
-      pick (inl m) = in-system m ∙ sym (beside-system operations e (yEE (cut n ys bs e f base ps qs)) (rights n ys bs e base ps qs) k j m)
+      pick (inl m) = in-system m ∙ sym (augmented-system operations e (yEE (cut n ys bs e f base ps qs)) (rights n ys bs e base ps qs) k j m)
       pick (inr m) =
           let q : j ≡ e + (j - e) = omega arith in
           behind (j - e) q (lt-or-ge (j - e) (length bs - e))
-          ∙ sym (beside-right operations e (yEE (cut n ys bs e f base ps qs)) (rights n ys bs e base ps qs) k (j - e))
+          ∙ sym (augmented-right operations e (yEE (cut n ys bs e f base ps qs)) (rights n ys bs e base ps qs) k (j - e))
           ∙ ap (augmented operations e (yEE (cut n ys bs e f base ps qs)) (rights n ys bs e base ps qs) k) (sym q)
 
   module _ (ws : List Float) (filled : (k j : ℕ) → k < e → j < length bs + 1 → entryAt (length bs + 1) ws k j ≡ workMatrix n ys bs base ps qs k j) where
@@ -85,7 +85,7 @@ module _ (n : ℕ) (ys : List Float) (bs : List ℕ) (e f : ℕ) (base : Float) 
         singular-system operations e (entryAt (length bs + 1) ws) (yEE (cut n ys bs e f base ps qs))
         (λ (i j : ℕ) (h : i < e) (k : j < e).
         filled i j h (omega arith) ∙ augmented-beside i j h (omega arith)
-        ∙ beside-system operations e (yEE (cut n ys bs e f base ps qs)) (rights n ys bs e base ps qs) i j k)
+        ∙ augmented-system operations e (yEE (cut n ys bs e f base ps qs)) (rights n ys bs e base ps qs) i j k)
         ∙ ap (λ (m : ℕ). singularSystem operations m (yEE (cut n ys bs e f base ps qs))) (sym count)
 
     -- column c behind the system's is the solve of right side c alone
@@ -106,10 +106,10 @@ module _ (n : ℕ) (ys : List Float) (bs : List ℕ) (e f : ℕ) (base : Float) 
 
     module _ (left : List Float) (reached : left ≡ grid e (length bs + 1) (gaussJordan operations e (entryAt (length bs + 1) ws) .left)) where
       -- the products with the columns of the retained buses, and with that of the currents
-      pub product-response : (i q : ℕ) → q < length bs - e
+      pub product-column : (i q : ℕ) → q < length bs - e
           → product n ys (take e bs) (length bs + 1) left i (length (take e bs) + q) ≡ rowTimes (cut n ys bs e f base ps qs) i (solvedColumn (cut n ys bs e f base ps qs) (getD bs (e + q) 0))
       unfolding productTo rowTimes admittance solvedColumn rights
-      product-response i q h =
+      product-column i q h =
           sum-same (length (take e bs)) (λ (k : ℕ). cmul (entryAt n ys i (getD (take e bs) k 0)) (entryAt (length bs + 1) left k (length (take e bs) + q)))
           (λ (k : ℕ). cmul (entryAt n ys i (getD (take e bs) k 0)) (solvedColumn (cut n ys bs e f base ps qs) (getD bs (e + q) 0) k))
           λ (k : ℕ) (l : k < length (take e bs)).
@@ -117,9 +117,9 @@ module _ (n : ℕ) (ys : List Float) (bs : List ℕ) (e f : ℕ) (base : Float) 
           (column-of left reached k q (rw count at l) (omega arith)
           ∙ ap (λ (b : Bool). solution operations (externals (cut n ys bs e f base ps qs)) (yEE (cut n ys bs e f base ps qs)) (λ (r : ℕ). cond b (entryAt n ys (getD (take e bs) r 0) (getD bs (e + q) 0)) (current base (getD ps r nan) (getD qs r nan))) k) (lt-ltb q (length bs - e) h))
 
-      pub product-driven : (i : ℕ) → product n ys (take e bs) (length bs + 1) left i (length bs) ≡ boundaryCurrent (cut n ys bs e f base ps qs) i
+      pub product-currents : (i : ℕ) → product n ys (take e bs) (length bs + 1) left i (length bs) ≡ boundaryCurrent (cut n ys bs e f base ps qs) i
       unfolding productTo boundaryCurrent rowTimes admittance solvedCurrents rights
-      product-driven i =
+      product-currents i =
           sum-same (length (take e bs)) (λ (k : ℕ). cmul (entryAt n ys i (getD (take e bs) k 0)) (entryAt (length bs + 1) left k (length bs)))
           (λ (k : ℕ). cmul (entryAt n ys i (getD (take e bs) k 0)) (solvedCurrents (cut n ys bs e f base ps qs) k))
           λ (k : ℕ) (l : k < length (take e bs)).

@@ -11,7 +11,7 @@ use Rattle.ward_equivalent.specs.Ward.{Study, Outputs, externals, retain
 use Rattle.ward_equivalent.specs.Inner.Work.{workMatrix, product, lessProduct}
 use Rattle.ward_equivalent.specs.Calls.{afterWard}
 use Rattle.ward_equivalent.specs.Inner.Steps.{cut, outputsFrom}
-use Rattle.ward_equivalent.proofs.Solved.{product-response, product-driven}
+use Rattle.ward_equivalent.proofs.Solved.{product-column, product-currents}
 
 -- ---- after 13, and with none
 
@@ -63,7 +63,7 @@ module _ (n : ℕ) (ys : List Float) (bs : List ℕ) (e f : ℕ) (base : Float) 
         let i = getD (drop e bs) p 0 in
         rw any
         (ap (csub (entryAt n ys i (getD (drop e bs) q 0)))
-        (product-response n ys bs e f base ps qs (omega arith) ws set left reached i q y
+        (product-column n ys bs e f base ps qs (omega arith) ws set left reached i q y
         ∙ ap (λ (j : ℕ). rowTimes (cut n ys bs e f base ps qs) i (solvedColumn (cut n ys bs e f base ps qs) j)) (sym (getD-drop e bs q 0))))
 
     matrix-ward : grid (length bs - e) (length bs - e) (λ (p : ℕ). lessProduct n ys (take e bs) (drop e bs) (length bs + 1) left (getD (drop e bs) p 0))
@@ -81,11 +81,11 @@ module _ (n : ℕ) (ys : List Float) (bs : List ℕ) (e f : ℕ) (base : Float) 
 
     active-ward : (i : ℕ) → injectedP base (product n ys (take e bs) (length bs + 1) left i (length bs)) ≡ injectionP (cut n ys bs e f base ps qs) i
     unfolding injectionP
-    active-ward i = rw any (ap (injectedP base) (product-driven n ys bs e f base ps qs (omega arith) ws set left reached i))
+    active-ward i = rw any (ap (injectedP base) (product-currents n ys bs e f base ps qs (omega arith) ws set left reached i))
 
     reactive-ward : (i : ℕ) → injectedQ base (product n ys (take e bs) (length bs + 1) left i (length bs)) ≡ injectionQ (cut n ys bs e f base ps qs) i
     unfolding injectionQ
-    reactive-ward i = rw any (ap (injectedQ base) (product-driven n ys bs e f base ps qs (omega arith) ws set left reached i))
+    reactive-ward i = rw any (ap (injectedQ base) (product-currents n ys bs e f base ps qs (omega arith) ws set left reached i))
 
     pub filled-ward : (us : List Float) → length left ≡ length us → outputsFrom n ys bs e f base left ≡ accepted (cut n ys bs e f base ps qs) us
     unfolding outputsFrom acceptedOutputs

@@ -82,9 +82,9 @@ not-above m d (fin true zero e) z = refl
 not-above m d (fin false zero e) z = ap (ltb (m * up d * down e)) (simp zero-mul) ∙ leb·suc-zero (m * up d * down e)
 
 -- nor above 1e-12
-pub weak-above : (x : Float) → Zero x → lt smallMagnitude x ≡ false
+pub none-above : (x : Float) → Zero x → lt smallMagnitude x ≡ false
 unfolding smallMagnitude ofBits
-weak-above x z = not-above 0x119799812dea11 (negsuc 91) x z
+none-above x z = not-above 0x119799812dea11 (negsuc 91) x z
 
 -- ---- lists of computed numbers
 

@@ -1,4 +1,5 @@
--- What the size and the lengths tell of a Ward study: 1, 2 or 3, else what comes after.
+-- What the size and the lengths tell of a Ward study: 1, 2 or 3, else what comes after. `Lengths` is the struct of src/lengths.rt: `size`
+-- in buses, every other field the length of the list or slice of its name.
 use Prim.Native.Nat.{ℕ, _+_, _*_}
 use mathlib.Core.Bool.{Bool, not, _||_}
 use lib.Dec.{eqb, ltb}

@@ -40,8 +40,8 @@ inRows N =
 
 -- ---- told from the input
 
--- A study without voltages answers no corrections and compensations. So its lengths have as many of the three as are asked for, by which it
--- is never refused.
+-- A study without voltages has neither corrections nor compensations. It is measured with as many voltages as external buses, and with as
+-- many corrections and compensations as boundary buses, so that these three tests refuse nothing.
 abbrev pub lengthsOf : NumberedStudy → Outputs → Lengths
 lengthsOf N o =
     let S = N .study in

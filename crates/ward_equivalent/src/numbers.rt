@@ -29,7 +29,7 @@ fn repeats(list: &[usize]) -> bool
 }
 
 // The rows of the external, the internal and the boundary buses one after the other, at the front of a longer list.
-fn laid(ns: &[u32], internal: &[u32], external: &[u32], boundary: &[u32], rows: &mut [usize])
+fn join_rows(ns: &[u32], internal: &[u32], external: &[u32], boundary: &[u32], rows: &mut [usize])
     requires { ⌜ length (now external) + (length (now internal) + length (now boundary)) ≤ length (now rows) ⌝ }
     ensures { λ _. ⌜
         take (length (now (external .entry)) + (length (now (internal .entry)) + length (now (boundary .entry)))) (now (rows .exit))
@@ -61,7 +61,7 @@ pub fn placed(
         × (r ≡ ward.busRefusal (now (ns .entry)) (now (external .entry) ++ (now (internal .entry) ++ now (boundary .entry))))
         ⌝ }
 {
-    laid(ns, internal, external, boundary, rows);
+    join_rows(ns, internal, external, boundary, rows);
     let k = external.len() + (internal.len() + boundary.len());
     if !all_below(ns.len(), &rows[0..k]) {
         return NO_SUCH_BUS;

@@ -9,12 +9,12 @@ use Rattle.binary64.proofs.RootNearest.{root-is, root-least}
 use Rattle.rei_equivalent.proofs.spokes.has_spoke.Statement.{statement}
 use Rattle.rei_equivalent.proofs.spokes.has_spoke.Tie as tie
 
-above-weak : (x r : Float) → NearestRoot x r → den x ≤ num x * 2 ^ 78 → lt smallMagnitude r ≡ true
+above-small-magnitude : (x r : Float) → NearestRoot x r → den x ≤ num x * 2 ^ 78 → lt smallMagnitude r ≡ true
 unfolding lt smallMagnitude ofBits fits
-above-weak x nan v h = absurd (v .above)
-above-weak x (inf s) v h = absurd (v .above)
-above-weak x (fin true n d) v h = absurd (v .above)
-above-weak x (fin false n d) v h =
+above-small-magnitude x nan v h = absurd (v .above)
+above-small-magnitude x (inf s) v h = absurd (v .above)
+above-small-magnitude x (fin true n d) v h = absurd (v .above)
+above-small-magnitude x (fin false n d) v h =
     let no : ¬ (n * up d * 2 ^ 39 < 1 * 1 * down d) = (λ l. root-least x (fin false n d) 1 (negsuc 38) v tt (omega arith) (lt→ltb _ _ l)) in
     lt-ltb (0x119799812dea11 * 1 * down d) (n * up d * 2 ^ 92) (omega (arith, down-pos d))
 
@@ -27,7 +27,7 @@ strong (fin true m e) f t = absurd (true≢false (sym t))
 strong (fin false zero e) f t = absurd (let h = ltb-true (1 * 1 * down e) (0 * up e * 2 ^ 78) t in omega arith)
 strong (fin false (suc m) e) f t =
     let h = ltb-true (1 * 1 * down e) (suc m * up e * 2 ^ 78) t in
-    above-weak (fin false (suc m) e) (root (fin false (suc m) e)) (root-is (fin false (suc m) e) f) (omega arith)
+    above-small-magnitude (fin false (suc m) e) (root (fin false (suc m) e)) (root-is (fin false (suc m) e) f) (omega arith)
 
 sqmag-fits : (y : Complex) → T (fits binary64 (sqmag y))
 unfolding sqmag

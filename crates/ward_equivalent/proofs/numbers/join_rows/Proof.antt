@@ -1,10 +1,10 @@
--- `ward_equivalent::numbers::laid` meets its contract.
+-- `ward_equivalent::numbers::join_rows` meets its contract.
 use Rattle.prelude.proofs.Prelude.{_≡_, ap, _∙_, List, _++_, ℕ, _+_, _-_, needs, length, drop, take-at}
 use Rattle.lists.specs.Buses.{rowsIn}
 use Rattle.lists.proofs.Scans.{joined}
 use Rattle.lists.proofs.Lookups.{length-rowsIn}
-use Rattle.ward_equivalent.proofs.numbers.laid.Statement.{statement}
-use Rattle.ward_equivalent.proofs.numbers.laid.Tie as tie
+use Rattle.ward_equivalent.proofs.numbers.join_rows.Statement.{statement}
+use Rattle.ward_equivalent.proofs.numbers.join_rows.Tie as tie
 
 returns : tie.Need-returns
 returns c =
@@ -24,7 +24,7 @@ returns c =
     ∙ ap (λ (l : List ℕ). rowsIn ns es ++ (l ++ B')) (I .ensures)
     ∙ ap (λ (l : List ℕ). rowsIn ns es ++ (rowsIn ns is ++ l)) (B .ensures)
 
-pub laid-spec : {M : Type 1} → statement M
-laid-spec = tie.close (tie.spec (λ c. search needs) (λ c. search needs) (λ c. search needs) (λ c. search needs) (λ c. search needs)
+pub join-rows-spec : {M : Type 1} → statement M
+join-rows-spec = tie.close (tie.spec (λ c. search needs) (λ c. search needs) (λ c. search needs) (λ c. search needs) (λ c. search needs)
     (λ c κs. search needs) (λ c. search needs) (λ c. search needs) (λ c. search needs) (λ c. search needs) (λ c κs. search needs)
     (λ c. search needs) (λ c. search needs) (λ c. search needs) (λ c. search needs) (λ c κs. search needs) (λ c. search needs) returns)
