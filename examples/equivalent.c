@@ -31,6 +31,7 @@ static const char *meaning(uint32_t refusal) {
     case JETURIPE_NOT_ACTIVE: return "the reducer has no such bus, or it was removed";
     case JETURIPE_SMALL_ENTRY: return "the bus's own admittance is too small to divide by";
     case JETURIPE_SINGULAR: return "the system is singular or nearly so";
+    case JETURIPE_BEYOND_ALLOWANCE: return "the work takes more row reductions than are allowed";
     default: return "not a refusal of this library";
     }
 }
@@ -79,6 +80,7 @@ typedef struct {
     double p[1], q[1];           /* MW and MVAr fed in at the boundary bus */
     size_t original, equivalent; /* buses */
     double ratio;
+    size_t reduced; /* rows */
 } Equivalent;
 
 static uint32_t ward(uint32_t boundary, uint32_t external, Equivalent *e) {
@@ -91,8 +93,9 @@ static uint32_t ward(uint32_t boundary, uint32_t external, Equivalent *e) {
         &boundary, 1,
         100, /* MVA */
         SLICE(p_ext), SLICE(q_ext),
+        JETURIPE_UNLIMITED, /* of row reductions; JETURIPE_WARD_ROWS(1, 1) would do */
         SLICE(e->y), SLICE(e->p), SLICE(e->q), SLICE(work),
-        &e->original, &e->equivalent, &e->ratio);
+        &e->original, &e->equivalent, &e->ratio, &e->reduced);
 }
 
 int main(void) {
@@ -102,7 +105,7 @@ int main(void) {
     carried_out(ward(101, 205, &e));
     printf("  admittance of bus 101: %g + j%g per unit\n", e.y[0], e.y[1]);
     printf("  fed in at bus 101: %g MW and %g MVAr\n", e.p[0], e.q[0]);
-    printf("  %zu buses become %zu, reduction ratio %g\n", e.original, e.equivalent, e.ratio);
+    printf("  %zu buses become %zu, reduction ratio %g, rows reduced: %zu\n", e.original, e.equivalent, e.ratio, e.reduced);
     printf("The same study, its buses counted from 1, boundary bus 1, external bus 2:\n");
     refused(ward(1, 2, &e));
     return EXIT_SUCCESS;

@@ -8,6 +8,7 @@ import ctypes, sys
 from ctypes import POINTER, c_double, c_size_t, c_uint8, c_uint32
 
 RECORD = 1296  # bytes
+UNLIMITED = c_size_t(-1).value  # of row reductions
 M = [1, 0, -1, 0, -1, 0, 2, 0]  # admittances in per unit, real then imaginary, row after row: 1, -1 / -1, 2
 NUMBERS = [101, 205]  # the rows' buses, by the numbers on the drawing
 
@@ -24,6 +25,7 @@ MEANINGS = {
     11: "the reducer has no such bus, or it was removed",
     12: "the bus's own admittance is too small to divide by",
     13: "the system is singular or nearly so",
+    18: "the work takes more row reductions than are allowed",
 }
 
 # A slice is two arguments: its pointer and the count of its elements.
@@ -32,8 +34,8 @@ ARGUMENTS = {
     "jeturipe_kron_new": [c_size_t, *REALS, *BUSES, *BYTES],
     "jeturipe_eliminate_bus": [*BYTES, *REALS, c_uint32],
     "jeturipe_active_buses": [*BYTES, *BUSES, POINTER(c_size_t)],
-    "jeturipe_ward_compute": [c_size_t, *REALS, *4 * BUSES, c_double, *6 * REALS]
-    + [POINTER(c_size_t), POINTER(c_size_t), POINTER(c_double)],
+    "jeturipe_ward_compute": [c_size_t, *REALS, *4 * BUSES, c_double, *2 * REALS, c_size_t, *4 * REALS]
+    + [POINTER(c_size_t), POINTER(c_size_t), POINTER(c_double), POINTER(c_size_t)],
 }
 
 
@@ -79,16 +81,15 @@ def remove_bus_205(library):
 
 
 def ward(library, boundary, external):
-    """Of M: y_ward in per unit, p_ward in MW, q_ward in MVAr, the sizes before and after, and the reduction ratio."""
+    """Of M: y_ward in per unit, p_ward in MW, q_ward in MVAr, the sizes before and after, the reduction ratio, and the rows reduced."""
     e, r = len(external), len(boundary)  # no bus is internal
     lists = [array(c_uint32, buses) for buses in (NUMBERS, [], external, boundary)]
     base, p_ext, q_ext = 100, array(c_double, [50]), array(c_double, [0])  # MVA, MW, MVAr
     left = [(c_double * count)() for count in (2 * r * r, r, r)]
     work = (c_double * (2 * e * (e + r + 1)))()
-    summary = [c_size_t(), c_size_t(), c_double()]
-    library.jeturipe_ward_compute(
-        2, *slices(array(c_double, M), *lists), base, *slices(p_ext, q_ext, *left, work), *summary
-    )
+    summary = [c_size_t(), c_size_t(), c_double(), c_size_t()]
+    inputs = *slices(array(c_double, M), *lists), base, *slices(p_ext, q_ext)
+    library.jeturipe_ward_compute(2, *inputs, UNLIMITED, *slices(*left, work), *summary)
     return *left, *(answer.value for answer in summary)
 
 
@@ -105,10 +106,10 @@ def main(path):
     library = load(path)
     remove_bus_205(library)
     print("Ward study, boundary bus 101, external bus 205 with 50 MW and 0 MVAr, base 100 MVA:")
-    y, p, q, original, size, ratio = ward(library, boundary=[101], external=[205])
+    y, p, q, original, size, ratio, reduced = ward(library, boundary=[101], external=[205])
     print(f"  admittance of bus 101: {y[0]:g} + j{y[1]:g} per unit")
     print(f"  fed in at bus 101: {p[0]:g} MW and {q[0]:g} MVAr")
-    print(f"  {original} buses become {size}, reduction ratio {ratio:g}")
+    print(f"  {original} buses become {size}, reduction ratio {ratio:g}, rows reduced: {reduced}")
     print("The same study, its buses counted from 1, boundary bus 1, external bus 2:")
     print_refusal(lambda: ward(library, boundary=[1], external=[2]))
 

@@ -7,6 +7,9 @@
 mod jeturipe {
     use std::fmt;
 
+    /// An allowance of row reductions that is enough for any study.
+    pub const UNLIMITED: usize = usize::MAX;
+
     const LIMIT: usize = 256;
     const RECORD: usize = 1296;
     type Record = [u8; RECORD];
@@ -26,10 +29,11 @@ mod jeturipe {
             n: usize, y: *const f64, y_len: usize, numbers: *const u32, numbers_len: usize,
             internal: *const u32, internal_len: usize, external: *const u32, external_len: usize,
             boundary: *const u32, boundary_len: usize,
-            base_mva: f64, p_ext: *const f64, p_ext_len: usize, q_ext: *const f64, q_ext_len: usize,
+            base_mva: f64, p_ext: *const f64, p_ext_len: usize, q_ext: *const f64, q_ext_len: usize, allowance: usize,
             y_ward: *mut f64, y_ward_len: usize, p_ward: *mut f64, p_ward_len: usize,
             q_ward: *mut f64, q_ward_len: usize, work: *mut f64, work_len: usize,
             n_buses_reduced: &mut usize, n_buses_equivalent: &mut usize, reduction_ratio: &mut f64,
+            rows_reduced: &mut usize,
         ) -> u32;
     }
 
@@ -52,6 +56,7 @@ mod jeturipe {
                 11 => "the reducer has no such bus, or it was removed",
                 12 => "the bus's own admittance is too small to divide by",
                 13 => "the system is singular or nearly so",
+                18 => "the work takes more row reductions than are allowed",
                 _ => "not a refusal of this library",
             };
             write!(f, "refused with {}: {meaning}", self.0)
@@ -104,7 +109,7 @@ mod jeturipe {
     }
 
     /// numbers: those of the n buses, one a row of y (2 n n numbers, per unit); the lists hold such numbers.
-    /// p_ext, q_ext: MW and MVAr fed in at the external buses.
+    /// p_ext, q_ext: MW and MVAr fed in at the external buses. allowance: of row reductions.
     pub struct Study<'a> {
         pub numbers: &'a [u32],
         pub y: &'a [f64],
@@ -114,6 +119,7 @@ mod jeturipe {
         pub base_mva: f64,
         pub p_ext: &'a [f64],
         pub q_ext: &'a [f64],
+        pub allowance: usize,
     }
 
     /// y: per unit, rows and columns are the internal list, then the boundary list.
@@ -126,6 +132,7 @@ mod jeturipe {
         pub original: usize,
         pub size: usize,
         pub ratio: f64,
+        pub rows_reduced: usize,
     }
 
     pub fn ward(s: &Study) -> Result<Equivalent, Refusal> {
@@ -141,17 +148,17 @@ mod jeturipe {
                 s.numbers.len(), s.y.as_ptr(), s.y.len(), s.numbers.as_ptr(), s.numbers.len(),
                 s.internal.as_ptr(), s.internal.len(),
                 s.external.as_ptr(), s.external.len(), s.boundary.as_ptr(), s.boundary.len(),
-                s.base_mva, s.p_ext.as_ptr(), s.p_ext.len(), s.q_ext.as_ptr(), s.q_ext.len(),
+                s.base_mva, s.p_ext.as_ptr(), s.p_ext.len(), s.q_ext.as_ptr(), s.q_ext.len(), s.allowance,
                 w.y.as_mut_ptr(), w.y.len(), w.p.as_mut_ptr(), w.p.len(),
                 w.q.as_mut_ptr(), w.q.len(), work.as_mut_ptr(), work.len(),
-                &mut w.original, &mut w.size, &mut w.ratio,
+                &mut w.original, &mut w.size, &mut w.ratio, &mut w.rows_reduced,
             )
         };
         carried_out(answer).map(|()| w)
     }
 }
 
-use jeturipe::{ward, Reducer, Refusal, Study};
+use jeturipe::{ward, Reducer, Refusal, Study, UNLIMITED};
 
 /// Admittances in per unit, real then imaginary, row after row: 1, -1 / -1, 2.
 const M: [f64; 8] = [1.0, 0.0, -1.0, 0.0, -1.0, 0.0, 2.0, 0.0];
@@ -185,12 +192,17 @@ fn main() -> Result<(), Refusal> {
         base_mva: 100.0,
         p_ext: &[50.0], // MW
         q_ext: &[0.0],  // MVAr
+        allowance: UNLIMITED,
     };
     println!("Ward study, boundary bus 101, external bus 205 with 50 MW and 0 MVAr, base 100 MVA:");
     let w = ward(&study)?;
     println!("  admittance of bus 101: {} + j{} per unit", w.y[0], w.y[1]);
     println!("  fed in at bus 101: {} MW and {} MVAr", w.p[0], w.q[0]);
-    println!("  {} buses become {}, reduction ratio {}", w.original, w.size, w.ratio);
+    let (ratio, rows) = (w.ratio, w.rows_reduced);
+    println!(
+        "  {} buses become {}, reduction ratio {ratio}, rows reduced: {rows}",
+        w.original, w.size
+    );
     println!("The same study, its buses counted from 1, boundary bus 1, external bus 2:");
     let from_one = Study {
         external: &[2],

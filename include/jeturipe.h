@@ -14,9 +14,15 @@
  * jeturipe_retained_buses and the DC parts know no numbers: there a bus is its row, FROM 0. REI's bus lists hold whatever the caller chooses.
  *
  * ANSWERS. An entry answers 0 where the call was carried out, else the number of the refusal: the lowest that applies of those told from the
- * input (1 to 9), then 11, then 12 or 13 as the work meets them. After a refusal every slice, and what every pointer points to, is as it was, but
- * for two cases: a work slice is all +0 after 13, as after 0; and a list of removals that is stopped by 11 or 12 leaves what was done before,
- * with its count. Outputs and work slices need not be set before a call.
+ * input (1 to 9), then 11, then 12, 13 or 18 as the work meets them. After a refusal every slice, and what every pointer points to, is as it was,
+ * but for two cases: a work slice is all +0 after 13 and 18, as after 0; and a list of removals that is stopped by 11 or 12 leaves what was done
+ * before, with its count. Outputs and work slices need not be set before a call.
+ *
+ * ALLOWANCES. jeturipe_solve_linear and both Ward calls answer how many rows they reduced, rows_reduced, and reduce no more than the allowance. In
+ * each column a pivot is chosen and tested (13) and its row scaled; then every other row in turn, from row 0 on, loses its entry in the column times
+ * the pivot row: one row reduction, left out and not counted where both parts of that entry are below 1e-300 in absolute value. 18 comes before the
+ * first one beyond the allowance, which may be 0. A larger allowance changes no answer but 18, and from JETURIPE_SOLVE_ROWS or JETURIPE_WARD_ROWS on
+ * it limits nothing.
  *
  * THE CALLER'S DUTY. No pointer is null, also that of a slice of 0 elements; each is aligned for its type; what is written overlaps nothing else
  * that is handed in; a record comes with the matrix that it was left with. The processor rounds to nearest and keeps subnormal numbers: under
@@ -41,21 +47,28 @@ extern "C" {
 /* The bytes of a reducer's record. Opaque; the same on every machine, so that it may be written to disk beside its matrix. */
 #define JETURIPE_RECORD 1296
 
+/* The most row reductions, at sizes up to JETURIPE_LIMIT: n (n - 1) of a solve of n unknowns, (r + 1) e (e - 1) of a Ward study with r retained and
+ * e external buses; and the allowance that limits no call. */
+#define JETURIPE_SOLVE_ROWS(n) ((size_t)(n) * (size_t)(n) - (size_t)(n))
+#define JETURIPE_WARD_ROWS(retained, external) (((size_t)(retained) + 1) * JETURIPE_SOLVE_ROWS(external))
+#define JETURIPE_UNLIMITED SIZE_MAX
+
 /* Refusals. */
 enum {
     JETURIPE_DONE = 0,
-    JETURIPE_TOO_MANY = 1,     /* more buses or branches, or a longer list, than JETURIPE_LIMIT */
-    JETURIPE_WRONG_LENGTH = 2, /* a matrix, output, work slice or record is not of its exact length, or there is not a number for each row */
-    JETURIPE_LISTS_DIFFER = 3, /* branch lists of different lengths, or injections or voltages that do not match their list of buses */
-    JETURIPE_NO_BUS = 4,       /* an REI equivalent of no bus */
-    JETURIPE_EMPTY_SYSTEM = 5, /* a solve or inverse of size 0, or a right side that is not of the system's length */
-    JETURIPE_NO_SUCH_END = 6,  /* a branch ends at a bus that is not there */
-    JETURIPE_NO_SUCH_BUS = 7,  /* a Ward list names a bus that is none of the study's numbers */
-    JETURIPE_BUS_TWICE = 8,    /* two rows have one number, or a bus stands twice in the Ward lists together */
-    JETURIPE_BAD_RECORD = 9,   /* the record is none that a making or a removal leaves, in its rows or in its numbers */
-    JETURIPE_NOT_ACTIVE = 11,  /* the reducer has no such bus, or it was removed */
-    JETURIPE_SMALL_ENTRY = 12, /* the bus's own admittance is too small to divide by: squared magnitude below 1e-300 */
-    JETURIPE_SINGULAR = 13     /* a pivot is too small to divide by, the system singular or nearly so: squared magnitude below 1e-300 */
+    JETURIPE_TOO_MANY = 1,         /* more buses or branches, or a longer list, than JETURIPE_LIMIT */
+    JETURIPE_WRONG_LENGTH = 2,     /* a matrix, output, work slice or record is not of its exact length, or there is not a number for each row */
+    JETURIPE_LISTS_DIFFER = 3,     /* branch lists of different lengths, or injections or voltages that do not match their list of buses */
+    JETURIPE_NO_BUS = 4,           /* an REI equivalent of no bus */
+    JETURIPE_EMPTY_SYSTEM = 5,     /* a solve or inverse of size 0, or a right side that is not of the system's length */
+    JETURIPE_NO_SUCH_END = 6,      /* a branch ends at a bus that is not there */
+    JETURIPE_NO_SUCH_BUS = 7,      /* a Ward list names a bus that is none of the study's numbers */
+    JETURIPE_BUS_TWICE = 8,        /* two rows have one number, or a bus stands twice in the Ward lists together */
+    JETURIPE_BAD_RECORD = 9,       /* the record is none that a making or a removal leaves, in its rows or in its numbers */
+    JETURIPE_NOT_ACTIVE = 11,      /* the reducer has no such bus, or it was removed */
+    JETURIPE_SMALL_ENTRY = 12,     /* the bus's own admittance is too small to divide by: squared magnitude below 1e-300 */
+    JETURIPE_SINGULAR = 13,        /* a pivot is too small to divide by, the system singular or nearly so: squared magnitude below 1e-300 */
+    JETURIPE_BEYOND_ALLOWANCE = 18 /* the next row reduction would exceed the allowance */
 };
 
 /* ---- Bytes to numbers and back, little-endian, 8 bytes a number and 4 a bus number, so that data may come from a file or another machine. Any
@@ -96,13 +109,16 @@ double jeturipe_magnitude(double re, double im);
 
 /* ---- Linear systems of n complex unknowns, of the caller's units. */
 
-/* Solves a x = b: a is 2 n n numbers, b and x 2 n, work 2 n (n + 1). Refusals: 1 2 5, 13. */
+/* Solves a x = b: a is 2 n n numbers, b and x 2 n, work 2 n (n + 1). rows_reduced: at most n (n - 1). Refusals: 1 2 5, then 13 or 18 as the work
+ * meets them. */
 uint32_t jeturipe_solve_linear(
     size_t n,
     const double *a, size_t a_len,
     const double *b, size_t b_len,
+    size_t allowance,
     double *x, size_t x_len,
-    double *work, size_t work_len);
+    double *work, size_t work_len,
+    size_t *rows_reduced);
 
 /* Inverts mat: mat and inverse are 2 n n numbers, work 4 n n. Refusals: 1 2 5, 13. */
 uint32_t jeturipe_complex_matrix_inverse(
@@ -168,7 +184,10 @@ uint32_t jeturipe_thevenin_impedance(
  * p_ward, q_ward: b numbers each, MW and MVAr fed in at the boundary buses, in the boundary list's order. At unit voltage the current of P + jQ is
  * P - jQ, for both.
  * work: 2 e (e + r + 1) numbers. n_buses_reduced: the original size n, not the reduced one. n_buses_equivalent: r. reduction_ratio: 1 - r / n,
- * and 0 with no external bus. Refusals: 1 2 3 7 8, 13. */
+ * and 0 with no external bus.
+ * allowance, rows_reduced: of the whole study, which is r + 1 solves of e unknowns one after the other: for each retained bus, internal ones first,
+ * and for the currents. At most (r + 1) e (e - 1) rows; 0 with no external bus.
+ * Refusals: 1 2 3 7 8, then 13 or 18 as the work meets them. */
 uint32_t jeturipe_ward_compute(
     size_t n,
     const double *y, size_t y_len,
@@ -179,16 +198,18 @@ uint32_t jeturipe_ward_compute(
     double base_mva,
     const double *p_ext, size_t p_ext_len,
     const double *q_ext, size_t q_ext_len,
+    size_t allowance,
     double *y_ward, size_t y_ward_len,
     double *p_ward, size_t p_ward_len,
     double *q_ward, size_t q_ward_len,
     double *work, size_t work_len,
     size_t *n_buses_reduced,
     size_t *n_buses_equivalent,
-    double *reduction_ratio);
+    double *reduction_ratio,
+    size_t *rows_reduced);
 
 /* The same, with v_ext, the external buses' voltages in per unit (e numbers, in the external list's order), and, in the boundary list's order,
- * voltage_correction in per unit and q_compensation in MVAr (b numbers each). Refusals: 1 2 3 7 8, 13. */
+ * voltage_correction in per unit and q_compensation in MVAr (b numbers each). Refusals: 1 2 3 7 8, then 13 or 18 as the work meets them. */
 uint32_t jeturipe_ward_compute_extended(
     size_t n,
     const double *y, size_t y_len,
@@ -200,6 +221,7 @@ uint32_t jeturipe_ward_compute_extended(
     const double *p_ext, size_t p_ext_len,
     const double *q_ext, size_t q_ext_len,
     const double *v_ext, size_t v_ext_len,
+    size_t allowance,
     double *y_ward, size_t y_ward_len,
     double *p_ward, size_t p_ward_len,
     double *q_ward, size_t q_ward_len,
@@ -208,7 +230,8 @@ uint32_t jeturipe_ward_compute_extended(
     double *work, size_t work_len,
     size_t *n_buses_reduced,
     size_t *n_buses_equivalent,
-    double *reduction_ratio);
+    double *reduction_ratio,
+    size_t *rows_reduced);
 
 /* ---- The REI equivalent of g generators and l loads, n = g + l. What the lists call their buses is the caller's own and is handed through. Rows of
  * y_sub (2 n n numbers, per unit), p_inj and q_inj (n each, MW and MVAr) are the generators, then the loads; so are the spokes.

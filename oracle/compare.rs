@@ -1,4 +1,5 @@
 // Compares the port with the Rust: compare [SEED [CASES [ROOTS]]], CASES random calls of each entry.
+use oracle::allowances;
 use oracle::call::Call;
 use oracle::differences::Difference;
 use oracle::functions::{scalars, sound, LIMIT};
@@ -7,7 +8,7 @@ use oracle::port::Port;
 use oracle::source::Source;
 use oracle::spoil::spoil;
 use oracle::tally::Tally;
-use oracle::{ask, matrices, roots, small};
+use oracle::{ask, matrices, roots, small, small_allowances};
 
 #[cfg(port_linked)]
 mod linked;
@@ -26,18 +27,23 @@ fn number(at: usize, default: usize) -> usize {
 // the sizes around a power of two and the limit
 const LARGE: [usize; 7] = [127, 128, 129, 255, 256, 257, 258];
 
+fn drawn(function: Function, s: &mut Source, n: usize) -> Call {
+    let call = sound(function, s, n);
+    allowances::drawn(s, call)
+}
+
 // random calls of every entry, a quarter of them made wrong; of each large size the first that is carried out, where one may be
 fn draw(s: &mut Source, cases: usize, visit: &mut dyn FnMut(Call) -> u32) {
     for &function in Function::ALL {
         for n in 0..=66 {
-            visit(sound(function, s, n));
+            visit(drawn(function, s, n));
         }
         for n in LARGE {
-            while visit(sound(function, s, n)) != 0 && n <= LIMIT {}
+            while visit(drawn(function, s, n)) != 0 && n <= LIMIT {}
         }
         for _ in 0..cases {
             let n = matrices::size(s);
-            let mut call = sound(function, s, n);
+            let mut call = drawn(function, s, n);
             if s.one_in(4) {
                 spoil(s, &mut call);
             }
@@ -62,11 +68,15 @@ fn told(tally: &Tally, seed: usize) -> bool {
     if let Some(function) = unjudged {
         println!("oracle: {function:?} needs an answer by the Rust and one by the model that is unlike the Rust's");
     }
+    let unallowed = tally.unallowed();
+    if let Some(function) = unallowed {
+        println!("oracle: {function:?} needs allowances met in every way, a count by the Rust, and one by the model that is unlike");
+    }
     let alike = tally.lacks(Difference::Currents);
     if alike {
         println!("oracle: no study shows that the Rust's currents are (P + jQ)/base");
     }
-    failed == 0 && unjudged.is_none() && !alike
+    failed == 0 && unjudged.is_none() && unallowed.is_none() && !alike
 }
 
 fn main() {
@@ -74,6 +84,7 @@ fn main() {
     let (seed, cases, tested_roots) = (number(1, 1), number(2, 20_000), number(3, 1_000_000));
     let mut s = Source::new(seed as u64);
     let mut tally = Tally::default();
+    small_allowances::stated(&mut |call, stated| tally.stated(&call, stated, PORT));
     let mut run = |call: Call| tally.run(&call, PORT);
     small::every(&mut |call| {
         run(call);

@@ -1,8 +1,9 @@
 // Records answers of the Rust and, in one file, of the model of elimination: record FOLDER.
 // README.md describes the files.
+use oracle::allowances;
 use oracle::ask::quietly;
 use oracle::call::Call;
-use oracle::functions::{conversions, expected, sound};
+use oracle::functions::{conversions, expected, reductions, sound};
 use oracle::header::Function;
 use oracle::pivots::Judge;
 use oracle::recorded::{case, filled};
@@ -30,8 +31,8 @@ fn small_size(s: &mut Source, at: usize) -> usize {
     }
 }
 
-fn drawn(function: Function, s: &mut Source, n: usize) -> Call {
-    let mut call = sound(function, s, n);
+fn drawn(function: Function, s: &mut Source, allowances: &mut Source, n: usize) -> Call {
+    let mut call = allowances::drawn(allowances, sound(function, s, n));
     match s.below(12) {
         0 => spoil(s, &mut call),
         1 => unmatch(s, &mut call),
@@ -66,6 +67,7 @@ impl File {
 
 fn record(folder: &str, name: &str, seed: u64, wanted: Wanted) {
     let mut s = Source::new(seed);
+    let mut allowances = Source::new(!seed);
     let mut file = File {
         by_model: name == BY_MODEL,
         count: 0,
@@ -80,14 +82,18 @@ fn record(folder: &str, name: &str, seed: u64, wanted: Wanted) {
             } else {
                 small_size(&mut s, taken)
             };
-            taken += file.add(&drawn(function, &mut s, n)) as usize;
+            taken += file.add(&drawn(function, &mut s, &mut allowances, n)) as usize;
         }
     }
-    // the large ones at the end, each a study that is carried out
+    // the large ones at the end, each a study that is carried out, with an allowance that is the count
     for &(function, _, sizes) in wanted {
         for &n in sizes {
             loop {
                 let call = sound(function, &mut s, n);
+                let call = match reductions(&call) {
+                    Some((rows, _)) => call.allowing(rows),
+                    None => call,
+                };
                 if expected(&call).number == 0 && sizeable(&call, n) && file.add(&call) {
                     break;
                 }

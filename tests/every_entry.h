@@ -4,7 +4,7 @@
 #include <stdlib.h>
 #include <string.h>
 
-enum { N = JETURIPE_LIMIT, INTERNAL = 8, BOUNDARY = 8, RETAINED = INTERNAL + BOUNDARY, EXTERNAL = N - RETAINED, WRITTEN = 9 };
+enum { N = JETURIPE_LIMIT, INTERNAL = 8, BOUNDARY = 8, RETAINED = INTERNAL + BOUNDARY, EXTERNAL = N - RETAINED, WRITTEN = 10 };
 
 typedef struct {
     size_t count, size; /* of elements, and the bytes of one */
@@ -66,7 +66,7 @@ static uint32_t call_sqrt(const Slice *w) { *(double *)w[0].at = jeturipe_sqrt(2
 static uint32_t call_magnitude(const Slice *w) { *(double *)w[0].at = jeturipe_magnitude(1, 2); return 0; }
 
 static uint32_t call_solve_linear(const Slice *w) {
-    return jeturipe_solve_linear(N, SLICE(given.y), given.y, 2 * N, W(0), W(1));
+    return jeturipe_solve_linear(N, SLICE(given.y), given.y, 2 * N, JETURIPE_SOLVE_ROWS(N), W(0), W(1), w[2].at);
 }
 
 static uint32_t call_complex_matrix_inverse(const Slice *w) {
@@ -104,14 +104,16 @@ static uint32_t call_thevenin_impedance(const Slice *w) {
 
 #define WARD_LISTS SLICE(given.number), given.number, INTERNAL, given.number + RETAINED, EXTERNAL, given.number + INTERNAL, BOUNDARY
 #define WARD_POWERS given.p, EXTERNAL, given.q, EXTERNAL
+#define WARD_ROWS JETURIPE_WARD_ROWS(RETAINED, EXTERNAL)
 
 static uint32_t call_ward_compute(const Slice *w) {
-    return jeturipe_ward_compute(N, SLICE(given.y), WARD_LISTS, 100, WARD_POWERS, W(0), W(1), W(2), W(3), w[4].at, w[5].at, w[6].at);
+    return jeturipe_ward_compute(N, SLICE(given.y), WARD_LISTS, 100, WARD_POWERS, WARD_ROWS, W(0), W(1), W(2), W(3), w[4].at, w[5].at, w[6].at,
+                                 w[7].at);
 }
 
 static uint32_t call_ward_compute_extended(const Slice *w) {
-    return jeturipe_ward_compute_extended(N, SLICE(given.y), WARD_LISTS, 100, WARD_POWERS, given.v, EXTERNAL, W(0), W(1), W(2), W(3), W(4),
-                                          W(5), w[6].at, w[7].at, w[8].at);
+    return jeturipe_ward_compute_extended(N, SLICE(given.y), WARD_LISTS, 100, WARD_POWERS, given.v, EXTERNAL, WARD_ROWS, W(0), W(1), W(2), W(3),
+                                          W(4), W(5), w[6].at, w[7].at, w[8].at, w[9].at);
 }
 
 static uint32_t call_rei_compute(const Slice *w) {
@@ -151,7 +153,7 @@ static const Entry ENTRIES[] = {
     ENTRY(abs, ONE),
     ENTRY(sqrt, ONE),
     ENTRY(magnitude, ONE),
-    ENTRY(solve_linear, WORDS(2 * N), WORDS(2 * N * (N + 1))),
+    ENTRY(solve_linear, WORDS(2 * N), WORDS(2 * N * (N + 1)), ONE),
     ENTRY(complex_matrix_inverse, WORDS(2 * N * N), WORDS(4 * N * N)),
     ENTRY(kron_new, BYTES(JETURIPE_RECORD)),
     ENTRY(eliminate_bus, BYTES(JETURIPE_RECORD), WORDS(2 * N * N)),
@@ -159,9 +161,9 @@ static const Entry ENTRIES[] = {
     ENTRY(active_buses, HALVES(N), ONE),
     ENTRY(reduced_matrix, WORDS(2 * N * N)),
     ENTRY(thevenin_impedance, WORDS(4 * N * N), ONE, ONE),
-    ENTRY(ward_compute, WORDS(2 * RETAINED * RETAINED), WORDS(BOUNDARY), WORDS(BOUNDARY), WORDS(2 * EXTERNAL * (N + 1)), ONE, ONE, ONE),
+    ENTRY(ward_compute, WORDS(2 * RETAINED * RETAINED), WORDS(BOUNDARY), WORDS(BOUNDARY), WORDS(2 * EXTERNAL * (N + 1)), ONE, ONE, ONE, ONE),
     ENTRY(ward_compute_extended, WORDS(2 * RETAINED * RETAINED), WORDS(BOUNDARY), WORDS(BOUNDARY), WORDS(BOUNDARY), WORDS(BOUNDARY),
-          WORDS(2 * EXTERNAL * (N + 1)), ONE, ONE, ONE),
+          WORDS(2 * EXTERNAL * (N + 1)), ONE, ONE, ONE, ONE),
     ENTRY(rei_compute, WORDS(N), WORDS(2 * N), WORDS(N * (N - 1)), WORDS(N * (N - 1)), ONE, ONE, ONE, ONE, ONE),
     ENTRY(retained_buses, WORDS(N), ONE),
     ENTRY(build_b_bus, WORDS(N * N)),

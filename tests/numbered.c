@@ -27,15 +27,15 @@ static void removed_by_number(void) {
 static uint32_t ward(const uint32_t *numbers, size_t len, uint32_t boundary, uint32_t external) {
     static const double p[1] = {50}, q[1] = {0};
     return jeturipe_ward_compute(2, SLICE(M), numbers, len, &boundary, 0, &external, 1, &boundary, 1, 100, SLICE(p), SLICE(q),
-                                 SLICE(now.y_ward), SLICE(now.p_ward), SLICE(now.q_ward), now.work, 6,
-                                 &now.original, &now.equivalent, &now.ratio);
+                                 JETURIPE_UNLIMITED, SLICE(now.y_ward), SLICE(now.p_ward), SLICE(now.q_ward), now.work, 6,
+                                 &now.original, &now.equivalent, &now.ratio, &now.reduced);
 }
 
 static uint32_t extended(const uint32_t *numbers, size_t len, uint32_t boundary, uint32_t external) {
     static const double p[1] = {50}, q[1] = {0}, v[1] = {1};
     return jeturipe_ward_compute_extended(2, SLICE(M), numbers, len, &boundary, 0, &external, 1, &boundary, 1, 100, SLICE(p), SLICE(q),
-                                          SLICE(v), SLICE(now.y_ward), SLICE(now.p_ward), SLICE(now.q_ward), now.x, 1, now.b, 1,
-                                          now.work, 6, &now.original, &now.equivalent, &now.ratio);
+                                          SLICE(v), JETURIPE_UNLIMITED, SLICE(now.y_ward), SLICE(now.p_ward), SLICE(now.q_ward), now.x, 1,
+                                          now.b, 1, now.work, 6, &now.original, &now.equivalent, &now.ratio, &now.reduced);
 }
 
 static int equivalent(double admittance, double p) {

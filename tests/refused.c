@@ -11,11 +11,19 @@ static int cleared(size_t work_len) {
     return memcmp(now.work, zeros, work_len * sizeof zeros[0]) == 0;
 }
 
-/* Refused with 13, which clears the work slice. */
-static void singular(uint32_t answer, size_t work_len, const char *call) {
+/* Refused with 13 or 18, which clear the work slice. */
+static void stopped(uint32_t answer, uint32_t number, size_t work_len, const char *call) {
     expect(cleared(work_len), call);
     memcpy(now.work, before.work, sizeof now.work);
-    refused(answer, JETURIPE_SINGULAR, call);
+    refused(answer, number, call);
+}
+
+static void singular(uint32_t answer, size_t work_len, const char *call) {
+    stopped(answer, JETURIPE_SINGULAR, work_len, call);
+}
+
+static void beyond(uint32_t answer, size_t work_len, const char *call) {
+    stopped(answer, JETURIPE_BEYOND_ALLOWANCE, work_len, call);
 }
 
 static void before_and_after_a_removal(void) {
@@ -42,9 +50,9 @@ static void lists_of_removals(void) {
 
 static uint32_t ward(const double *y, uint32_t external, uint32_t boundary, size_t q_len, size_t work_len) {
     static const double p[1] = {50}, q[1] = {0};
-    return jeturipe_ward_compute(2, y, 8, SLICE(NUMBERS), &external, 0, &external, 1, &boundary, 1, 100, SLICE(p), q, q_len,
+    return jeturipe_ward_compute(2, y, 8, SLICE(NUMBERS), &external, 0, &external, 1, &boundary, 1, 100, SLICE(p), q, q_len, 0,
                                  SLICE(now.y_ward), SLICE(now.p_ward), SLICE(now.q_ward), now.work, work_len,
-                                 &now.original, &now.equivalent, &now.ratio);
+                                 &now.original, &now.equivalent, &now.ratio, &now.reduced);
 }
 
 static void studies(void) {
@@ -56,19 +64,47 @@ static void studies(void) {
     singular(ward(FLAT, 205, 101, 1, 6), 6, "Ward with an external bus without admittance");
 }
 
-static uint32_t solution(const double *a, size_t b_len) {
+static uint32_t solution(const double *a, size_t b_len, size_t allowance) {
     static const double b[4] = {2, 0, 0, 0};
-    return jeturipe_solve_linear(2, a, 8, b, b_len, SLICE(now.x), now.work, 12);
+    return jeturipe_solve_linear(2, a, 8, b, b_len, allowance, SLICE(now.x), now.work, 12, &now.reduced);
 }
 
 static void systems(void) {
     static const double a[8] = {1, 0, 1, 0, -1, 0, 1, 0};
     make(FLOATING, NUMBERS);
-    refused(solution(a, 3), JETURIPE_EMPTY_SYSTEM, "a right side of 3 numbers");
+    refused(solution(a, 3, 0), JETURIPE_EMPTY_SYSTEM, "a right side of 3 numbers");
     refused(jeturipe_complex_matrix_inverse(0, a, 0, now.out, 0, now.work, 0), JETURIPE_EMPTY_SYSTEM, "an inverse of size 0");
     singular(impedance(101, 205), 16, "the impedance of buses without earth");
-    singular(solution(FLOATING, 4), 12, "a singular system");
+    singular(solution(FLOATING, 4, 1), 12, "a singular system");
+    beyond(solution(FLOATING, 4, 0), 12, "a singular system, with no row before its second pivot");
+    beyond(solution(a, 4, 1), 12, "one row of two in a system");
     singular(jeturipe_complex_matrix_inverse(2, SLICE(FLOATING), SLICE(now.out), SLICE(now.work)), 16, "a singular inverse");
+}
+
+/* 5, 1, 1 / 1, 2, 1 / 1, 1, 2 with one boundary and two external buses: two solves of two rows each. */
+static uint32_t both_removed(int extended, size_t allowance) {
+    static const double y[18] = {5, 0, 1, 0, 1, 0, 1, 0, 2, 0, 1, 0, 1, 0, 1, 0, 2, 0}, p[2] = {50, 0}, q[2] = {0, 25}, v[2] = {1, 1};
+    static const uint32_t numbers[3] = {101, 205, 309}, *boundary = numbers, *external = numbers + 1;
+    if (extended)
+        return jeturipe_ward_compute_extended(3, SLICE(y), SLICE(numbers), boundary, 0, external, 2, boundary, 1, 100, SLICE(p), SLICE(q),
+                                              SLICE(v), allowance, SLICE(now.y_ward), SLICE(now.p_ward), SLICE(now.q_ward), now.x, 1, now.b, 1,
+                                              SLICE(now.work), &now.original, &now.equivalent, &now.ratio, &now.reduced);
+    return jeturipe_ward_compute(3, SLICE(y), SLICE(numbers), boundary, 0, external, 2, boundary, 1, 100, SLICE(p), SLICE(q), allowance,
+                                 SLICE(now.y_ward), SLICE(now.p_ward), SLICE(now.q_ward), SLICE(now.work),
+                                 &now.original, &now.equivalent, &now.ratio, &now.reduced);
+}
+
+static void allowances(void) {
+    static const double one[8] = {1, 0, 0, 0, 0, 0, 1, 0};
+    for (int extended = 0; extended < 2; extended++) {
+        make(M, NUMBERS);
+        beyond(both_removed(extended, 3), 16, "three rows of four in a study");
+        expect(both_removed(extended, 4) == 0 && now.reduced == 4 && cleared(16), "a study with an allowance of its four rows");
+        expect(both_removed(extended, JETURIPE_UNLIMITED) == 0 && now.reduced == 4, "a study without an allowance");
+    }
+    expect(solution(one, 4, 0) == 0 && now.reduced == 0, "a system with no row to reduce");
+    expect(JETURIPE_SOLVE_ROWS(0) == 0 && JETURIPE_SOLVE_ROWS(1) == 0 && JETURIPE_SOLVE_ROWS(256) == 65280, "the most rows of a solve");
+    expect(JETURIPE_WARD_ROWS(3, 0) == 0 && JETURIPE_WARD_ROWS(0, 3) == 6 && JETURIPE_WARD_ROWS(1, 2) == 4, "the most rows of a study");
 }
 
 static void conversions(void) {
@@ -124,6 +160,7 @@ int main(void) {
     lists_of_removals();
     studies();
     systems();
+    allowances();
     conversions();
     lengths();
     branches();

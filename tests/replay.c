@@ -6,7 +6,7 @@
 
 #include <stdio.h>
 
-enum { FUNCTIONS = 29, SLICES = 17 };
+enum { FUNCTIONS = 29, SLICES = 18 };
 
 /* The slices of each entry as the header has them: n numbers, w words, u bus numbers, b bytes, in capitals where it may write them; x one
  * number and k one word that it answers, by pointer or as its value. */
@@ -14,9 +14,9 @@ static const char *const SHAPES[FUNCTIONS + 1] = {
     "",
     "bN", "nB", "bW", "wB", "bU", "uB",
     "xx", "xx", "xx", "xx", "xx", "xx", "x", "x", "x",
-    "nnNN", "nNN",
+    "nnNNk", "nNN",
     "nuB", "BN", "BNuk", "bUk", "bnN", "bnNxx",
-    "nuuuunnNNNNkkx", "nuuuunnnNNNNNNkkx", "wwnnnWNWNkxxxk",
+    "nuuuunnNNNNkkxk", "nuuuunnnNNNNNNkkxk", "wwnnnWNWNkxxxk",
     "wWk", "wwnN", "nwwN",
 };
 
@@ -59,7 +59,7 @@ static uint32_t on_numbers(const Head *h, const Lent *l) {
 
 static uint32_t on_slices(const Head *h, const Lent *l) {
     switch (h->function) {
-    case 16: return jeturipe_solve_linear(W(0), NUMBERS(0), NUMBERS(1), NUMBERS(2), NUMBERS(3));
+    case 16: return jeturipe_solve_linear(W(0), NUMBERS(0), NUMBERS(1), W(1), NUMBERS(2), NUMBERS(3), WORD(4));
     case 17: return jeturipe_complex_matrix_inverse(W(0), NUMBERS(0), NUMBERS(1), NUMBERS(2));
     case 18: return jeturipe_kron_new(W(0), NUMBERS(0), BUSES(1), BYTES(2));
     case 19: return jeturipe_eliminate_bus(BYTES(0), NUMBERS(1), (uint32_t)W(0));
@@ -69,12 +69,12 @@ static uint32_t on_slices(const Head *h, const Lent *l) {
     case 23:
         return jeturipe_thevenin_impedance(BYTES(0), NUMBERS(1), (uint32_t)W(0), (uint32_t)W(1), NUMBERS(2), NUMBER(3), NUMBER(4));
     case 24:
-        return jeturipe_ward_compute(W(0), NUMBERS(0), BUSES(1), BUSES(2), BUSES(3), BUSES(4), R(0), NUMBERS(5), NUMBERS(6), NUMBERS(7),
-                                     NUMBERS(8), NUMBERS(9), NUMBERS(10), WORD(11), WORD(12), NUMBER(13));
+        return jeturipe_ward_compute(W(0), NUMBERS(0), BUSES(1), BUSES(2), BUSES(3), BUSES(4), R(0), NUMBERS(5), NUMBERS(6), W(1), NUMBERS(7),
+                                     NUMBERS(8), NUMBERS(9), NUMBERS(10), WORD(11), WORD(12), NUMBER(13), WORD(14));
     case 25:
         return jeturipe_ward_compute_extended(W(0), NUMBERS(0), BUSES(1), BUSES(2), BUSES(3), BUSES(4), R(0), NUMBERS(5), NUMBERS(6),
-                                              NUMBERS(7), NUMBERS(8), NUMBERS(9), NUMBERS(10), NUMBERS(11), NUMBERS(12), NUMBERS(13),
-                                              WORD(14), WORD(15), NUMBER(16));
+                                              NUMBERS(7), W(1), NUMBERS(8), NUMBERS(9), NUMBERS(10), NUMBERS(11), NUMBERS(12), NUMBERS(13),
+                                              WORD(14), WORD(15), NUMBER(16), WORD(17));
     case 26:
         return jeturipe_rei_compute(WORDS(0), WORDS(1), NUMBERS(2), NUMBERS(3), NUMBERS(4), W(0), WORDS(5), NUMBERS(6), WORDS(7), NUMBERS(8),
                                     WORD(9), NUMBER(10), NUMBER(11), NUMBER(12), WORD(13));

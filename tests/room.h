@@ -14,7 +14,7 @@ typedef struct {
     double y_ward[2], p_ward[1], q_ward[1], ratio;
     double b[4], voltage, p, q;
     uint32_t buses[2], numbers[4];
-    size_t rows[2], words[4], count, original, equivalent, bus, ties;
+    size_t rows[2], words[4], count, original, equivalent, reduced, bus, ties;
 } Room;
 
 static Room now, before;

@@ -113,7 +113,7 @@ static void impedances(void) {
 /* ---- cases 9 to 11: Ward's study with boundary bus 0 and base 100, bus 1 external or left out */
 
 typedef struct {
-    size_t original, equivalent;
+    size_t original, equivalent, reduced;
     double ratio, y[2], p[1], q[1], correction[1], compensation[1], work[6];
 } Study;
 
@@ -121,7 +121,7 @@ static const uint32_t boundary[1] = {0}, external[1] = {1};
 
 static Study fresh(void) {
     Study s;
-    s.original = s.equivalent = (size_t)before;
+    s.original = s.equivalent = s.reduced = (size_t)before;
     s.ratio = before;
     set(SLICE(s.y));
     set(SLICE(s.p));
@@ -135,6 +135,7 @@ static Study fresh(void) {
 static void put_study(const Study *s) {
     put(s->original);
     put(s->equivalent);
+    put(s->reduced);
     put_numbers(&s->ratio, 1);
     put_numbers(SLICE(s->y));
     put_numbers(SLICE(s->p));
@@ -144,8 +145,8 @@ static void put_study(const Study *s) {
 static void study(size_t e, size_t work_len) {
     static const double p[1] = {50}, q[1] = {0};
     Study s = fresh();
-    put(jeturipe_ward_compute(2, SLICE(M), SLICE(NUMBERS), external, 0, external, e, SLICE(boundary), 100, p, e, q, e, SLICE(s.y), SLICE(s.p),
-                              SLICE(s.q), s.work, work_len, &s.original, &s.equivalent, &s.ratio));
+    put(jeturipe_ward_compute(2, SLICE(M), SLICE(NUMBERS), external, 0, external, e, SLICE(boundary), 100, p, e, q, e, JETURIPE_UNLIMITED,
+                              SLICE(s.y), SLICE(s.p), SLICE(s.q), s.work, work_len, &s.original, &s.equivalent, &s.ratio, &s.reduced));
     put_study(&s);
     put_numbers(s.work, work_len);
 }
@@ -157,8 +158,8 @@ static void extended(void) {
     static const double none[1] = {0}, v[1] = {1.25};
     Study s = fresh();
     put(jeturipe_ward_compute_extended(2, SLICE(LOSSY), SLICE(NUMBERS), external, 0, SLICE(external), SLICE(boundary), 100, SLICE(none),
-                                       SLICE(none), SLICE(v), SLICE(s.y), SLICE(s.p), SLICE(s.q), SLICE(s.correction), SLICE(s.compensation), SLICE(s.work),
-                                       &s.original, &s.equivalent, &s.ratio));
+                                       SLICE(none), SLICE(v), JETURIPE_UNLIMITED, SLICE(s.y), SLICE(s.p), SLICE(s.q), SLICE(s.correction),
+                                       SLICE(s.compensation), SLICE(s.work), &s.original, &s.equivalent, &s.ratio, &s.reduced));
     put_study(&s);
     put_numbers(SLICE(s.correction));
     put_numbers(SLICE(s.compensation));
@@ -170,9 +171,11 @@ static void extended(void) {
 static void solution(void) {
     static const double b[4] = {2, 0, 0, 0};
     double x[4], work[12];
+    size_t reduced = (size_t)before;
     set(SLICE(x));
     set(SLICE(work));
-    put(jeturipe_solve_linear(2, SLICE(SYSTEM), SLICE(b), SLICE(x), SLICE(work)));
+    put(jeturipe_solve_linear(2, SLICE(SYSTEM), SLICE(b), JETURIPE_UNLIMITED, SLICE(x), SLICE(work), &reduced));
+    put(reduced);
     put_numbers(SLICE(x));
     put_numbers(SLICE(work));
 }

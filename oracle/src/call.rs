@@ -24,6 +24,21 @@ impl Call {
     pub fn size(&self) -> usize {
         self.wholes[0] as usize
     }
+
+    // of a call that takes an allowance of row reductions, behind its size
+    pub fn allowance(&self) -> u64 {
+        self.wholes[1]
+    }
+
+    pub fn allowing(mut self, allowance: u64) -> Self {
+        self.wholes[1] = allowance;
+        self
+    }
+
+    // its last slice, by which it tells how many rows it reduced
+    pub fn rows_reduced(&self) -> usize {
+        self.slices.len() - 1
+    }
 }
 
 // what an output or work slice of so many bytes holds before the call: bytes that no call would write

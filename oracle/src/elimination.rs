@@ -1,4 +1,4 @@
-// A model of Gauss-Jordan that chooses pivots by document 02's rule or by the Rust's.
+// A model of Gauss-Jordan that chooses pivots by document 02's rule or by the Rust's, and counts its row reductions.
 use crate::words::{Pair, Rows};
 use reference::reduction::reach::{cdiv, cmul, csub};
 
@@ -20,6 +20,14 @@ pub enum Choice {
     Open,
     // equal weights, none a NaN, and all too small for a pivot: either rule ends there
     Small,
+}
+
+// What ends the work before it is done.
+pub enum Stop {
+    // the chosen pivot is too small
+    Small,
+    // 02 P8: the next row reduction would exceed the allowance
+    Beyond,
 }
 
 // the squared magnitude
@@ -53,44 +61,75 @@ fn pivot(weights: &[f64], rule: Rule) -> usize {
     })
 }
 
-// row c is scaled by its pivot's inverse, and every other row that is not skipped is reduced
-fn clear(rows: &mut Rows, c: usize) {
-    let inverse = cdiv((1.0, 0.0), rows[c][c]);
-    let pivot_row: Vec<Pair> = rows[c].iter().map(|&x| cmul(x, inverse)).collect();
-    rows[c].copy_from_slice(&pivot_row);
-    for (i, row) in rows.iter_mut().enumerate() {
-        let factor = row[c];
-        if i == c || (factor.0.abs() < TINY && factor.1.abs() < TINY) {
-            continue;
-        }
-        for (x, &p) in row.iter_mut().zip(&pivot_row) {
-            *x = csub(*x, cmul(factor, p));
-        }
-    }
+// Solves systems one after the other, with one allowance of row reductions over all of them.
+pub struct Solver {
+    rule: Rule,
+    allowance: u64,
+    // row reductions so far
+    pub reduced: u64,
+    pub choice: Choice,
 }
 
-// The solutions for these right sides, none where a pivot is too small.
-pub fn eliminated(system: &[Vec<Pair>], sides: &[Vec<Pair>], rule: Rule) -> (Choice, Option<Rows>) {
-    let n = system.len();
-    let mut rows: Rows = system
-        .iter()
-        .zip(sides)
-        .map(|(a, b)| [&a[..], &b[..]].concat())
-        .collect();
-    let mut met = Choice::Clear;
-    for c in 0..n {
-        let weights: Vec<f64> = rows[c..].iter().map(|row| weight(row[c])).collect();
-        if met == Choice::Clear {
-            met = choice(&weights);
+impl Solver {
+    pub fn new(rule: Rule, allowance: u64) -> Self {
+        Solver {
+            rule,
+            allowance,
+            reduced: 0,
+            choice: Choice::Clear,
         }
-        let held = pivot(&weights, rule);
-        if weights[held] < TINY {
-            return (met, None);
-        }
-        rows.swap(c, c + held);
-        clear(&mut rows, c);
     }
-    (met, Some(rows.into_iter().map(|row| row[n..].to_vec()).collect()))
+
+    // The solutions for these right sides.
+    pub fn solutions(&mut self, system: &[Vec<Pair>], sides: &[Vec<Pair>]) -> Result<Rows, Stop> {
+        let n = system.len();
+        let mut rows: Rows = system
+            .iter()
+            .zip(sides)
+            .map(|(a, b)| [&a[..], &b[..]].concat())
+            .collect();
+        for c in 0..n {
+            let weights: Vec<f64> = rows[c..].iter().map(|row| weight(row[c])).collect();
+            if self.choice == Choice::Clear {
+                self.choice = choice(&weights);
+            }
+            let held = pivot(&weights, self.rule);
+            if weights[held] < TINY {
+                return Err(Stop::Small);
+            }
+            rows.swap(c, c + held);
+            self.clear(&mut rows, c)?;
+        }
+        Ok(rows.into_iter().map(|row| row[n..].to_vec()).collect())
+    }
+
+    // The solution for one right side.
+    pub fn solution(&mut self, system: &[Vec<Pair>], side: &[Pair]) -> Result<Vec<Pair>, Stop> {
+        let sides: Rows = side.iter().map(|&b| vec![b]).collect();
+        let solutions = self.solutions(system, &sides)?;
+        Ok(solutions.iter().map(|row| row[0]).collect())
+    }
+
+    // row c is scaled by its pivot's inverse, and every other row that is not skipped is reduced
+    fn clear(&mut self, rows: &mut Rows, c: usize) -> Result<(), Stop> {
+        let inverse = cdiv((1.0, 0.0), rows[c][c]);
+        let pivot_row: Vec<Pair> = rows[c].iter().map(|&x| cmul(x, inverse)).collect();
+        rows[c].copy_from_slice(&pivot_row);
+        for (i, row) in rows.iter_mut().enumerate() {
+            let factor = row[c];
+            if i == c || (factor.0.abs() < TINY && factor.1.abs() < TINY) {
+                continue;
+            }
+            if self.reduced == self.allowance {
+                return Err(Stop::Beyond);
+            }
+            self.reduced += 1;
+            for (x, &p) in row.iter_mut().zip(&pivot_row) {
+                *x = csub(*x, cmul(factor, p));
+            }
+        }
+        Ok(())
+    }
 }
 
 pub fn identity(n: usize) -> Rows {

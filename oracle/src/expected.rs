@@ -1,9 +1,11 @@
 // What a call must answer, and what every slice must hold after it.
+use crate::allowances::{Allowed, Met, NONE};
 use crate::ask::{Asked, Kind};
 use crate::call::{Call, Function};
 use crate::differences::{judged, state_number, Difference, Told};
+use crate::elimination::{Rule, Solver, Stop};
 use crate::header::Of;
-use crate::pivots::{self, Judge, Model};
+use crate::pivots::{self, Judge};
 use crate::words::{bytes_of, plain, words_of};
 
 #[derive(Clone, Debug, PartialEq)]
@@ -34,6 +36,10 @@ pub struct Expected {
     pub noted: Vec<Difference>,
     // none where no pivot was searched
     pub judge: Option<Judge>,
+    // the row reductions until the work ends, where they are counted
+    pub rows: Option<u64>,
+    // none where nothing was eliminated within an allowance
+    pub allowed: Option<Allowed>,
 }
 
 impl Expected {
@@ -44,6 +50,8 @@ impl Expected {
             told,
             noted: Vec::new(),
             judge: None,
+            rows: None,
+            allowed: None,
         }
     }
 
@@ -89,8 +97,26 @@ impl Expected {
         self
     }
 
+    // after so many row reductions, which an accepted call tells
+    fn reducing(mut self, call: &Call, rows: u64) -> Self {
+        self.rows = Some(rows);
+        if self.number == 0 {
+            self.words(call.rows_reduced(), vec![rows])
+        } else {
+            self
+        }
+    }
+
     pub fn same(&self, other: &Expected) -> bool {
-        self.number == other.number && self.after == other.after
+        self.number == other.number && self.after == other.after && self.rows == other.rows
+    }
+
+    fn allowing(mut self, allowance: u64, rows: u64, counted_by: Judge) -> Self {
+        self.allowed = Some(Allowed {
+            met: Met::of(self.number, allowance, rows),
+            counted_by: (rows > 0).then_some(counted_by),
+        });
+        self
     }
 
     pub fn failing(mut self, why: &str) -> Self {
@@ -129,26 +155,95 @@ pub fn expected<T>(
     }
 }
 
-// The same of a call that searches pivots: the model answers where document 02's rule may choose otherwise than the Rust.
-// `model` is none where nothing is to be eliminated.
-pub fn by_pivots<T>(
+// What the work of a call must answer by the model, whose solver it is handed.
+fn by_model<T>(
+    call: &Call,
+    mut solver: Solver,
+    answer: &impl Fn(&mut Solver) -> Result<T, Stop>,
+    work: usize,
+    written: impl FnOnce(Expected, T) -> Expected,
+) -> (Solver, Expected) {
+    let asked = match answer(&mut solver) {
+        Ok(answer) => Asked::Accepts(answer),
+        Err(Stop::Small) => Asked::Errs(Kind::LinearAlgebra),
+        Err(Stop::Beyond) => return (solver, beyond(call, work)),
+    };
+    (solver, expected(call, &[], asked, Some(work), written))
+}
+
+// refused for its allowance
+fn beyond(call: &Call, work: usize) -> Expected {
+    Expected::held(call, 18, Told::ByReference).with(work, After::Zero)
+}
+
+// whether the Rust went on to eliminate
+fn eliminates<T>(faults: &[u32], asked: &Asked<T>) -> bool {
+    faults.is_empty() && matches!(asked, Asked::Accepts(_) | Asked::Errs(Kind::LinearAlgebra))
+}
+
+// The same as `expected` of a call that searches pivots: the model answers where document 02's rule may choose otherwise than the
+// Rust. `model` is the work by a solver, none where nothing is to be eliminated.
+pub fn by_pivots<T, M: Fn(&mut Solver) -> Result<T, Stop>>(
     call: &Call,
     faults: &[u32],
     asked: Asked<T>,
-    model: impl FnOnce() -> Option<Model<T>>,
+    model: impl FnOnce() -> Option<M>,
     work: usize,
     written: impl Fn(Expected, T) -> Expected,
 ) -> Expected {
-    let eliminates = faults.is_empty() && matches!(asked, Asked::Accepts(_) | Asked::Errs(Kind::LinearAlgebra));
+    let model = if eliminates(faults, &asked) { model() } else { None };
     let rust = expected(call, faults, asked, Some(work), &written);
-    let Some(model) = eliminates.then(model).flatten() else {
+    let Some(model) = model else {
         return rust;
     };
-    let answered = |answer: Option<T>| {
-        let asked = answer.map_or(Asked::Errs(Kind::LinearAlgebra), Asked::Accepts);
-        expected(call, faults, asked, Some(work), &written)
+    let [(solver, first), (_, last)] =
+        [Rule::First, Rule::Last].map(|rule| by_model(call, Solver::new(rule, NONE), &model, work, &written));
+    pivots::judged(solver.choice, rust, first, last)
+}
+
+// The same of a call that takes an allowance and tells its row reductions: `rows` are those of the Rust, which has no allowance.
+pub fn by_rows<T, M: Fn(&mut Solver) -> Result<T, Stop>>(
+    call: &Call,
+    faults: &[u32],
+    asked: Asked<T>,
+    rows: impl FnOnce() -> u64,
+    model: impl FnOnce() -> Option<M>,
+    work: usize,
+    written: impl Fn(Expected, T) -> Expected,
+) -> Expected {
+    let model = if eliminates(faults, &asked) { model() } else { None };
+    let rust = expected(call, faults, asked, Some(work), &written);
+    let Some(model) = model else {
+        return rust.reducing(call, 0);
     };
-    pivots::judged(model.choice, rust, answered(model.first), answered(model.last))
+    let run = |rule, allowance| {
+        let (solver, e) = by_model(call, Solver::new(rule, allowance), &model, work, &written);
+        (solver.choice, e.reducing(call, solver.reduced))
+    };
+    let (choice, first) = run(Rule::First, NONE);
+    let rust_rows = rows();
+    let free = pivots::judged(choice, rust.reducing(call, rust_rows), first, run(Rule::Last, NONE).1);
+    let (Some(judge), Some(rows)) = (free.judge, free.rows) else {
+        return free;
+    };
+    // a larger allowance alters no answer but 18: below the count every one is refused, from there on none changes the answer
+    let allowance = call.allowance();
+    let due = if allowance < rows {
+        beyond(call, work).reducing(call, allowance).by(judge)
+    } else {
+        free
+    };
+    let (_, within) = run(Rule::First, allowance);
+    if !within.same(&due) {
+        return due.failing("the model within the allowance does not answer by its count without one");
+    }
+    let counted_by = match judge {
+        Judge::Model { .. } => Judge::Model {
+            alike: rows == rust_rows,
+        },
+        Judge::Rust => Judge::Rust,
+    };
+    due.allowing(allowance, rows, counted_by)
 }
 
 fn may_refuse(function: Function, number: u32) -> bool {

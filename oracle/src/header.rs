@@ -21,7 +21,7 @@ macro_rules! header {
             Abs abs(f64) -> f64;
             Sqrt sqrt(f64) -> f64;
             Magnitude magnitude(f64, f64) -> f64;
-            SolveLinear solve_linear(usize, &[f64], &[f64], &mut [f64], &mut [f64]) -> u32;
+            SolveLinear solve_linear(usize, &[f64], &[f64], usize, &mut [f64], &mut [f64], &mut usize) -> u32;
             ComplexMatrixInverse complex_matrix_inverse(usize, &[f64], &mut [f64], &mut [f64]) -> u32;
             KronNew kron_new(usize, &[f64], &[u32], &mut [u8]) -> u32;
             EliminateBus eliminate_bus(&mut [u8], &mut [f64], u32) -> u32;
@@ -32,13 +32,13 @@ macro_rules! header {
                 &[u8], &[f64], u32, u32, &mut [f64], &mut f64, &mut f64
             ) -> u32;
             WardCompute ward_compute(
-                usize, &[f64], &[u32], &[u32], &[u32], &[u32], f64, &[f64], &[f64],
-                &mut [f64], &mut [f64], &mut [f64], &mut [f64], &mut usize, &mut usize, &mut f64
+                usize, &[f64], &[u32], &[u32], &[u32], &[u32], f64, &[f64], &[f64], usize,
+                &mut [f64], &mut [f64], &mut [f64], &mut [f64], &mut usize, &mut usize, &mut f64, &mut usize
             ) -> u32;
             WardComputeExtended ward_compute_extended(
-                usize, &[f64], &[u32], &[u32], &[u32], &[u32], f64, &[f64], &[f64], &[f64],
+                usize, &[f64], &[u32], &[u32], &[u32], &[u32], f64, &[f64], &[f64], &[f64], usize,
                 &mut [f64], &mut [f64], &mut [f64], &mut [f64], &mut [f64], &mut [f64],
-                &mut usize, &mut usize, &mut f64
+                &mut usize, &mut usize, &mut f64, &mut usize
             ) -> u32;
             ReiCompute rei_compute(
                 &[usize], &[usize], &[f64], &[f64], &[f64], usize,

@@ -1,4 +1,5 @@
 // Calls of the port's C entries, and what the Rust reference and document 01 say of each.
+pub mod allowances;
 pub mod ask;
 pub mod buses;
 pub mod call;
@@ -16,6 +17,7 @@ pub mod recorded;
 pub mod room;
 pub mod roots;
 pub mod small;
+pub mod small_allowances;
 pub mod small_records;
 pub mod source;
 pub mod spoil;

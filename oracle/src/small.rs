@@ -1,10 +1,12 @@
 // Every small case: one and two buses with entries from short lists, short lists of branches, conversions.
+use crate::allowances;
 use crate::buses::rows;
 use crate::call::Call;
 use crate::functions::ward::Study;
 use crate::functions::*;
 use crate::header::{Function, Of};
 use crate::numbers::{NANS, SPECIALS};
+use crate::small_allowances;
 use crate::small_records::{self, fresh};
 use crate::words::bytes_of_reals;
 
@@ -28,7 +30,7 @@ fn on_matrix(n: usize, y: &[f64], visit: &mut dyn FnMut(Call)) {
     let numbers: Vec<u32> = (0..n as u32).rev().collect();
     let (first, last) = (numbers[0], numbers[n - 1]);
     let right: Vec<f64> = (0..2 * n).map(|i| 2.0 - i as f64).collect();
-    visit(solve_linear::of(n, y, &right));
+    allowances::each(solve_linear::of(n, y, &right), visit);
     visit(complex_matrix_inverse::of(n, y));
     visit(eliminate_bus::of(fresh(&numbers), slice(), last));
     visit(eliminate_buses::of(fresh(&numbers), slice(), &[first, last]));
@@ -57,14 +59,24 @@ fn on_matrix(n: usize, y: &[f64], visit: &mut dyn FnMut(Call)) {
     ));
 }
 
+// both calls of a study, with every allowance
+pub fn on_study(study: &Study, visit: &mut dyn FnMut(Call)) {
+    allowances::each(ward_compute::of(study), visit);
+    allowances::each(ward_compute_extended::of(study), visit);
+}
+
+// with no imaginary part
+pub fn entries(xs: &[f64]) -> Vec<f64> {
+    xs.iter().flat_map(|&x| [x, 0.0]).collect()
+}
+
 // the inputs by which docs/DIFFERENCES.md shows the rule for equal pivots
 fn equal_pivots(visit: &mut dyn FnMut(Call)) {
-    let entries = |xs: &[f64]| -> Vec<f64> { xs.iter().flat_map(|&x| [x, 0.0]).collect() };
     let tied = entries(&[1.0, 1.0, 1.0, 4.0]);
-    visit(solve_linear::of(2, &tied, &entries(&[0.0, 1.0])));
+    allowances::each(solve_linear::of(2, &tied, &entries(&[0.0, 1.0])), visit);
     visit(complex_matrix_inverse::of(2, &tied));
     let held = entries(&[f64::NAN, 0.0, 0.0, 1.0]);
-    visit(solve_linear::of(2, &held, &entries(&[1.0, 1.0])));
+    allowances::each(solve_linear::of(2, &held, &entries(&[1.0, 1.0])), visit);
     let y = entries(&[1.0, 1.0, 1.0, -2.0]);
     visit(thevenin_impedance::of(fresh(&[0, 1]), bytes_of_reals(&y), 0, 1));
     for y in [
@@ -83,8 +95,7 @@ fn equal_pivots(visit: &mut dyn FnMut(Call)) {
             q: vec![-25.0, 10.0],
             v: vec![1.25, 0.75],
         };
-        visit(ward_compute::of(&study));
-        visit(ward_compute_extended::of(&study));
+        on_study(&study, visit);
     }
 }
 
@@ -106,8 +117,7 @@ fn currents(visit: &mut dyn FnMut(Call)) {
         study([1.0, 0.0, -1.0, 0.0, -1.0, 0.0, 1.0, 1.0], 1.0, 0.0, 1.0),
         study([1.0, 0.0, -1.0, 0.0, -1.0, 0.0, 2.0, 0.0], 100.0, 50.0, 0.0),
     ] {
-        visit(ward_compute::of(&study));
-        visit(ward_compute_extended::of(&study));
+        on_study(&study, visit);
     }
 }
 
@@ -169,5 +179,6 @@ pub fn every(visit: &mut dyn FnMut(Call)) {
     currents(visit);
     branches(visit);
     small_records::every(visit);
+    small_allowances::every(visit);
     converted(visit);
 }

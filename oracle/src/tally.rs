@@ -1,12 +1,15 @@
-// Counts of a run, by entry, by number and by difference, and the first calls that fail.
+// Counts of a run, by entry, by number, by difference and by allowance, and the first calls that fail.
+use crate::allowances::Met;
 use crate::ask::Manner;
 use crate::call::{shown, Call, Function};
 use crate::crossing::Crossing;
 use crate::differences::{Difference, Told};
-use crate::expected::Expected;
+use crate::expected::{After, Expected};
 use crate::functions::expected;
 use crate::pivots::Judge;
 use crate::port::{Part, Port};
+use crate::small_allowances::Stated;
+use crate::words::words_of;
 use std::collections::BTreeMap;
 
 #[derive(Default)]
@@ -15,6 +18,9 @@ pub struct Tally {
     pub answers: BTreeMap<(Function, u32), usize>,
     pub differences: BTreeMap<(Difference, Manner), usize>,
     pub judges: BTreeMap<(Function, Judge), usize>,
+    pub allowances: BTreeMap<(Function, Met), usize>,
+    // of row reductions above 0
+    pub counts: BTreeMap<(Function, Judge), usize>,
     pub failed: BTreeMap<Function, usize>,
 }
 
@@ -25,6 +31,13 @@ const PIVOTING: [Function; 5] = [
     Function::SolveLinear,
     Function::ComplexMatrixInverse,
     Function::TheveninImpedance,
+    Function::WardCompute,
+    Function::WardComputeExtended,
+];
+
+// the calls that take an allowance
+const ALLOWING: [Function; 3] = [
+    Function::SolveLinear,
     Function::WardCompute,
     Function::WardComputeExtended,
 ];
@@ -49,12 +62,31 @@ impl Tally {
         if let Some(judge) = e.judge {
             *self.judges.entry((call.function, judge)).or_default() += 1;
         }
+        if let Some(allowed) = &e.allowed {
+            *self.allowances.entry((call.function, allowed.met)).or_default() += 1;
+            if let Some(judge) = allowed.counted_by {
+                *self.counts.entry((call.function, judge)).or_default() += 1;
+            }
+        }
         if let Some(port) = port {
             if let Err(why) = compared(call, &e, port, self.total()) {
                 self.fail(call, &why);
             }
         }
         e.number
+    }
+
+    // a call whose answer is stated beforehand
+    pub fn stated(&mut self, call: &Call, stated: Stated, port: Option<Port>) {
+        let e = expected(call);
+        let answered = match (e.number, &e.after[call.rows_reduced()]) {
+            (0, After::Bytes(rows)) => Ok(words_of(rows)[0]),
+            (number, _) => Err(number),
+        };
+        if answered != stated {
+            self.fail(call, &format!("stated is {stated:?}, expected {answered:?}"));
+        }
+        self.run(call, port);
     }
 
     pub fn total(&self) -> usize {
@@ -91,16 +123,20 @@ impl Tally {
             println!("listed difference {difference:?}, the Rust {manner:?}: {times}");
         }
         for function in PIVOTING {
-            let [by_rust, alike, unlike] = self.judged(function);
-            let by_model = format!("{} by the model, {unlike} of them unlike the Rust's", alike + unlike);
-            println!("pivots of {function:?}: {by_rust} answers by the Rust, {by_model}");
+            let answers = told("answers", of(&self.judges, function));
+            println!("pivots of {function:?}: {answers}");
+        }
+        for function in ALLOWING {
+            let [beyond, singular, exactly, within] = self.met(function);
+            let refused = format!("{beyond} refused with 18, {singular} with 13 before that");
+            let accepted = format!("{exactly} accepted at the very count, {within} above it or without one");
+            let counts = told("counts above 0", of(&self.counts, function));
+            println!("allowances of {function:?}: {refused}, {accepted}; {counts}");
         }
     }
 
-    // answers by the Rust, and by the model alike and unlike the Rust
-    fn judged(&self, function: Function) -> [usize; 3] {
-        let judges = [Judge::Rust, Judge::Model { alike: true }, Judge::Model { alike: false }];
-        judges.map(|judge| self.judges.get(&(function, judge)).copied().unwrap_or(0))
+    fn met(&self, function: Function) -> [usize; 4] {
+        Met::ALL.map(|met| self.allowances.get(&(function, met)).copied().unwrap_or(0))
     }
 
     pub fn by_model(&self) -> usize {
@@ -115,11 +151,30 @@ impl Tally {
 
     // a function of which the Rust gave no answer, or the model none unlike the Rust's
     pub fn unjudged(&self) -> Option<Function> {
-        PIVOTING.into_iter().find(|&function| {
-            let [by_rust, _, unlike] = self.judged(function);
-            by_rust == 0 || unlike == 0
-        })
+        let mut functions = PIVOTING.into_iter();
+        functions.find(|&function| one_sided(of(&self.judges, function)))
     }
+
+    // a function whose allowances were not met in every way, or that lacks a count by the Rust or one by the model that is unlike
+    pub fn unallowed(&self) -> Option<Function> {
+        let mut functions = ALLOWING.into_iter();
+        functions.find(|&function| self.met(function).contains(&0) || one_sided(of(&self.counts, function)))
+    }
+}
+
+// by the Rust, and by the model alike and unlike the Rust
+fn of(judges: &BTreeMap<(Function, Judge), usize>, function: Function) -> [usize; 3] {
+    let each = [Judge::Rust, Judge::Model { alike: true }, Judge::Model { alike: false }];
+    each.map(|judge| judges.get(&(function, judge)).copied().unwrap_or(0))
+}
+
+fn told(what: &str, [by_rust, alike, unlike]: [usize; 3]) -> String {
+    let by_model = alike + unlike;
+    format!("{by_rust} {what} by the Rust, {by_model} by the model, {unlike} of them unlike the Rust's")
+}
+
+fn one_sided([by_rust, _, unlike]: [usize; 3]) -> bool {
+    by_rust == 0 || unlike == 0
 }
 
 fn compared(call: &Call, e: &Expected, port: Port, turn: usize) -> Result<(), String> {

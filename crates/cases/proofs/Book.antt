@@ -3,7 +3,7 @@ use Rattle.prelude.proofs.Prelude.{refl, ofBits, ofInt, sub, mul, div, lt}
 use Rattle.binary64.specs.Root.{root}
 use Rattle.complex.specs.{plus0, one, cadd, csub, cmul, cdiv, complexInv, magnitude, entry, entryAt, zeros, grid}
 use Rattle.lists.specs.Buses.{upTo, others, place, rising, allBelow, allZero, repeats, rowsIn}
-use Rattle.refusals.specs.Refusals.{outcome, number}
+use Rattle.refusals.specs.Refusals.{outcome, number, countedNumber}
 use Rattle.solver.specs.GaussJordan.{solution, singularSystem}
 use Rattle.solver.specs.Solving.{skipped, unitColumn}
 use Rattle.solver.specs.Calls.{afterSolve}
@@ -11,12 +11,12 @@ use Rattle.kron_reduction.specs.Kron.{kron, removalRefusal, eliminate, carriedO
 use Rattle.kron_reduction.specs.Reducer.{makingRefusal, afterNew, soundRows, soundNumbers, inputRefusal, stateOf, stored, leaves, removedRows, removalsRefusal, afterBus, afterBuses}
 use Rattle.kron_reduction.specs.Reading.{readingRefusal, theveninOf, impedance, impedanceRefusal, afterImpedance}
 use Rattle.ward_equivalent.specs.Numbers.{inRows, afterCompute, afterComputeExtended}
-use Rattle.cases.specs.Calls.{seenImpedance, seenSummary, after}
+use Rattle.cases.specs.Calls.{seenImpedance, seenSummary, reducedRows, after}
 use Rattle.cases.specs.Book.{reals, AllMet, table}
 
 -- to open this is to open all that the cases compute with
 unfoldable pub opened : Unit {0}
-unfolding reals after seenImpedance seenSummary number outcome plus0 one cadd csub cmul cdiv complexInv magnitude root entry entryAt zeros grid
+unfolding reals after seenImpedance seenSummary reducedRows number countedNumber outcome plus0 one cadd csub cmul cdiv complexInv magnitude root entry entryAt zeros grid
     upTo others place rising allBelow allZero repeats rowsIn solution singularSystem skipped unitColumn afterSolve
     kron removalRefusal eliminate carriedOut stoppedBy makingRefusal afterNew soundRows soundNumbers inputRefusal stateOf stored leaves
     removedRows removalsRefusal afterBus afterBuses readingRefusal theveninOf impedance impedanceRefusal afterImpedance

@@ -105,14 +105,14 @@ case9 =
     bookRow 9
     (study (numberedOf bookNumbers (studyOf 2 M [] (1 ∷ []) (0 ∷ []) +100 (+50 ∷ []) (+0 ∷ [])))
     (outputsOf (ones 2) (ones 1) (ones 1) (ones 6)))
-    (seen 0 (2 ∷ 1 ∷ []) (1/2 ∷ []) (reals (1/2 ∷ []) ∷ (+25 ∷ []) ∷ (+0 ∷ []) ∷ clearedSlice 6 ∷ []))
+    (seen 0 (2 ∷ 1 ∷ 0 ∷ []) (1/2 ∷ []) (reals (1/2 ∷ []) ∷ (+25 ∷ []) ∷ (+0 ∷ []) ∷ clearedSlice 6 ∷ []))
 
 -- M, boundary 0, no external bus: matrix 1, no injection, ratio 0
 abbrev pub case10 : BookRow
 case10 =
     bookRow 10
     (study (numberedOf bookNumbers (studyOf 2 M [] [] (0 ∷ []) +100 [] [])) (outputsOf (ones 2) (ones 1) (ones 1) []))
-    (seen 0 (2 ∷ 1 ∷ []) (+0 ∷ []) (reals (+1 ∷ []) ∷ (+0 ∷ []) ∷ (+0 ∷ []) ∷ [] ∷ []))
+    (seen 0 (2 ∷ 1 ∷ 0 ∷ []) (+0 ∷ []) (reals (+1 ∷ []) ∷ (+0 ∷ []) ∷ (+0 ∷ []) ∷ [] ∷ []))
 
 -- (3, -4), (-3, 4) / (-3, 4), (6, -8), boundary 0, external 1, voltage 1.25, base 100: voltage correction 0.25, Q -100
 abbrev pub case11 : BookRow
@@ -125,15 +125,15 @@ case11 =
       v-ext = 5/4 ∷ [];
     })
     (record { outputs = outputsOf (ones 2) (ones 1) (ones 1) (ones 6); correction = ones 1; compensation = ones 1 }))
-    (seen 0 (2 ∷ 1 ∷ []) (1/2 ∷ [])
+    (seen 0 (2 ∷ 1 ∷ 0 ∷ []) (1/2 ∷ [])
     ((3/2 ∷ -2 ∷ []) ∷ (-0 ∷ []) ∷ (+0 ∷ []) ∷ (1/4 ∷ []) ∷ (-100 ∷ []) ∷ clearedSlice 6 ∷ []))
 
--- 1, 1 / -1, 1 with right side 2, 0: the solution is 1, 1
+-- 1, 1 / -1, 1 with right side 2, 0: the solution is 1, 1; each row is reduced once
 abbrev pub case12 : BookRow
 case12 =
     bookRow 12
     (solution 2 (reals (+1 ∷ +1 ∷ -1 ∷ +1 ∷ [])) (reals (+2 ∷ +0 ∷ [])) (ones 4) (ones 12))
-    (seen 0 [] [] (reals (+1 ∷ +1 ∷ []) ∷ clearedSlice 12 ∷ []))
+    (seen 0 (2 ∷ []) [] (reals (+1 ∷ +1 ∷ []) ∷ clearedSlice 12 ∷ []))
 
 unfoldable pub table : List BookRow
 table = case1 ∷ case2 ∷ case3 ∷ case4 ∷ case5 ∷ case6 ∷ case7 ∷ case8 ∷ case9 ∷ case10 ∷ case11 ∷ case12 ∷ []

@@ -5,7 +5,10 @@ use lib.Ieee.{Float}
 use Rattle.complex.specs.declared.Complex.{Complex}
 use Rattle.complex.specs.Arithmetic.{cmul, complexInv}
 use Rattle.complex.specs.Computed.{ofParts}
-use Rattle.refusals.specs.Refusals.{number}
+use Rattle.refusals.specs.declared.Allowance.the-variants.{Unlimited}
+use Rattle.refusals.specs.declared.Counted.{Counted}
+use Rattle.refusals.specs.declared.Counted.the-variants as reduced
+use Rattle.refusals.specs.Refusals.{number, countedNumber}
 use Rattle.solver.specs.Calls.{AfterElimination, afterSolve}
 use Rattle.kron_reduction.specs.declared.KronReducer.{KronReducer}
 use Rattle.kron_reduction.specs.declared.Impedance.{Impedance}
@@ -14,12 +17,13 @@ use Rattle.kron_reduction.specs.Reducer.{ReducerInput, afterNew, AfterBus, afte
 use Rattle.kron_reduction.specs.Reading.{afterImpedance}
 use Rattle.ward_equivalent.specs.declared.answers.WardAnswer.{WardAnswer}
 use Rattle.ward_equivalent.specs.declared.answers.WardAnswer.the-variants as studies
-use Rattle.ward_equivalent.specs.Ward.{Outputs, AfterWard}
-use Rattle.ward_equivalent.specs.Extended.{ExtendedOutputs, AfterExtended}
+use Rattle.ward_equivalent.specs.Ward.{Outputs}
+use Rattle.ward_equivalent.specs.Extended.{ExtendedOutputs}
+use Rattle.ward_equivalent.specs.Studied.{AfterWard, AfterExtended}
 use Rattle.ward_equivalent.specs.Numbers.{NumberedStudy, NumberedExtended, afterCompute, afterComputeExtended}
 
 -- A call with all that is handed to it. The reducer's calls come after the making of their record; what comes last is what the slices hold
--- at entry.
+-- at entry. No call has an allowance.
 pub data BookCall : Type 0 where
   product : Complex → Complex → BookCall
   inverse : Complex → BookCall
@@ -55,8 +59,14 @@ seenImpedance (impedances.Value z) ss = seen 0 [] (ofParts z) ss
 seenImpedance (impedances.Refused k) ss = seen k [] [] ss
 
 unfoldable pub seenSummary : WardAnswer → List (List Float) → Seen
-seenSummary (studies.Done s) ss = seen 0 (s .«n_buses_reduced» ∷ s .«n_buses_equivalent» ∷ []) (s .«reduction_ratio» ∷ []) ss
+seenSummary (studies.Done s) ss =
+    seen 0 (s .«n_buses_reduced» ∷ s .«n_buses_equivalent» ∷ s .«rows_reduced» ∷ []) (s .«reduction_ratio» ∷ []) ss
 seenSummary (studies.Refused k) ss = seen k [] [] ss
+
+-- how many rows were reduced
+unfoldable pub reducedRows : Counted → List ℕ
+reducedRows (reduced.Reduced n) = n ∷ []
+reducedRows (reduced.Refused k) = []
 
 -- ---- the calls
 
@@ -76,8 +86,8 @@ seenExtended a =
     let o = x .outputs in
     seenSummary (a .answer) (o .y-ward ∷ o .p-ward ∷ o .q-ward ∷ x .correction ∷ x .compensation ∷ o .work ∷ [])
 
-abbrev pub seenSolution : AfterElimination → Seen
-seenSolution a = seen (number (a .answer)) [] [] (a .output ∷ a .work ∷ [])
+abbrev pub seenSolution : AfterElimination Counted → Seen
+seenSolution a = seen (countedNumber (a .answer)) (reducedRows (a .answer)) [] (a .output ∷ a .work ∷ [])
 
 unfoldable pub after : BookCall → Seen
 after (product a b) = seen 0 [] (ofParts (cmul a b)) []
@@ -85,6 +95,6 @@ after (inverse b) = seen 0 [] (ofParts (complexInv b)) []
 after (removal M k) = seenBus (afterBus (afterNew M .rec) (M .given) k)
 after (removals M ks) = seenBuses (afterBuses (afterNew M .rec) (M .given) ks)
 after (impedance M i j ws) = let a = afterImpedance (afterNew M .rec) (M .given) i j ws in seenImpedance (a .answer) (a .work ∷ [])
-after (study N o) = seenStudy (afterCompute N o)
-after (extended X o) = seenExtended (afterComputeExtended X o)
-after (solution n a b x ws) = seenSolution (afterSolve n a b x ws)
+after (study N o) = seenStudy (afterCompute N Unlimited o)
+after (extended X o) = seenExtended (afterComputeExtended X Unlimited o)
+after (solution n a b x ws) = seenSolution (afterSolve n a b Unlimited x ws)

@@ -6,6 +6,7 @@ use Rattle.binary64.specs.Values.{F64s}
 use Rattle.kron_reduction.specs.Reducer.{reducerInputOf}
 use Rattle.ward_equivalent.specs.Ward.{Outputs}
 use Rattle.ward_equivalent.specs.Extended.{ExtendedOutputs}
+use Rattle.refusals.specs.declared.Allowance.{Allowance}
 use Rattle.ward_equivalent.specs.Numbers.{NumberedStudy, NumberedExtended, inRows, extendedInRows, AcceptedStudy, AcceptedExtended, afterCompute, afterComputeExtended}
 use Rattle.claims.specs.Accounts.{Call, left, account}
 use Rattle.claims.specs.Finite.{Finite, ofBitPatterns}
@@ -45,9 +46,9 @@ module _ (n : ℕ) (ws ns internal external boundary : List ℕ) (base : ℕ) (p
   abbrev pub extended : List ℕ → NumberedExtended
   extended vs = record { study = study; v-ext = ofBitPatterns vs }
 
-  pub zero-row-words : (o : Outputs) → AcceptedStudy study o → FiniteStudy (inRows study) → (p : ℕ) → p < length (rowBuses (inRows study)) → ZeroRow (inRows study) p → KeepsRow (inRows study) (afterCompute study o .outputs) p
-  zero-row-words o = zero-row study o (words-f64s ws)
+  pub zero-row-words : (a : Allowance) (o : Outputs) → AcceptedStudy study a o → FiniteStudy (inRows study) → (p : ℕ) → p < length (rowBuses (inRows study)) → ZeroRow (inRows study) p → KeepsRow (inRows study) (afterCompute study a o .outputs) p
+  zero-row-words a o = zero-row study a o (words-f64s ws)
 
-  pub zero-rowX-words : (vs : List ℕ) (o : ExtendedOutputs) → AcceptedExtended (extended vs) o → FiniteExtended (extendedInRows (extended vs))
-      → (p : ℕ) → p < length (rowBuses (inRows study)) → ZeroRow (inRows study) p → KeepsExtendedRow (extendedInRows (extended vs)) (afterComputeExtended (extended vs) o .outputs) p
-  zero-rowX-words vs o = zero-rowX (extended vs) o (words-f64s ws)
+  pub zero-rowX-words : (vs : List ℕ) (a : Allowance) (o : ExtendedOutputs) → AcceptedExtended (extended vs) a o → FiniteExtended (extendedInRows (extended vs))
+      → (p : ℕ) → p < length (rowBuses (inRows study)) → ZeroRow (inRows study) p → KeepsExtendedRow (extendedInRows (extended vs)) (afterComputeExtended (extended vs) a o .outputs) p
+  zero-rowX-words vs a o = zero-rowX (extended vs) a o (words-f64s ws)

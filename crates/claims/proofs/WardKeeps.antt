@@ -9,8 +9,11 @@ use Rattle.complex.proofs.Finite.{all-left, all-right, all-at, zero-times}
 use Rattle.complex.proofs.SameValue.{Finite, ≋-refl, ≋→≈}
 use Rattle.lists.specs.Buses.{_isOneOf_}
 use Rattle.ward_equivalent.specs.Arithmetic.{injectedP, injectedQ}
-use Rattle.ward_equivalent.specs.Ward.{Study, Outputs, retained, listed, externals, externalAt, admittance, solvedColumn, rowTimes, equivalent, solvedCurrents, boundaryCurrent, injectionP, injectionQ, acceptedOutputs}
-use Rattle.ward_equivalent.specs.Computed.{ofEach, ofRowTimes, ofEquivalentEntry, ofInjection, ofReduction, ofEquivalent, ofInjections, ofStudy}
+use Rattle.ward_equivalent.specs.Ward.{Study, Outputs, retained, listed, externals, externalAt, admittance, solvedColumn, rowTimes, equivalent, solvedCurrents, boundaryCurrent, injectionP, injectionQ}
+use Rattle.ward_equivalent.specs.Studied.{acceptedOutputs}
+use Rattle.refusals.specs.declared.Allowance.{Allowance}
+use Rattle.ward_equivalent.specs.Steps.{ofEach, ofRowTimes, ofEquivalentEntry, ofInjection, ofEquivalent, ofInjections, ofStudy}
+use Rattle.ward_equivalent.proofs.Steps.{entries-computed, injections-computed}
 use Rattle.lists.proofs.Buses.{getD-in, in-append, below-all}
 use Rattle.ward_equivalent.specs.Numbers.{NumberedStudy, inRows, AcceptedStudy, afterCompute}
 use Rattle.ward_equivalent.proofs.Laws.{Sound, sound, left-accepted}
@@ -56,8 +59,7 @@ entry-computed : (S : Study) (p q : ℕ) → p < length (retained S) → q < len
 unfolding ofEquivalent
 entry-computed S p q x y h =
     each-at (ofEquivalentEntry S (getD (retained S) p 0)) (retained S) q y
-    (each-at (λ (i : ℕ). ofEach (ofEquivalentEntry S i) (retained S)) (retained S) p x
-    (search (all-left, all-right)))
+    (each-at (λ (i : ℕ). ofEach (ofEquivalentEntry S i) (retained S)) (retained S) p x h)
 
 module _ (S : Study) (s : Sound S) (f64s : F64s (S .given)) (given : T (allFinite (S .given))) (computed : T (allFinite (ofStudy S)))
     (p : ℕ) (at : p < length (retained S)) (none : (e : ℕ) → e isOneOf S .external → Zero (admittance S (getD (retained S) p 0) e)) where
@@ -73,32 +75,37 @@ module _ (S : Study) (s : Sound S) (f64s : F64s (S .given)) (given : T (allFinit
   entry-fits j = let at = getD (retained S) p 0 * S .size + j in (f64s (2 * at), f64s (2 * at + 1))
 
   same-value : (q : ℕ) → q < length (retained S) → equivalent S (getD (retained S) p 0) (getD (retained S) q 0) ≈ admittance S (getD (retained S) p 0) (getD (retained S) q 0)
-  unfolding equivalent ofStudy ofEquivalentEntry
-  same-value q y =
-      let i = getD (retained S) p 0 in
-      let j = getD (retained S) q 0 in
-      (elim (eqb (externals S) 0) as (λ b. T (allFinite (cond b [] (ofEquivalent S ++ ofInjections S ++ ofReduction (length (retained S)) (S .size))))
-      → cond b (admittance S i j) (csub (admittance S i j) (rowTimes S i (solvedColumn S j))) ≈ admittance S i j) [
-        | true ↦ λ h. ≋→≈ (entry-finite S s given i j (bus-below S s p at) (bus-below S s q y)) ≋-refl
-        | false ↦ λ h. let numbers = entry-computed S p q at y (search (all-left, all-right)) in
-            less-null (admittance S i j) (rowTimes S i (solvedColumn S j)) (entry-fits j)
-            (row-times (solvedColumn S j) (search (all-left, all-right))) (search (all-left, all-right))
-      ]) computed
+  unfolding equivalent ofEquivalentEntry
+  same-value q y = go (eqb (externals S) 0) refl
+    where
+      i : ℕ
+      i = getD (retained S) p 0
+
+      j : ℕ
+      j = getD (retained S) q 0
+
+      go : (b : Bool) → eqb (externals S) 0 ≡ b
+          → cond b (admittance S (getD (retained S) p 0) (getD (retained S) q 0)) (csub (admittance S (getD (retained S) p 0) (getD (retained S) q 0)) (rowTimes S (getD (retained S) p 0) (solvedColumn S (getD (retained S) q 0)))) ≈ admittance S (getD (retained S) p 0) (getD (retained S) q 0)
+      go true e = ≋→≈ (entry-finite S s given i j (bus-below S s p at) (bus-below S s q y)) ≋-refl
+      go false e =
+          let numbers = entry-computed S p q at y (entries-computed S e computed) in
+          less-null (admittance S i j) (rowTimes S i (solvedColumn S j)) (entry-fits j)
+          (row-times (solvedColumn S j) (search (all-left, all-right))) (search (all-left, all-right))
 
   -- the injections at place t of the boundary
   injections : (t : ℕ) → t < length (S .boundary) → getD (retained S) p 0 ≡ getD (S .boundary) t 0
       → F.Zero (injectionP S (getD (S .boundary) t 0)) × F.Zero (injectionQ S (getD (S .boundary) t 0))
-  unfolding ofStudy ofInjections ofInjection injectionP injectionQ boundaryCurrent injectedP injectedQ
-  injections t l e = go (eqb (externals S) 0) refl computed
+  unfolding ofInjections ofInjection injectionP injectionQ boundaryCurrent injectedP injectedQ
+  injections t l e = go (eqb (externals S) 0) refl
     where
-      go : (b : Bool) → eqb (externals S) 0 ≡ b → T (allFinite (cond b [] (ofEquivalent S ++ ofInjections S ++ ofReduction (length (retained S)) (S .size))))
+      go : (b : Bool) → eqb (externals S) 0 ≡ b
           → F.Zero (cond b plus0 (injectedP (S .base) (boundaryCurrent S (getD (S .boundary) t 0)))) × F.Zero (cond b plus0 (injectedQ (S .base) (boundaryCurrent S (getD (S .boundary) t 0))))
-      go true q h = (plus0-zero, plus0-zero)
-      go false q h =
+      go true q = (plus0-zero, plus0-zero)
+      go false q =
           let i = getD (S .boundary) t 0 in
           let products = ofRowTimes S i (solvedCurrents S) in
           let numbers : T (allFinite (products ++ (injectionP S i ∷ injectionQ S i ∷ []))) =
-          each-at (ofInjection S) (S .boundary) t l (search (all-left, all-right)) in
+          each-at (ofInjection S) (S .boundary) t l (injections-computed S q computed) in
           let times : T (allFinite products) = search all-left in
           let null : Null (boundaryCurrent S i) = rw e at (row-times (solvedCurrents S) (rw (← e) at times)) in
           let ends : T (allFinite (injectionP S i ∷ injectionQ S i ∷ [])) = search all-right in
@@ -133,10 +140,10 @@ module _ (S : Study) (s : Sound S) (f64s : F64s (S .given)) (given : T (allFinit
       }
 
 -- `search f` takes the part of the premise that is wanted: one that says more has it too
-pub zero-row : (N : NumberedStudy) (o : Outputs) → F64s (N .study .given) → AcceptedStudy N o → FiniteStudy (inRows N)
-    → (p : ℕ) → p < length (rowBuses (inRows N)) → ZeroRow (inRows N) p → KeepsRow (inRows N) (afterCompute N o .outputs) p
+pub zero-row : (N : NumberedStudy) (a : Allowance) (o : Outputs) → F64s (N .study .given) → AcceptedStudy N a o → FiniteStudy (inRows N)
+    → (p : ℕ) → p < length (rowBuses (inRows N)) → ZeroRow (inRows N) p → KeepsRow (inRows N) (afterCompute N a o .outputs) p
 unfolding givenOf inRows
-zero-row N o f64s h f p at none =
+zero-row N a o f64s h f p at none =
     let S = inRows N in
-    subst (λ (room : Outputs). KeepsRow S room p) (sym (left-accepted N o h))
-    (keeps-row S (sound N o h) f64s (search all-left) (search f) p at none (zeros (length (o .work))))
+    subst (λ (room : Outputs). KeepsRow S room p) (sym (left-accepted N a o h))
+    (keeps-row S (sound N a o h) f64s (search all-left) (search f) p at none (zeros (length (o .work))))

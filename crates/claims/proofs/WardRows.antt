@@ -8,12 +8,14 @@ use Rattle.complex.proofs.Finite.{all-left, all-right, all-at, zero-times}
 use Rattle.lists.specs.Buses.{_isOneOf_}
 use Rattle.ward_equivalent.specs.Ward.{Outputs, retained, externals, admittance}
 use Rattle.ward_equivalent.specs.Extended.{ExtendedStudy, ExtendedOutputs, deviation, boundaryTie, weight, weightSum, voltageCorrection, reactive, qCompensation}
-use Rattle.ward_equivalent.specs.Computed.{ofStudy, ofTies, ofCorrection, ofExtended}
+use Rattle.refusals.specs.declared.Allowance.{Allowance}
+use Rattle.ward_equivalent.specs.Steps.{ofStudy, ofTies, ofCorrection, ofExtended}
 use Rattle.ward_equivalent.proofs.Laws.{soundX, left-acceptedX, correction-accepted, compensation-accepted}
 use Rattle.lists.proofs.Lookups.{getD-map}
 use Rattle.ward_equivalent.proofs.Sums.{Null, plus0-zero, sum-zero, magnitude-zero, none-above, each-at}
 use Rattle.ward_equivalent.specs.Numbers.{NumberedExtended, inRows, extendedInRows, AcceptedExtended, afterComputeExtended}
 use Rattle.claims.specs.WardRows.{givenOf, FiniteExtended, old, rowBuses, busOfRow, ZeroRow, ZeroAt, KeepsRow, KeepsExtendedRow, WardRows}
+use Rattle.ward_equivalent.proofs.Steps.{study-computed, corrections-computed}
 use Rattle.claims.proofs.WardKeeps.{row-null, bus-at, keeps-row, zero-row}
 
 -- ---- the terms of one boundary tie
@@ -61,9 +63,9 @@ module _ (S : ExtendedStudy) (i : ℕ) (none : (e : ℕ) → e isOneOf S .study 
 
 -- the ties of the bus at place t of the boundary
 ties-computed : (S : ExtendedStudy) (t : ℕ) → t < length (S .study .boundary) → T (allFinite (ofExtended S)) → T (allFinite (ofTies S (getD (S .study .boundary) t 0) (externals (S .study))))
-unfolding ofExtended ofCorrection
+unfolding ofCorrection
 ties-computed S t l h =
-    let own = each-at (ofCorrection S) (S .study .boundary) t l (search (all-left, all-right)) in
+    let own = each-at (ofCorrection S) (S .study .boundary) t l (corrections-computed S h) in
     search (all-left, all-right)
 
 module _ (S : ExtendedStudy) (computed : T (allFinite (ofExtended S))) (p : ℕ) (none : ZeroRow (S .study) p) where
@@ -84,23 +86,23 @@ module _ (S : ExtendedStudy) (computed : T (allFinite (ofExtended S))) (p : ℕ)
       (F.zero-eq (qCompensation S (getD (S .study .boundary) t 0)) (no-compensation S (getD (S .study .boundary) t 0) (none-at t q) (ties-computed S t l computed)))
 
 -- `search f` takes the part of the premise that is wanted: one that says more has it too
-pub zero-rowX : (X : NumberedExtended) (o : ExtendedOutputs) → F64s (X .study .study .given) → AcceptedExtended X o → FiniteExtended (extendedInRows X)
-    → (p : ℕ) → p < length (rowBuses (inRows (X .study))) → ZeroRow (inRows (X .study)) p → KeepsExtendedRow (extendedInRows X) (afterComputeExtended X o .outputs) p
-unfolding givenOf ofExtended inRows extendedInRows
-zero-rowX X o f64s h f p at none =
+pub zero-rowX : (X : NumberedExtended) (a : Allowance) (o : ExtendedOutputs) → F64s (X .study .study .given) → AcceptedExtended X a o → FiniteExtended (extendedInRows X)
+    → (p : ℕ) → p < length (rowBuses (inRows (X .study))) → ZeroRow (inRows (X .study)) p → KeepsExtendedRow (extendedInRows X) (afterComputeExtended X a o .outputs) p
+unfolding givenOf inRows extendedInRows
+zero-rowX X a o f64s h f p at none =
     let S = inRows (X .study) in
     let E = extendedInRows X in
     let given : T (allFinite (S .given)) = search all-left in
     let computed : T (allFinite (ofExtended E)) = search f in
-    let study : T (allFinite (ofStudy S)) = search all-left in
+    let study : T (allFinite (ofStudy S)) = study-computed E computed in
     record {
-      row = subst (λ (room : Outputs). KeepsRow S room p) (sym (left-acceptedX X o h)) (keeps-row S (soundX X o h) f64s given study p at none (zeros (length (o .outputs .work))));
-      correction = subst (ZeroAt S p) (sym (correction-accepted X o h)) (correction-zero E computed p none);
-      compensation = subst (ZeroAt S p) (sym (compensation-accepted X o h)) (compensation-zero E computed p none);
+      row = subst (λ (room : Outputs). KeepsRow S room p) (sym (left-acceptedX X a o h)) (keeps-row S (soundX X a o h) f64s given study p at none (zeros (length (o .outputs .work))));
+      correction = subst (ZeroAt S p) (sym (correction-accepted X a o h)) (correction-zero E computed p none);
+      compensation = subst (ZeroAt S p) (sym (compensation-accepted X a o h)) (compensation-zero E computed p none);
     }
 
 pub wardRows : WardRows
 wardRows = record {
-  study = λ N o f64s h. zero-row N o f64s (search h);
-  extended = λ N o f64s h. zero-rowX N o f64s (search h);
+  study = λ N a o f64s h. zero-row N a o f64s (search h);
+  extended = λ N a o f64s h. zero-rowX N a o f64s (search h);
 }

@@ -8,11 +8,15 @@ use Rattle.binary64.specs.Values.{isZero, allFinite}
 use Rattle.complex.proofs.Finite.{all-left}
 use Rattle.solver.specs.GaussJordan.{solution, singularSystem}
 use Rattle.solver.specs.Solving.{skipped}
-use Rattle.solver.specs.Computed.{ofSearch, ofScaling, ofReducing, ofReductions, ofRunFrom, ofRun, ofSolve}
+use Rattle.refusals.specs.declared.Allowance.{Allowance}
+use Rattle.refusals.specs.declared.Allowance.the-variants.{Rows}
+use Rattle.refusals.specs.Work.{numbersIn, thenWork}
+use Rattle.solver.specs.Steps.{ofSearch, ofScaling, ofReducing, stepsOfRow, stepsOfRows, stepsFrom, stepsOfRun, stepsOfSolve}
 use Rattle.ward_equivalent.specs.Ward.{Study, Outputs}
-use Rattle.ward_equivalent.specs.Computed.{ofStudy, ofExtended}
+use Rattle.ward_equivalent.specs.Steps.{ofStudy, ofExtended}
 use Rattle.ward_equivalent.specs.Extended.{ExtendedStudy, ExtendedOutputs}
 use Rattle.ward_equivalent.specs.Numbers.{NumberedStudy, NumberedExtended, numberedExtendedOf, inRows, extendedInRows, AcceptedStudy, AcceptedExtended, afterCompute, afterComputeExtended}
+use Rattle.ward_equivalent.proofs.Steps.{study-computed}
 use Rattle.claims.specs.Finite.{ofBitPatterns}
 use Rattle.claims.specs.WardRows.{givenOf, FiniteStudy, FiniteExtended, old, rowBuses, ZeroRow, KeepsRow, KeepsExtendedRow}
 use Rattle.claims.proofs.Demand3.{demand3}
@@ -53,6 +57,10 @@ N = study 5 line (2 ∷ 0 ∷ 4294967295 ∷ 1 ∷ 3 ∷ []) (3 ∷ []) (0 ∷ 2
 abbrev S : Study
 S = inRows N
 
+-- four solves, for buses 4, 3 and 2 and the currents, of two row reductions each: these and no more
+abbrev eight : Allowance
+eight = Rows 8
+
 abbrev o : Outputs
 o = record { y-ward = zeros 18; p-ward = zeros 2; q-ward = zeros 2; work = zeros 24 }
 
@@ -60,10 +68,10 @@ o = record { y-ward = zeros 18; p-ward = zeros 2; q-ward = zeros 2; work = zeros
 studied : Unit {0}
 unfolding inRows extendedInRows ofBitPatterns givenOf old ZeroRow afterCompute afterComputeExtended allBelow upTo solution singularSystem skipped
     cadd csub cmul cdiv complexInv entry entryAt magnitude root ofBits ofInt sub mul div lt eq allFinite
-    ofSearch ofScaling ofReducing ofReductions ofRunFrom ofRun ofSolve ofExtended
+    ofSearch ofScaling ofReducing stepsOfRow stepsOfRows stepsFrom stepsOfRun stepsOfSolve numbersIn thenWork ofExtended
 studied = tt
 
-accepted : AcceptedStudy N o
+accepted : AcceptedStudy N eight o
 unfolding studied
 accepted = tt
 
@@ -88,8 +96,8 @@ unfolding extendedInRows
 given = let h = given-x in search all-left
 
 computed : T (allFinite (ofStudy S))
-unfolding extendedInRows ofExtended
-computed = let h = computed-x in search all-left
+unfolding extendedInRows
+computed = study-computed X computed-x
 
 finite-study : FiniteStudy S
 unfolding inRows ofBitPatterns ofBits lt
@@ -100,15 +108,15 @@ zero-rows : ZeroRow S 1 × ZeroRow S 0
 unfolding studied
 zero-rows = (of-each (λ (e : ℕ). Zero (old S 3 e)) (S .external) (tt, (tt, tt)), of-each (λ (e : ℕ). Zero (old S 4 e)) (S .external) (tt, (tt, tt)))
 
-keeps : KeepsRow S (afterCompute N o .outputs) 1 × KeepsRow S (afterCompute N o .outputs) 0
+keeps : KeepsRow S (afterCompute N eight o .outputs) 1 × KeepsRow S (afterCompute N eight o .outputs) 0
 unfolding inRows rowBuses
 keeps = (
-  demand3 .ward .study N o (words-f64s line) (search accepted) finite-study 1 (lit< tt) (zero-rows .0),
-  demand3 .ward .study N o (words-f64s line) (search accepted) finite-study 0 (lit< tt) (zero-rows .1),
+  demand3 .ward .study N eight o (words-f64s line) (search accepted) finite-study 1 (lit< tt) (zero-rows .0),
+  demand3 .ward .study N eight o (words-f64s line) (search accepted) finite-study 0 (lit< tt) (zero-rows .1),
 )
 
 -- row 2, of bus 2: its own entry was 2^501 and is about two thirds of it, and P was 0 and is 1
-changes : T (not (eq (entryAt 3 (afterCompute N o .outputs .y-ward) 2 2 .re) (old S 2 2 .re))) × T (not (isZero (getD (afterCompute N o .outputs .p-ward) 1 nan)))
+changes : T (not (eq (entryAt 3 (afterCompute N eight o .outputs .y-ward) 2 2 .re) (old S 2 2 .re))) × T (not (isZero (getD (afterCompute N eight o .outputs .p-ward) 1 nan)))
 unfolding studied
 changes = (tt, tt)
 
@@ -117,7 +125,7 @@ changes = (tt, tt)
 abbrev wide : ExtendedOutputs
 wide = record { outputs = o; correction = zeros 2; compensation = zeros 2 }
 
-accepted-x : AcceptedExtended NX wide
+accepted-x : AcceptedExtended NX eight wide
 unfolding studied
 accepted-x = tt
 
@@ -125,11 +133,11 @@ finite-extended : FiniteExtended X
 unfolding extendedInRows ofBitPatterns one ofBits lt eq
 finite-extended = record { given = search given-x; computed = search computed-x }
 
-keeps-x : KeepsExtendedRow X (afterComputeExtended NX wide .outputs) 1
+keeps-x : KeepsExtendedRow X (afterComputeExtended NX eight wide .outputs) 1
 unfolding extendedInRows rowBuses
-keeps-x = demand3 .ward .extended NX wide (words-f64s line) (search accepted-x) finite-extended 1 (lit< tt) (zero-rows .0)
+keeps-x = demand3 .ward .extended NX eight wide (words-f64s line) (search accepted-x) finite-extended 1 (lit< tt) (zero-rows .0)
 
 -- row 2, of bus 2, gets a correction
-changes-x : T (not (isZero (getD (afterComputeExtended NX wide .outputs .correction) 1 nan)))
+changes-x : T (not (isZero (getD (afterComputeExtended NX eight wide .outputs .correction) 1 nan)))
 unfolding studied
 changes-x = tt

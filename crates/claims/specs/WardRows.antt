@@ -10,11 +10,12 @@ use Rattle.complex.specs.Matrices.{Matrix, entryAt}
 use Rattle.complex.specs.Values.{_≈_, Zero}
 use Rattle.binary64.specs.Values.{isZero, allFinite, F64s}
 use Rattle.lists.specs.Buses.{_isOneOf_}
+use Rattle.refusals.specs.declared.Allowance.{Allowance}
 use Rattle.ward_equivalent.specs.Ward.{Study, Outputs}
 use Rattle.ward_equivalent.specs.Extended.{ExtendedStudy, ExtendedOutputs}
 use Rattle.ward_equivalent.specs.Numbers.{NumberedStudy, NumberedExtended, inRows, extendedInRows, AcceptedStudy, AcceptedExtended}
 use Rattle.ward_equivalent.specs.Numbers.{afterCompute, afterComputeExtended}
-use Rattle.ward_equivalent.specs.Computed.{ofStudy, ofExtended}
+use Rattle.ward_equivalent.specs.Steps.{ofStudy, ofExtended}
 
 -- ---- the premise
 
@@ -75,12 +76,12 @@ pub record KeepsExtendedRow (S : ExtendedStudy) (o : ExtendedOutputs) (p : ℕ) 
 
 -- ---- the claim
 
--- for every accepted study, of either kind; the matrix is a slice of f64 (F64s), which is no restriction
+-- for every accepted study, of either kind and under any allowance; the matrix is a slice of f64 (F64s), which is no restriction
 pub record WardRows : Type 0 where
-  pub study : (N : NumberedStudy) (o : Outputs) → F64s (N .study .given) → AcceptedStudy N o → FiniteStudy (inRows N)
+  pub study : (N : NumberedStudy) (a : Allowance) (o : Outputs) → F64s (N .study .given) → AcceptedStudy N a o → FiniteStudy (inRows N)
       → (p : ℕ) → p < length (rowBuses (inRows N))
-      → ZeroRow (inRows N) p → KeepsRow (inRows N) (afterCompute N o .outputs) p
-  pub extended : (N : NumberedExtended) (o : ExtendedOutputs) → F64s (N .study .study .given)
-      → AcceptedExtended N o → FiniteExtended (extendedInRows N)
+      → ZeroRow (inRows N) p → KeepsRow (inRows N) (afterCompute N a o .outputs) p
+  pub extended : (N : NumberedExtended) (a : Allowance) (o : ExtendedOutputs) → F64s (N .study .study .given)
+      → AcceptedExtended N a o → FiniteExtended (extendedInRows N)
       → (p : ℕ) → p < length (rowBuses (inRows (N .study)))
-      → ZeroRow (inRows (N .study)) p → KeepsExtendedRow (extendedInRows N) (afterComputeExtended N o .outputs) p
+      → ZeroRow (inRows (N .study)) p → KeepsExtendedRow (extendedInRows N) (afterComputeExtended N a o .outputs) p

@@ -4,6 +4,8 @@ use mathlib.Core.Bool.{cond}
 use lib.Dec.{eqb}
 use lib.Ieee.{Float}
 use Rattle.complex.specs.declared.Complex.{Complex}
+use Rattle.refusals.specs.declared.Counted.{Counted}
+use Rattle.refusals.specs.declared.Counted.the-variants as reduced
 use Rattle.kron_reduction.specs.declared.Impedance.{Impedance}
 use Rattle.kron_reduction.specs.declared.Impedance.the-variants as impedances
 use Rattle.dc_flow.specs.declared.Retained.{Retained}
@@ -17,9 +19,9 @@ use Rattle.rei_equivalent.specs.declared.ReiAnswer.the-variants as reis
 
 -- ---- what several pointers hold together
 
--- a Ward study's sizes, in buses, and its ratio
-abbrev pub summaryOf : ℕ → ℕ → Float → WardSummary
-summaryOf r e x = record { «n_buses_reduced» = r; «n_buses_equivalent» = e; «reduction_ratio» = x }
+-- a Ward study's sizes, in buses, its ratio, and how many rows it reduced
+abbrev pub summaryOf : ℕ → ℕ → Float → ℕ → WardSummary
+summaryOf r e x rows = record { «n_buses_reduced» = r; «n_buses_equivalent» = e; «reduction_ratio» = x; «rows_reduced» = rows }
 
 -- an REI equivalent: bus, voltage in per unit, P in MW, Q in MVAr, and the number of ties
 abbrev pub reiOf : ℕ → Float → Float → Float → ℕ → ReiEquivalent
@@ -39,6 +41,10 @@ valueAfter (impedances.Refused k) held = held
 abbrev pub countAfter : Retained → ℕ → ℕ
 countAfter (counts.Count n) held = n
 countAfter (counts.Refused k) held = held
+
+unfoldable pub rowsAfter : Counted → ℕ → ℕ
+rowsAfter (reduced.Reduced n) held = n
+rowsAfter (reduced.Refused k) held = held
 
 unfoldable pub summaryAfter : WardAnswer → WardSummary → WardSummary
 summaryAfter (wards.Done s) held = s

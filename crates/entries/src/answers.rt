@@ -4,6 +4,7 @@ use equivalents::kron::Impedance;
 use equivalents::rei::ReiAnswer;
 use equivalents::rei::ReiEquivalent;
 use equivalents::ward::WardAnswer;
+use refusals::Counted;
 ghost use mathlib.Core.Path.{_≡_};
 ghost use Rattle.complex.specs.Arithmetic.{complexOf};
 ghost use Rattle.entries.specs.Answers as spec;
@@ -43,21 +44,36 @@ pub fn give_retained(answer: Retained, count: &mut usize)
     }
 }
 
-// A Ward study's sizes, in buses, and its ratio, without unit.
+// How many rows were reduced.
+pub fn give_rows(answer: Counted, rows: &mut usize)
+    ensures { λ _. ⌜ now (rows .exit) ≡ spec.rowsAfter answer (now (rows .entry)) ⌝ }
+{
+    match answer {
+        Counted::Reduced(n) => {
+            *rows = n;
+        }
+        Counted::Refused(_) => {}
+    }
+}
+
+// A Ward study's sizes, in buses, its ratio, without unit, and how many rows its solves reduced.
 pub fn give_summary(
     answer: WardAnswer,
     reduced: &mut usize,
     equivalent: &mut usize,
     ratio: &mut f64,
+    rows: &mut usize,
 )
-    ensures { λ _. ⌜ spec.summaryOf (now (reduced .exit)) (now (equivalent .exit)) (now (ratio .exit))
-        ≡ spec.summaryAfter answer (spec.summaryOf (now (reduced .entry)) (now (equivalent .entry)) (now (ratio .entry))) ⌝ }
+    ensures { λ _. ⌜ spec.summaryOf (now (reduced .exit)) (now (equivalent .exit)) (now (ratio .exit)) (now (rows .exit))
+        ≡ spec.summaryAfter answer
+        (spec.summaryOf (now (reduced .entry)) (now (equivalent .entry)) (now (ratio .entry)) (now (rows .entry))) ⌝ }
 {
     match answer {
         WardAnswer::Done(s) => {
             *reduced = s.n_buses_reduced;
             *equivalent = s.n_buses_equivalent;
             *ratio = s.reduction_ratio;
+            *rows = s.rows_reduced;
         }
         WardAnswer::Refused(_) => {}
     }

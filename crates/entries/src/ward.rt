@@ -1,12 +1,15 @@
 // Ward and extended Ward equivalents. Buses are named by number: numbers holds those of the rows of y.
 use crate::answers::give_summary;
 use equivalents::ward::number_of;
+use refusals::Allowance;
+ghost use Rattle.refusals.specs.declared.Allowance.the-variants.{Rows};
 ghost use Rattle.ward_equivalent.specs.Calls as calls;
 ghost use Rattle.ward_equivalent.specs.Numbers as ward;
 ghost use Rattle.entries.specs.Answers as answers;
 ghost use Rattle.entries.specs.Studies as spec;
 
-// `ward_equivalent::compute`, in the same units (per unit, MVA, MW, MVAr); the study's sizes, in buses, and its ratio go by pointer.
+// `ward_equivalent::compute`, in the same units (per unit, MVA, MW, MVAr); the allowance is of row reductions. The study's sizes, in buses,
+// its ratio, and how many rows it reduced go by pointer.
 #[no_mangle]
 pub extern "C" fn jeturipe_ward_compute(
     n: usize,
@@ -18,6 +21,7 @@ pub extern "C" fn jeturipe_ward_compute(
     base_mva: f64,
     p_ext: &[f64],
     q_ext: &[f64],
+    allowance: usize,
     y_ward: &mut [f64],
     p_ward: &mut [f64],
     q_ward: &mut [f64],
@@ -25,15 +29,19 @@ pub extern "C" fn jeturipe_ward_compute(
     n_buses_reduced: &mut usize,
     n_buses_equivalent: &mut usize,
     reduction_ratio: &mut f64,
+    rows_reduced: &mut usize,
 ) -> u32
     ensures { λ f. ⌜ spec.WardAnswered
         (ward.afterCompute (ward.numberedOf (now (numbers .entry)) (calls.studyOf n (now (y .entry))
         (now (internal .entry)) (now (external .entry)) (now (boundary .entry)) «base_mva» (now («p_ext» .entry)) (now («q_ext» .entry))))
+        (Rows allowance)
         (calls.outputsOf (now («y_ward» .entry)) (now («p_ward» .entry)) (now («q_ward» .entry)) (now (work .entry))))
         f
         (calls.outputsOf (now («y_ward» .exit)) (now («p_ward» .exit)) (now («q_ward» .exit)) (now (work .exit)))
-        (answers.summaryOf (now («n_buses_reduced» .entry)) (now («n_buses_equivalent» .entry)) (now («reduction_ratio» .entry)))
-        (answers.summaryOf (now («n_buses_reduced» .exit)) (now («n_buses_equivalent» .exit)) (now («reduction_ratio» .exit))) ⌝ }
+        (answers.summaryOf (now («n_buses_reduced» .entry)) (now («n_buses_equivalent» .entry)) (now («reduction_ratio» .entry))
+        (now («rows_reduced» .entry)))
+        (answers.summaryOf (now («n_buses_reduced» .exit)) (now («n_buses_equivalent» .exit)) (now («reduction_ratio» .exit))
+        (now («rows_reduced» .exit))) ⌝ }
 {
     let answer = equivalents::ward::compute(
         n,
@@ -45,12 +53,19 @@ pub extern "C" fn jeturipe_ward_compute(
         base_mva,
         p_ext,
         q_ext,
+        Allowance::Rows(allowance),
         y_ward,
         p_ward,
         q_ward,
         work,
     );
-    give_summary(answer, n_buses_reduced, n_buses_equivalent, reduction_ratio);
+    give_summary(
+        answer,
+        n_buses_reduced,
+        n_buses_equivalent,
+        reduction_ratio,
+        rows_reduced,
+    );
     number_of(answer)
 }
 
@@ -67,6 +82,7 @@ pub extern "C" fn jeturipe_ward_compute_extended(
     p_ext: &[f64],
     q_ext: &[f64],
     v_ext: &[f64],
+    allowance: usize,
     y_ward: &mut [f64],
     p_ward: &mut [f64],
     q_ward: &mut [f64],
@@ -76,19 +92,23 @@ pub extern "C" fn jeturipe_ward_compute_extended(
     n_buses_reduced: &mut usize,
     n_buses_equivalent: &mut usize,
     reduction_ratio: &mut f64,
+    rows_reduced: &mut usize,
 ) -> u32
     ensures { λ f. ⌜ spec.ExtendedAnswered
         (ward.afterComputeExtended (ward.numberedExtendedOf (ward.numberedOf (now (numbers .entry))
         (calls.studyOf n (now (y .entry)) (now (internal .entry)) (now (external .entry)) (now (boundary .entry)) «base_mva»
         (now («p_ext» .entry)) (now («q_ext» .entry)))) (now («v_ext» .entry)))
+        (Rows allowance)
         (calls.extendedOutputsOf
         (calls.outputsOf (now («y_ward» .entry)) (now («p_ward» .entry)) (now («q_ward» .entry)) (now (work .entry)))
         (now («voltage_correction» .entry)) (now («q_compensation» .entry))))
         f
         (calls.extendedOutputsOf (calls.outputsOf (now («y_ward» .exit)) (now («p_ward» .exit)) (now («q_ward» .exit)) (now (work .exit)))
         (now («voltage_correction» .exit)) (now («q_compensation» .exit)))
-        (answers.summaryOf (now («n_buses_reduced» .entry)) (now («n_buses_equivalent» .entry)) (now («reduction_ratio» .entry)))
-        (answers.summaryOf (now («n_buses_reduced» .exit)) (now («n_buses_equivalent» .exit)) (now («reduction_ratio» .exit))) ⌝ }
+        (answers.summaryOf (now («n_buses_reduced» .entry)) (now («n_buses_equivalent» .entry)) (now («reduction_ratio» .entry))
+        (now («rows_reduced» .entry)))
+        (answers.summaryOf (now («n_buses_reduced» .exit)) (now («n_buses_equivalent» .exit)) (now («reduction_ratio» .exit))
+        (now («rows_reduced» .exit))) ⌝ }
 {
     let answer = equivalents::ward::compute_extended(
         n,
@@ -101,6 +121,7 @@ pub extern "C" fn jeturipe_ward_compute_extended(
         p_ext,
         q_ext,
         v_ext,
+        Allowance::Rows(allowance),
         y_ward,
         p_ward,
         q_ward,
@@ -108,6 +129,12 @@ pub extern "C" fn jeturipe_ward_compute_extended(
         q_compensation,
         work,
     );
-    give_summary(answer, n_buses_reduced, n_buses_equivalent, reduction_ratio);
+    give_summary(
+        answer,
+        n_buses_reduced,
+        n_buses_equivalent,
+        reduction_ratio,
+        rows_reduced,
+    );
     number_of(answer)
 }

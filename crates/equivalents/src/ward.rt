@@ -1,4 +1,5 @@
-// Ward and extended Ward.
+// Ward and extended Ward, with an allowance of row reductions.
+pub use refusals::Allowance;
 pub use ward_equivalent::answers::WardAnswer;
 pub use ward_equivalent::answers::WardSummary;
 pub use ward_equivalent::answers::number_of;

@@ -8,6 +8,7 @@ use complex::entry::get;
 use complex::slices::clear;
 use refusals::SINGULAR;
 use solver::elimination::gauss_jordan;
+use solver::elimination::is_done;
 use solver::solving::fill_identity;
 ghost use mathlib.Core.Path.{_≡_};
 ghost use Prim.Native.Nat.{_+_, _*_, _≤_, _<_};
@@ -44,7 +45,8 @@ fn inverted_across(n: usize, p: usize, q: usize, mat: &[f64], work: &mut [f64]) 
         ⌝ }
 {
     fill_identity(work, n, mat);
-    if gauss_jordan(work, n, n + n) {
+    // n n row reductions are enough
+    if !is_done(gauss_jordan(work, n, n + n, n * n)) {
         return Impedance::Refused(SINGULAR);
     }
     Impedance::Value(seen_across(n, p, q, work))

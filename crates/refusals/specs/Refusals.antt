@@ -3,6 +3,8 @@ use Prim.Native.Nat.{ℕ, zero, suc}
 use mathlib.Core.Bool.{Bool, cond}
 use Rattle.refusals.specs.declared.Outcome.{Outcome}
 use Rattle.refusals.specs.declared.Outcome.the-variants.{Done, Refused}
+use Rattle.refusals.specs.declared.Counted.{Counted}
+use Rattle.refusals.specs.declared.Counted.the-variants as counts
 
 -- the library's limit on buses, branches and lists
 abbrev pub limit : ℕ
@@ -60,6 +62,10 @@ smallEntry = 12
 abbrev pub singular : ℕ
 singular = 13
 
+-- the next row reduction would exceed the allowance
+abbrev pub beyondAllowance : ℕ
+beyondAllowance = 18
+
 -- ---- the answers
 
 -- number k where the test holds, else what comes after
@@ -75,3 +81,13 @@ outcome (suc k) = Refused (suc k)
 unfoldable pub number : Outcome → ℕ
 number Done = 0
 number (Refused k) = k
+
+-- the answer of a call that reduces this many rows, with this refusal
+unfoldable pub counted : ℕ → ℕ → Counted
+counted rows zero = counts.Reduced rows
+counted rows (suc k) = counts.Refused (suc k)
+
+-- the number of such an answer
+unfoldable pub countedNumber : Counted → ℕ
+countedNumber (counts.Reduced rows) = 0
+countedNumber (counts.Refused k) = k

@@ -1,6 +1,7 @@
-// The refusals by number, the answers that carry them, and the limit that every layer tests.
+// The refusals by number, the answers that carry them, allowances of row reductions, and the limit that every layer tests.
 ghost use mathlib.Core.Path.{_≡_};
 ghost use Rattle.refusals.specs.Refusals as spec;
+ghost use Rattle.refusals.specs.Work as work;
 
 // The most buses, branches or list places that the library takes.
 pub const LIMIT: usize = 256;
@@ -30,6 +31,8 @@ pub const SMALL_ENTRY: u32 = 12;
 
 pub const SINGULAR: u32 = 13;
 
+pub const BEYOND_ALLOWANCE: u32 = 18;
+
 // The answer of a call that returns no value: carried out, or refused with its number.
 pub enum Outcome {
     Done,
@@ -43,5 +46,37 @@ pub fn number(answer: Outcome) -> u32
     match answer {
         Outcome::Done => 0,
         Outcome::Refused(k) => k,
+    }
+}
+
+// How many row reductions a call may begin: as many as it takes, or this many.
+pub enum Allowance {
+    Unlimited,
+    Rows(usize),
+}
+
+// The answer of a call that reduces rows: carried out, with how many it reduced, or refused with its number.
+pub enum Counted {
+    Reduced(usize),
+    Refused(u32),
+}
+
+// The refusal's number, 0 where there is none.
+pub fn counted_number(answer: Counted) -> u32
+    ensures { λ r. ⌜ r ≡ spec.countedNumber answer ⌝ }
+{
+    match answer {
+        Counted::Reduced(_) => 0,
+        Counted::Refused(k) => k,
+    }
+}
+
+// The allowance as a number of row reductions, the largest there is where it has no limit.
+pub fn allowed_rows(allowance: Allowance) -> usize
+    ensures { λ r. ⌜ r ≡ work.allowedRows allowance ⌝ }
+{
+    match allowance {
+        Allowance::Unlimited => 0xffff_ffff_ffff_ffff,
+        Allowance::Rows(allowed) => allowed,
     }
 }

@@ -1,12 +1,20 @@
--- Small systems computed from the definitions that the contracts cite: equal and incomparable pivots, a singular one, an inverse, and wrong lengths.
-use Rattle.prelude.proofs.Prelude.{_≡_, refl, [], _∷_, replicate, Float, nan, binary64, lt, add, sub, mul, div, ofBits}
+-- Small systems computed from the definitions that the contracts cite: equal and incomparable pivots, a singular one, allowances around the count,
+-- an inverse, and wrong lengths.
+use Rattle.prelude.proofs.Prelude.{_≡_, refl, sym, ap, _∙_, false, true≢false, List, [], _∷_, _-_, _*_, arith, eqb, replicate, Float, nan, binary64, lt, add, sub, mul, div, ofBits}
 use Rattle.complex.specs.{plus0, one, divisionLimit, csub, cmul, sqmag, cdiv, complexInv, abs, entry, entryAt, row, rows, grid, zeros}
 use Rattle.lists.specs.Buses.{upTo}
-use Rattle.refusals.specs.declared.Outcome.the-variants.{Done, Refused}
-use Rattle.refusals.specs.Refusals.{outcome, wrongLength, emptySystem, singular}
+use Rattle.refusals.specs.declared.Allowance.{Allowance}
+use Rattle.refusals.specs.declared.Allowance.the-variants.{Unlimited, Rows}
+use Rattle.refusals.specs.declared.Outcome.the-variants as outcomes
+use Rattle.refusals.specs.declared.Counted.{Counted}
+use Rattle.refusals.specs.declared.Counted.the-variants.{Reduced, Refused}
+use Rattle.refusals.specs.Refusals.{outcome, counted, countedNumber, wrongLength, emptySystem, singular, beyondAllowance}
+use Rattle.refusals.specs.Work.{computing, reductions, meets, granted, workRefusal, _noMoreThan_}
 use Rattle.solver.specs.GaussJordan.{stays, heldAfter, pivotRow, swapped, scaled, reduced, pivoted, cleared, gaussJordanFrom, gaussJordan, augmented, solution, singularSystem}
 use Rattle.solver.specs.Solving.{skipped, unitColumn}
-use Rattle.solver.specs.Calls.{solveRefusal, inverseRefusal, afterSolve, afterInverse, afterElimination}
+use Rattle.solver.specs.Steps.{ofSearch, ofScaling, ofReducing, stepsOfRow, stepsOfRows, stepsFrom, stepsOfRun, stepsOfSolve}
+use Rattle.solver.proofs.Allowances.{solve-allowances}
+use Rattle.solver.specs.Calls.{AfterElimination, solveRefusal, inverseRefusal, afterSolve, afterInverse, afterElimination}
 
 -- +0, 1, -1, 2, 4 and 0.5
 abbrev o : Float
@@ -29,37 +37,132 @@ half = ofBits binary64 0x3fe0000000000000
 
 -- to open this is to open all that the cases compute with
 opened : Unit {0}
-unfolding plus0 one divisionLimit csub cmul sqmag cdiv complexInv abs entry upTo entryAt row rows grid zeros outcome stays heldAfter pivotRow swapped scaled reduced pivoted cleared gaussJordanFrom gaussJordan augmented solution singularSystem skipped unitColumn solveRefusal inverseRefusal afterSolve afterInverse afterElimination lt add sub mul div ofBits
+unfolding computing reductions meets granted workRefusal counted ofSearch ofScaling ofReducing stepsOfRow stepsOfRows stepsFrom stepsOfRun stepsOfSolve plus0 one divisionLimit csub cmul sqmag cdiv complexInv abs entry upTo entryAt row rows grid zeros outcome stays heldAfter pivotRow swapped scaled reduced pivoted cleared gaussJordanFrom gaussJordan augmented solution singularSystem skipped unitColumn solveRefusal inverseRefusal afterSolve afterInverse afterElimination lt add sub mul div ofBits
 opened = tt
 
 -- 1, 1 / 1, 4 with right side 0, 1: the first column's pivots are equal, and the upper row is taken. The lower one would give the first answer as bfd5555555555554.
-upper-row : afterSolve 2 (p1 ∷ o ∷ p1 ∷ o ∷ p1 ∷ o ∷ p4 ∷ o ∷ []) (o ∷ o ∷ p1 ∷ o ∷ []) (replicate 4 m1) (replicate 12 m1)
-    ≡ record { answer = Done; output = ofBits binary64 0xbfd5555555555555 ∷ o ∷ ofBits binary64 0x3fd5555555555555 ∷ o ∷ []; work = zeros 12 }
+abbrev tie : List Float
+tie = p1 ∷ o ∷ p1 ∷ o ∷ p1 ∷ o ∷ p4 ∷ o ∷ []
+
+abbrev tied : Allowance → AfterElimination Counted
+tied allowance = afterSolve 2 tie (o ∷ o ∷ p1 ∷ o ∷ []) allowance (replicate 4 m1) (replicate 12 m1)
+
+upper-row : tied Unlimited ≡ record { answer = Reduced 2; output = ofBits binary64 0xbfd5555555555555 ∷ o ∷ ofBits binary64 0x3fd5555555555555 ∷ o ∷ []; work = zeros 12 }
 unfolding opened
 upper-row = refl
 
--- NaN, 0 / 0, 1 with right side 1, 1: the NaN is held and stays, and is not too small. The lower row, its pivot 0, would be refused.
-nan-held : afterSolve 2 (nan ∷ o ∷ o ∷ o ∷ o ∷ o ∷ p1 ∷ o ∷ []) (p1 ∷ o ∷ p1 ∷ o ∷ []) (replicate 4 m1) (replicate 12 m1)
-    ≡ record { answer = Done; output = nan ∷ nan ∷ p1 ∷ o ∷ []; work = zeros 12 }
+-- both rows are reduced once: two row reductions are enough, and with one the output is as it was, the work slice cleared
+exact : tied (Rows 2) ≡ tied Unlimited
+unfolding opened
+exact = refl
+
+one-too-few : tied (Rows 1) ≡ record { answer = Refused beyondAllowance; output = replicate 4 m1; work = zeros 12 }
+unfolding opened
+one-too-few = refl
+
+-- NaN, 0 / 0, 1 with right side 1, 1: the NaN is held and stays, and is not too small. The lower row, its pivot 0, would be refused. Its factor is
+-- skipped and not counted; the NaN above the second pivot is not.
+nan-held : afterSolve 2 (nan ∷ o ∷ o ∷ o ∷ o ∷ o ∷ p1 ∷ o ∷ []) (p1 ∷ o ∷ p1 ∷ o ∷ []) (Rows 1) (replicate 4 m1) (replicate 12 m1)
+    ≡ record { answer = Reduced 1; output = nan ∷ nan ∷ p1 ∷ o ∷ []; work = zeros 12 }
 unfolding opened
 nan-held = refl
 
+-- 2, 0 / 0, 4: every factor is skipped, and an allowance of 0 is enough
+none-reduced : afterSolve 2 (p2 ∷ o ∷ o ∷ o ∷ o ∷ o ∷ p4 ∷ o ∷ []) (p1 ∷ o ∷ p2 ∷ o ∷ []) (Rows 0) (replicate 4 m1) (replicate 12 m1)
+    ≡ record { answer = Reduced 0; output = half ∷ o ∷ half ∷ o ∷ []; work = zeros 12 }
+unfolding opened
+none-reduced = refl
+
 -- 1, 1 / 1, 1 is singular: the output is as it was, the work slice is cleared
-singular-pair : afterSolve 2 (p1 ∷ o ∷ p1 ∷ o ∷ p1 ∷ o ∷ p1 ∷ o ∷ []) (p2 ∷ o ∷ o ∷ o ∷ []) (m1 ∷ m1 ∷ m1 ∷ m1 ∷ []) (m1 ∷ o ∷ o ∷ o ∷ o ∷ o ∷ o ∷ o ∷ o ∷ o ∷ o ∷ p1 ∷ [])
-    ≡ record { answer = Refused singular; output = m1 ∷ m1 ∷ m1 ∷ m1 ∷ []; work = zeros 12 }
+abbrev flat : Allowance → AfterElimination Counted
+flat allowance = afterSolve 2 (p1 ∷ o ∷ p1 ∷ o ∷ p1 ∷ o ∷ p1 ∷ o ∷ []) (p2 ∷ o ∷ o ∷ o ∷ []) allowance (replicate 4 m1) (m1 ∷ o ∷ o ∷ o ∷ o ∷ o ∷ o ∷ o ∷ o ∷ o ∷ o ∷ p1 ∷ [])
+
+singular-pair : flat Unlimited ≡ record { answer = Refused singular; output = replicate 4 m1; work = zeros 12 }
 unfolding opened
 singular-pair = refl
+
+-- the second row's reduction comes before the second pivot: 13 with it allowed, 18 without
+pivot-first : flat (Rows 1) ≡ flat Unlimited
+unfolding opened
+pivot-first = refl
+
+reduction-first : flat (Rows 0) ≡ record { answer = Refused beyondAllowance; output = replicate 4 m1; work = zeros 12 }
+unfolding opened
+reduction-first = refl
+
+-- -1, 4 / 1, 0 with right side 2, -1: of the equal pivots the upper row is taken, and both rows are reduced. The lower one's zero would be skipped.
+abbrev skew : Allowance → AfterElimination Counted
+skew allowance = afterSolve 2 (m1 ∷ o ∷ p4 ∷ o ∷ p1 ∷ o ∷ o ∷ o ∷ []) (p2 ∷ o ∷ m1 ∷ o ∷ []) allowance (replicate 4 m1) (replicate 12 m1)
+
+two-reduced : skew (Rows 2) .answer ≡ Reduced 2
+unfolding opened
+two-reduced = refl
+
+second-exceeds : skew (Rows 1) .answer ≡ Refused beyondAllowance
+unfolding opened
+second-exceeds = refl
+
+-- 7, t / 7, 0 with right side 4, t, t = 1e-150: of the equal pivots the upper row is taken, and leaves the other a pivot of about -t whose square is
+-- below 1e-300. The lower row would leave t, whose square is not.
+abbrev faint : Float
+faint = ofBits binary64 0x20ca2fe76a3f9475
+
+abbrev p7 : Float
+p7 = ofBits binary64 0x401c000000000000
+
+abbrev slight : Allowance → AfterElimination Counted
+slight allowance = afterSolve 2 (p7 ∷ o ∷ faint ∷ o ∷ p7 ∷ o ∷ o ∷ o ∷ []) (p4 ∷ o ∷ faint ∷ o ∷ []) allowance (replicate 4 m1) (replicate 12 m1)
+
+slight-pivot : slight (Rows 1) .answer ≡ Refused singular
+unfolding opened
+slight-pivot = refl
+
+slight-exceeds : slight (Rows 0) .answer ≡ Refused beyondAllowance
+unfolding opened
+slight-exceeds = refl
 
 -- the inverse of 2
 inverse-2 : afterInverse 1 (p2 ∷ o ∷ []) (o ∷ o ∷ []) (o ∷ o ∷ o ∷ o ∷ []) .output ≡ half ∷ o ∷ []
 unfolding opened
 inverse-2 = refl
 
--- a wrong length is told before an empty system, and both leave everything
-wrong-length : afterInverse 0 (p1 ∷ []) (p2 ∷ []) (m1 ∷ []) ≡ record { answer = Refused wrongLength; output = p2 ∷ []; work = m1 ∷ [] }
+-- a wrong length is told before an empty system, and both leave everything; the allowance is not looked at
+wrong-length : afterInverse 0 (p1 ∷ []) (p2 ∷ []) (m1 ∷ []) ≡ record { answer = outcomes.Refused wrongLength; output = p2 ∷ []; work = m1 ∷ [] }
 unfolding opened
 wrong-length = refl
 
-no-system : afterSolve 0 [] (p1 ∷ []) [] [] ≡ record { answer = Refused emptySystem; output = []; work = [] }
+no-system : afterSolve 0 [] (p1 ∷ []) (Rows 0) [] [] ≡ record { answer = Refused emptySystem; output = []; work = [] }
 unfolding opened
 no-system = refl
+
+-- ---- the theorems on allowances at the edges of their premises
+
+not-beyond : (a : Counted) → eqb (countedNumber a) beyondAllowance ≡ false → a ≡ Refused beyondAllowance → ⊥
+unfolding countedNumber
+not-beyond a t e = true≢false (sym (ap (λ (x : Counted). eqb (countedNumber x) beyondAllowance) e) ∙ t)
+
+-- what is carried out, what 13 ends and what the input refuses is the same with more allowed
+others : (eqb (countedNumber (tied (Rows 2) .answer)) beyondAllowance ≡ false) × (eqb (countedNumber (flat (Rows 1) .answer)) beyondAllowance ≡ false)
+    × (eqb (countedNumber (afterSolve 0 [] (p1 ∷ []) (Rows 0) [] [] .answer)) beyondAllowance ≡ false)
+unfolding opened countedNumber
+others = (refl, refl, refl)
+
+still-done : tied Unlimited ≡ tied (Rows 2)
+unfolding _noMoreThan_
+still-done = solve-allowances .larger 2 tie _ (Rows 2) Unlimited _ _ tt (not-beyond _ (others .0))
+
+still-singular : flat (Rows 2) ≡ flat (Rows 1)
+unfolding _noMoreThan_
+still-singular = solve-allowances .larger 2 _ _ (Rows 1) (Rows 2) _ _ (omega arith) (not-beyond _ (others .1))
+
+still-refused : afterSolve 0 [] (p1 ∷ []) (Rows 1) [] [] ≡ afterSolve 0 [] (p1 ∷ []) (Rows 0) [] []
+unfolding _noMoreThan_
+still-refused = solve-allowances .larger 0 [] _ (Rows 0) (Rows 1) [] [] (omega arith) (not-beyond _ (others .2))
+
+-- the bound is reached, and enough
+bound-reached : tied Unlimited .answer ≡ Reduced (2 * (2 - 1))
+unfolding opened
+bound-reached = refl
+
+from-two : tied (Rows (2 * (2 - 1))) ≡ tied Unlimited
+from-two = solve-allowances .from-bound 2 tie _ _ _ _ (omega arith)

@@ -64,7 +64,7 @@ module _ {E : Type 0} (O : Operations E) where
 
   module _ (n w : ℕ) (wide : n ≤ w) (g : ℕ → ℕ) (fixed : (j : ℕ) → j < n → g j ≡ j) where
     -- in the system's columns the two are the same
-    chosen-system : (A B : MatrixOf E) → Chosen n w g A B → (i j : ℕ) → i < n → j < n → A i j ≡ B i j
+    pub chosen-system : (A B : MatrixOf E) → Chosen n w g A B → (i j : ℕ) → i < n → j < n → A i j ≡ B i j
     chosen-system A B s i j h k = s i j h (omega arith) ∙ ap (B i) (fixed j k)
 
     held-chosen : (A B : MatrixOf E) → Chosen n w g A B → (c held next count : ℕ) → c < n → held < n → next + count ≤ n
@@ -83,7 +83,7 @@ module _ {E : Type 0} (O : Operations E) where
     unfolding pivotRow
     pivot-chosen A B s c h = held-chosen A B s c c (suc c) (n - suc c) h h (omega arith)
 
-    pivoted-chosen : (A B : MatrixOf E) → Chosen n w g A B → (c : ℕ) → c < n → Chosen n w g (pivoted O n c A) (pivoted O n c B)
+    pub pivoted-chosen : (A B : MatrixOf E) → Chosen n w g A B → (c : ℕ) → c < n → Chosen n w g (pivoted O n c A) (pivoted O n c B)
     unfolding pivoted swapped
     pivoted-chosen A B s c h i j hi hj =
         let p = pivotRow O n B c in
@@ -91,7 +91,7 @@ module _ {E : Type 0} (O : Operations E) where
         ∙ s (cond (eqb i c) p (cond (eqb i p) c i)) j
         (pick-below (eqb i c) p (cond (eqb i p) c i) n (pivot-below n B c h) (pick-below (eqb i p) c i n h hi)) hj
 
-    scaled-chosen : (A B : MatrixOf E) → Chosen n w g A B → (c : ℕ) → c < n → Chosen n w g (scaled O c A) (scaled O c B)
+    pub scaled-chosen : (A B : MatrixOf E) → Chosen n w g A B → (c : ℕ) → c < n → Chosen n w g (scaled O c A) (scaled O c B)
     unfolding scaled
     scaled-chosen A B s c h i j hi hj =
         let a : A i j ≡ B i (g j) = s i j hi hj in
@@ -106,7 +106,7 @@ module _ {E : Type 0} (O : Operations E) where
         let p : A c j ≡ B c (g j) = s c j h hj in
         cc
 
-    cleared-chosen : (A B : MatrixOf E) → Chosen n w g A B → (c : ℕ) → c < n → Chosen n w g (cleared O c A) (cleared O c B)
+    pub cleared-chosen : (A B : MatrixOf E) → Chosen n w g A B → (c : ℕ) → c < n → Chosen n w g (cleared O c A) (cleared O c B)
     unfolding cleared
     cleared-chosen A B s c h = reduced-chosen (scaled O c A) (scaled O c B) (scaled-chosen A B s c h) c h
 
@@ -145,6 +145,10 @@ module _ {E : Type 0} (O : Operations E) where
 
   pub run-same : (n w : ℕ) → n ≤ w → (A B : MatrixOf E) → ((i j : ℕ) → i < n → j < w → A i j ≡ B i j) → Alike n w (λ (j : ℕ). j) (gaussJordan O n A) (gaussJordan O n B)
   run-same n w wide A B s = run-chosen n w wide (λ (j : ℕ). j) (λ (j : ℕ) (k : j < n). refl) A B s
+
+  pub scaled-same : (n w : ℕ) → n ≤ w → (A B : MatrixOf E) → ((i j : ℕ) → i < n → j < w → A i j ≡ B i j) → (c : ℕ) → c < n
+      → (i j : ℕ) → i < n → j < w → scaled O c A i j ≡ scaled O c B i j
+  scaled-same n w wide A B s c h = scaled-chosen n w wide (λ (j : ℕ). j) (λ (j : ℕ) (k : j < n). refl) A B s c h
 
   pub reduced-same : (n w : ℕ) → n ≤ w → (A B : MatrixOf E) → ((i j : ℕ) → i < n → j < w → A i j ≡ B i j) → (c : ℕ) → c < n
       → (i j : ℕ) → i < n → j < w → reduced O c A i j ≡ reduced O c B i j

@@ -1,10 +1,15 @@
 pub mod BlockParts
 pub mod GaussJordan
+pub mod Pairs
+pub mod Steps
+pub mod Ending
 pub mod Passed
 pub mod Pivots
 pub mod RowParts
+pub mod RowTurns
 pub mod Solutions
 pub mod TurnedRows
 pub mod ColumnSteps
 pub mod Accepted
+pub mod Allowances
 pub mod Cases

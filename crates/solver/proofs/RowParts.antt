@@ -1,11 +1,12 @@
 -- Rows as parts of the work slice: a row read, the slice when its row came back, rows swapped, scaled and reduced.
-use Rattle.prelude.proofs.Prelude.{_≡_, refl, sym, ap, _∙_, Bool, true, false, _||_, cond, List, ℕ, _-_, _*_, _<_, arith, eqb, length, take, drop, Float, zero-add, sub-zero, eqb-true, eq-eqb, ne-eqb, length-take-le}
+use Rattle.prelude.proofs.Prelude.{_≡_, refl, sym, ap, _∙_, Bool, true, false, _||_, cond, List, ℕ, _+_, _-_, _*_, _<_, arith, eqb, length, take, drop, Float, zero-add, sub-zero, eqb-true, eq-eqb, length-take-le}
 use Rattle.complex.specs.{Complex, cmul, csub, complexInv, entry, Matrix, entryAt}
 use Rattle.complex.proofs.Entries.{entry-take}
+use Rattle.complex.proofs.Matrices.{entry-within}
 use Rattle.lists.proofs.Parts.{back}
 use Rattle.solver.specs.GaussJordan.{swapped, scaled, reduced}
 use Rattle.solver.specs.Solving.{operations, skipped}
-use Rattle.solver.specs.Inner.Work.{Lies, withRow, rightSides, reducedEntry, reducedRow}
+use Rattle.solver.specs.Inner.Work.{WorkRows, Lies, withRow, rightSides, lessFactor}
 use Rattle.solver.proofs.BlockParts.{block-read, block-written, placed-in}
 
 -- ---- a row read, and a row that came back: a row is the block of its w entries from column 0 on
@@ -21,6 +22,10 @@ module _ {n w r a e : ℕ} (lies : Lies n w 0 w r a e) (xs : List Float) where
   row-written vs full kept f same i j h =
       block-written lies xs vs full kept (λ (p : ℕ). f) same i j h
       ∙ ap (λ (x : Complex). cond (eqb i r) x (entryAt w xs i j)) (placed-in 0 w (λ (p : ℕ). f) (entryAt w xs) r j (omega arith) (omega arith) ∙ ap f (sub-zero j))
+
+-- the entry in column c of row i is within the slice
+pub entry-inside : {n w long i c : ℕ} → WorkRows n w long → i < n → c < n → 2 * (i * w + c) + 1 < long
+entry-inside {n = n} {w = w} {i = i} {c = c} rows h k = let within = entry-within n w i c h (omega (arith, rows .wide)) in omega (arith, rows .full)
 
 -- a row at the front of a longer list
 pub front-read : (w : ℕ) (xs : List Float) (j : ℕ) → j < w → entry (take (2 * w - 0) (drop 0 xs)) j ≡ entry xs j
@@ -47,57 +52,34 @@ module _ (w c p : ℕ) (A B C : Matrix) (f g : ℕ → Complex)
       ∙ ap (λ (x : Complex). cond (eqb i c) (A p j) x) (put-p i j h ∙ ap (λ (x : Complex). cond (eqb i p) x (A i j)) (first j h))
       ∙ pick-row (eqb i c) (eqb i p) i j
 
--- ---- one row reduced
-
-pub when-reduced : (f F x y p : Complex) (b : Bool) → f ≡ F → b ≡ skipped f → b ≡ false → x ≡ csub y (cmul f p) → x ≡ reducedEntry F p y
-unfolding reducedEntry
-when-reduced f F x y p b e s t h = rw (← e, ← s, t) h
-
-pub when-skipped : (f F y p : Complex) (b : Bool) → f ≡ F → b ≡ skipped f → b ≡ true → y ≡ reducedEntry F p y
-unfolding reducedEntry
-when-skipped f F y p b e s t = rw (← e, ← s, t)
-
 -- ---- the rows but the pivot's reduced, one after the other
 
--- row c itself is as it was
-pub row-kept : (w c i : ℕ) (f : ℕ → Complex) (A : Matrix) → i ≡ c → (r j : ℕ) → A r j ≡ withRow i (reducedRow c f A i) A r j
-unfolding withRow reducedRow
-row-kept w c i f A e r j = pick (eqb r i) refl
-  where
-    pick : (b : Bool) → eqb r i ≡ b → A r j ≡ cond b (cond (eqb i c) (A i j) (reducedEntry (A i c) (f j) (A i j))) (A r j)
-    pick true t = ap (λ (k : ℕ). A k j) (eqb-true r i t) ∙ sym (ap (λ (b : Bool). cond b (A i j) (reducedEntry (A i c) (f j) (A i j))) (eq-eqb i c e))
-    pick false t = refl
+-- a row came back less its factor times the pivot row
+pub row-reduced : {n w i a e : ℕ} → Lies n w 0 w i a e → (c : ℕ) (pivot xs vs : List Float) (factor : Complex) → length xs ≡ 2 * (n * w)
+    → length vs ≡ length (take (e - a) (drop a xs)) → factor ≡ entryAt w xs i c
+    → ((q : ℕ) → q < w → entry vs q ≡ csub (entry (take (e - a) (drop a xs)) q) (cmul factor (entry pivot q)))
+    → (r j : ℕ) → j < w → entryAt w (back a (e - a) xs vs) r j ≡ withRow i (lessFactor c (entry pivot) (entryAt w xs) i) (entryAt w xs) r j
+unfolding lessFactor
+row-reduced {w = w} {i = i} lies c pivot xs vs factor full kept f done =
+    row-written lies xs vs full kept (lessFactor c (entry pivot) (entryAt w xs) i)
+    (λ (q : ℕ) (h : q < w). done q h ∙ ap (λ (x : Complex). csub x (cmul factor (entry pivot q))) (row-read lies xs q h) ∙ ap (λ (x : Complex). csub (entryAt w xs i q) (cmul x (entry pivot q))) f)
 
--- another row came back reduced
-pub row-reduced : {n w i a e : ℕ} → Lies n w 0 w i a e → (c : ℕ) (pivot xs vs : List Float) → c < w → (i ≡ c → ⊥) → length xs ≡ 2 * (n * w)
-    → length vs ≡ length (take (e - a) (drop a xs))
-    → ((q : ℕ) → q < w → entry vs q ≡ reducedEntry (entry (take (e - a) (drop a xs)) c) (entry pivot q) (entry (take (e - a) (drop a xs)) q))
-    → (r j : ℕ) → j < w → entryAt w (back a (e - a) xs vs) r j ≡ withRow i (reducedRow c (entry pivot) (entryAt w xs) i) (entryAt w xs) r j
-unfolding reducedRow
-row-reduced {w = w} {i = i} lies c pivot xs vs hc apart full kept done =
-    row-written lies xs vs full kept (reducedRow c (entry pivot) (entryAt w xs) i) changed
-  where
-    changed : (q : ℕ) → q < w → entry vs q ≡ reducedRow c (entry pivot) (entryAt w xs) i q
-    changed q h = rw (ne-eqb i c apart, ← row-read lies xs c hc, ← row-read lies xs q h) (done q h)
+module _ (w c : ℕ) (f : ℕ → Complex) (A : Matrix) (pivot : (q : ℕ) → q < w → f q ≡ A c q) where
+  -- the row i, as it was before the first row was reduced, is reduced as the definition has it
+  pub reduced-is : (B : Matrix) (i : ℕ) → c < w → ((q : ℕ) → q < w → B i q ≡ A i q) → (eqb i c || skipped (A i c)) ≡ false
+      → (q : ℕ) → q < w → lessFactor c f B i q ≡ reduced operations c A i q
+  unfolding lessFactor reduced
+  reduced-is B i hc h t q k =
+      let a : B i q ≡ A i q = h q k in
+      let b : B i c ≡ A i c = h c hc in
+      let p : f q ≡ A c q = pivot q k in
+      let whole : csub (B i q) (cmul (B i c) (f q)) ≡ csub (A i q) (cmul (A i c) (A c q)) = cc in
+      whole ∙ sym (ap (λ (s : Bool). cond s (A i q) (csub (A i q) (cmul (A i c) (A c q)))) t)
 
--- the row to be reduced is as it was before the first was
-pub same-row : (w c i : ℕ) (f : ℕ → Complex) (A B : Matrix) → c < w → ((q : ℕ) → q < w → A i q ≡ B i q) → (q : ℕ) → q < w → reducedRow c f A i q ≡ reducedRow c f B i q
-unfolding reducedRow
-same-row w c i f A B hc h q k =
-    let a : A i q ≡ B i q = h q k in
-    let b : A i c ≡ B i c = h c hc in
-    cc
-
--- the definition's own words
-pub reduced-is : (w c : ℕ) (f : ℕ → Complex) (A : Matrix) → ((q : ℕ) → q < w → f q ≡ A c q) → (i q : ℕ) → q < w → reducedRow c f A i q ≡ reduced operations c A i q
-unfolding reducedRow reducedEntry reduced
-reduced-is w c f A h i q k =
-    ap (λ (p : Complex). cond (eqb i c) (A i q) (cond (skipped (A i c)) (A i q) (csub (A i q) (cmul (A i c) p)))) (h q k)
-    ∙ either (eqb i c) (skipped (A i c)) (A i q) (csub (A i q) (cmul (A i c) (A c q)))
-  where
-    either : (a b : Bool) (x y : Complex) → cond a x (cond b x y) ≡ cond (a || b) x y
-    either true b x y = refl
-    either false b x y = refl
+-- a row that is left alone is as the definition has it
+pub alone-is : (c i : ℕ) (A : Matrix) → (eqb i c || skipped (A i c)) ≡ true → (q : ℕ) → A i q ≡ reduced operations c A i q
+unfolding reduced
+alone-is c i A t q = sym (ap (λ (s : Bool). cond s (A i q) (csub (A i q) (cmul (A i c) (A c q)))) t)
 
 -- row c of A, each entry times the inverse of the pivot, put in its place
 pub scaled-is : (w c : ℕ) (f g : ℕ → Complex) (A B : Matrix) (x y : Complex) → c < w → ((q : ℕ) → q < w → f q ≡ A c q) → x ≡ f c → y ≡ complexInv x

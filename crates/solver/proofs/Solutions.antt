@@ -1,14 +1,17 @@
 -- What an eliminated slice holds: column c of its right sides is the solution for right side c alone, and 13 comes by the system alone.
 -- And that a filled slice is the system beside its right side, or beside the identity.
-use Rattle.prelude.proofs.Prelude.{_≡_, refl, sym, ap, _∙_, Bool, true, false, cond, _⊎_, inl, inr, List, ℕ, _+_, _-_, _*_, _≤_, _<_, arith, eqb, Float, sub-zero, eqb-true, eq-eqb, ne-eqb}
+use Rattle.prelude.proofs.Prelude.{_≡_, refl, sym, ap, _∙_, Bool, true, false, not, cond, _⊎_, inl, inr, List, ℕ, _+_, _-_, _*_, _≤_, _<_, arith, eqb, Float, sub-zero, mul-le-mul-left, eqb-true, eq-eqb, ne-eqb}
 use borrow.Author.Tests.{eqb-false}
-use Rattle.complex.specs.{plus0, unit, entry, Matrix, entryAt, grid, zeros}
+use Rattle.complex.specs.{plus0, unit, entry, Matrix, entryAt, zeros}
 use Rattle.complex.proofs.Entries.{parts-same}
 use Rattle.complex.proofs.Matrices.{entry-grid, entry-within, getD-zeros}
 use Rattle.lists.proofs.Order.{lt-or-ge}
-use Rattle.solver.specs.GaussJordan.{gaussJordan, augmented, solution, singularSystem}
+use Rattle.solver.specs.GaussJordan.{gaussJordan, pairs, augmented, solution, singularSystem}
 use Rattle.solver.specs.Solving.{operations, unitColumn}
-use Rattle.solver.specs.Inner.Work.{placed, rightSides, withIdentity}
+use Rattle.solver.specs.Inner.Work.{ended, isDone, Ran, placed, rightSides, withIdentity}
+use Rattle.solver.specs.declared.elimination.Eliminated.{Eliminated}
+use Rattle.solver.proofs.Ending.{done-fact, not-done}
+use Rattle.solver.proofs.Pairs.{pairs-same, pairs-system, pairs-bound}
 use Rattle.solver.proofs.GaussJordan.{run-same, augmented-singular, augmented-system, augmented-right, column-alone}
 use Rattle.solver.proofs.BlockParts.{placed-in, placed-left, placed-right}
 
@@ -19,15 +22,32 @@ module _ (n m : ℕ) (A B : Matrix) (ys zs : List Float)
   pub singular-is : gaussJordan operations n (entryAt (n + m) ys) .singular ≡ singularSystem operations n A
   singular-is = run-same operations n (n + m) (omega arith) (entryAt (n + m) ys) (augmented operations n A B) filled .singular ∙ augmented-singular operations n A B
 
-  pub solution-is : zs ≡ grid n (n + m) (gaussJordan operations n (entryAt (n + m) ys) .left) → (i c : ℕ) → i < n → c < m
-      → rightSides n (entryAt (n + m) zs) i c ≡ solution operations n A (λ (r : ℕ). B r c) i
-  unfolding rightSides
-  solution-is e i c h k =
-      let col : n + c < n + m = omega arith in
-      ap (λ (l : List Float). entryAt (n + m) l i (n + c)) e
-      ∙ entry-grid n (n + m) (gaussJordan operations n (entryAt (n + m) ys) .left) i (n + c) h col
-      ∙ run-same operations n (n + m) (omega arith) (entryAt (n + m) ys) (augmented operations n A B) filled .left i (n + c) h col
-      ∙ column-alone operations n A B i c h
+  pub pairs-is : pairs operations n (entryAt (n + m) ys) ≡ pairs operations n A
+  pairs-is = pairs-same operations n (n + m) (omega arith) (entryAt (n + m) ys) (augmented operations n A B) filled ∙ pairs-system operations n A B
+
+  module _ (allowed : ℕ) (end : Eliminated) (ran : Ran n (n + m) allowed end ys zs) where
+    pub ended-is : end ≡ ended allowed (pairs operations n A) (singularSystem operations n A)
+    ended-is = ran .answer ∙ ap (λ (k : ℕ). ended allowed k (gaussJordan operations n (entryAt (n + m) ys) .singular)) pairs-is ∙ ap (ended allowed (pairs operations n A)) singular-is
+
+    -- n n row reductions are enough: what is not done is singular
+    pub singular-told : n * n ≤ allowed → not (isDone end) ≡ singularSystem operations n A
+    singular-told h = pick (isDone end) refl
+      where
+        within : pairs operations n A ≤ allowed
+        within = let bound = pairs-bound operations n A in let less : n - 1 ≤ n = omega arith in let most = mul-le-mul-left n less in omega arith
+
+        pick : (d : Bool) → isDone end ≡ d → not d ≡ singularSystem operations n A
+        pick true e = sym (done-fact allowed _ _ end ended-is e .1)
+        pick false e = sym (not-done allowed _ _ end ended-is within e)
+
+    pub solution-is : isDone end ≡ true → (i c : ℕ) → i < n → c < m → rightSides n (entryAt (n + m) zs) i c ≡ solution operations n A (λ (r : ℕ). B r c) i
+    unfolding rightSides
+    solution-is d i c h k =
+        let col : n + c < n + m = omega arith in
+        ap (λ (l : List Float). entryAt (n + m) l i (n + c)) (ran .entries (done-fact _ _ _ end (ran .answer) d .0))
+        ∙ entry-grid n (n + m) (gaussJordan operations n (entryAt (n + m) ys) .left) i (n + c) h col
+        ∙ run-same operations n (n + m) (omega arith) (entryAt (n + m) ys) (augmented operations n A B) filled .left i (n + c) h col
+        ∙ column-alone operations n A B i c h
 
 -- ---- a filled slice
 

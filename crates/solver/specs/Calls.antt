@@ -1,30 +1,35 @@
 -- What `solve_linear` and `complex_matrix_inverse` answer, and what they leave in the slices handed to them.
 use Prim.Native.Nat.{ℕ, _+_, _*_}
-use mathlib.Core.Bool.{Bool, not, _&&_, _||_, cond}
+use mathlib.Core.Bool.{not, _&&_, _||_, cond}
 use mathlib.Core.List.{List}
 use lib.Dec.{eqb, ltb}
 use lib.ListN.{length}
 use lib.Ieee.{Float}
 use Rattle.complex.specs.Entries.{entry}
 use Rattle.complex.specs.Matrices.{entryAt, grid, zeros}
+use Rattle.refusals.specs.declared.Allowance.{Allowance}
+use Rattle.refusals.specs.declared.Counted.{Counted}
 use Rattle.refusals.specs.declared.Outcome.{Outcome}
-use Rattle.refusals.specs.Refusals.{limit, tooMany, wrongLength, emptySystem, singular, refuse, outcome}
+use Rattle.refusals.specs.Refusals.{limit, tooMany, wrongLength, emptySystem, singular, refuse, outcome, counted}
+use Rattle.refusals.specs.Work.{reductions, workRefusal}
 use Rattle.solver.specs.Solving.{isSingular, solve, inverse}
+use Rattle.solver.specs.Steps.{stepsOfSolve}
 
 -- A call that ends in an elimination, with one output slice and one work slice.
-pub record AfterElimination : Type 0 where
-  pub answer : Outcome
+pub record AfterElimination (Answer : Type 0) : Type 0 where
+  pub answer : Answer
   pub output : List Float
   pub work : List Float
 
--- `told` is the refusal from the input, `small` whether a pivot is too small. On a refusal the output is as it was; the work slice is
--- cleared unless the input was refused.
-unfoldable pub afterElimination : ℕ → Bool → List Float → List Float → List Float → AfterElimination
-unfolding outcome zeros
-afterElimination told small new old work =
-    let number = cond (eqb told 0) (cond small singular 0) told in
+-- `answered` is the answer by the refusal's number, `told` the refusal from the input, `met` the one that the work meets. On a refusal the
+-- output is as it was; the work slice is cleared unless the input was refused.
+unfoldable pub afterElimination : {Answer : Type 0} → (ℕ → Answer) → ℕ → ℕ → List Float → List Float → List Float
+    → AfterElimination Answer
+unfolding zeros
+afterElimination answered told met new old work =
+    let number = cond (eqb told 0) met told in
     record {
-      answer = outcome number;
+      answer = answered number;
       output = cond (eqb number 0) new old;
       work = cond (eqb told 0) (zeros (length work)) work;
     }
@@ -38,12 +43,14 @@ solveRefusal n a b x work =
     (refuse (not (eqb a (2 * (n * n)) && (eqb x (2 * n) && eqb work (2 * (n * (n + 1)))))) wrongLength
     (refuse (eqb n 0 || not (eqb b (2 * n))) emptySystem 0))
 
-unfoldable pub afterSolve : ℕ → List Float → List Float → List Float → List Float → AfterElimination
-unfolding solveRefusal afterElimination
-afterSolve n a b x work =
-    afterElimination
+-- an accepted solve answers how many rows it reduced
+unfoldable pub afterSolve : ℕ → List Float → List Float → Allowance → List Float → List Float → AfterElimination Counted
+unfolding solveRefusal stepsOfSolve counted workRefusal reductions afterElimination
+afterSolve n a b allowance x work =
+    let steps = stepsOfSolve n (entryAt n a) (entry b) in
+    afterElimination (counted (reductions steps))
     (solveRefusal n (length a) (length b) (length x) (length work))
-    (isSingular n (entryAt n a))
+    (workRefusal allowance steps)
     (grid n 1 (λ (i k : ℕ). solve n (entryAt n a) (entry b) i))
     x work
 
@@ -55,11 +62,11 @@ inverseRefusal n mat inverse work =
     (refuse (not (eqb mat (2 * (n * n)) && (eqb inverse (2 * (n * n)) && eqb work (4 * (n * n))))) wrongLength
     (refuse (eqb n 0) emptySystem 0))
 
-unfoldable pub afterInverse : ℕ → List Float → List Float → List Float → AfterElimination
-unfolding inverseRefusal afterElimination
+unfoldable pub afterInverse : ℕ → List Float → List Float → List Float → AfterElimination Outcome
+unfolding inverseRefusal outcome afterElimination
 afterInverse n mat out work =
-    afterElimination
+    afterElimination outcome
     (inverseRefusal n (length mat) (length out) (length work))
-    (isSingular n (entryAt n mat))
+    (refuse (isSingular n (entryAt n mat)) singular 0)
     (grid n n (inverse n (entryAt n mat)))
     out work

@@ -1,6 +1,6 @@
 -- Gauss-Jordan elimination, a column at a time, on a matrix of n rows whose columns from n on are right sides.
 -- The element's operations are a parameter: complex numbers are one instance.
-use Prim.Native.Nat.{ℕ, zero, suc, _-_}
+use Prim.Native.Nat.{ℕ, zero, suc, _+_, _-_}
 use mathlib.Core.Bool.{Bool, true, false, not, _||_, cond}
 use lib.Dec.{eqb, ltb}
 use lib.Ieee.{Float, lt}
@@ -74,6 +74,24 @@ module _ {E : Type 0} (O : Operations E) where
   unfoldable pub gaussJordan : ℕ → MatrixOf E → Elimination E
   unfolding gaussJordanFrom
   gaussJordan n A = gaussJordanFrom n n 0 A
+
+  -- the pairs of column c and another of the rows below n whose factor is not skipped; C has column c's pivot row scaled
+  unfoldable pub pairsIn : MatrixOf E → ℕ → ℕ → ℕ
+  pairsIn C c zero = 0
+  pairsIn C c (suc i) = pairsIn C c i + cond (eqb i c || O .skips (C i c)) 0 1
+
+  -- those in the columns from c on, `count` of them
+  unfoldable pub pairsFrom : ℕ → ℕ → ℕ → MatrixOf E → ℕ
+  unfolding pivoted scaled cleared pairsIn
+  pairsFrom n zero c A = 0
+  pairsFrom n (suc count) c A =
+      let B = pivoted n c A in
+      cond (O .small (B c c)) 0 (pairsIn (scaled c B) c n + pairsFrom n count (suc c) (cleared c B))
+
+  -- those of the whole elimination, up to the first pivot that is too small
+  unfoldable pub pairs : ℕ → MatrixOf E → ℕ
+  unfolding pairsFrom
+  pairs n A = pairsFrom n n 0 A
 
   -- a system and, in the columns behind it, its right sides
   unfoldable pub augmented : ℕ → MatrixOf E → MatrixOf E → MatrixOf E

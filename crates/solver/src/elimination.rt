@@ -7,15 +7,16 @@ use complex::constants::DIVISION_LIMIT;
 use complex::entry::get;
 use refusals::LIMIT;
 ghost use mathlib.Core.Path.{_≡_};
-ghost use mathlib.Core.Bool.{cond};
+ghost use mathlib.Core.Bool.{false, _||_, cond};
 ghost use Prim.Native.Nat.{ℕ, _+_, _*_, _<_, _≤_};
+ghost use lib.Dec.{eqb};
 ghost use lib.ListN.{length};
 ghost use Rattle.complex.specs.Entries.{entry};
-ghost use Rattle.complex.specs.Matrices.{entryAt, grid};
+ghost use Rattle.complex.specs.Matrices.{entryAt};
 ghost use Rattle.refusals.specs.Refusals.{limit};
 ghost use Rattle.solver.specs.GaussJordan as spec;
 ghost use Rattle.solver.specs.Solving.{operations};
-ghost use Rattle.solver.specs.Inner.Work.{WorkRows, BesideTurned, ColumnDone, withRow, reducedRow};
+ghost use Rattle.solver.specs.Inner.Work.{WorkRows, BesideTurned, ColumnDone, Ran, withRow, lessFactor, ended, isDone};
 
 // Of two rows, the one that is held: the first, unless the other's squared magnitude is strictly greater.
 fn stronger(work: &[f64], n: usize, w: usize, c: usize, held: usize, next: usize) -> usize
@@ -62,49 +63,106 @@ fn swap(work: &mut [f64], n: usize, w: usize, c: usize, p: usize, row: &mut [f64
     rows::copy(row, &mut work[a..b]);
 }
 
-// Row i is reduced by the pivot row in column c, unless it is row c itself.
-fn reduce_row(work: &mut [f64], n: usize, w: usize, i: usize, c: usize, pivot: &[f64])
-    requires { ⌜ (WorkRows n w (length (now work))) × (i < n) × (c < n) × (BesideTurned w (now pivot)) ⌝ }
-    ensures { λ _. ⌜
-        ((r j : ℕ) → j < w → entryAt w (now (work .exit)) r j
-        ≡ withRow i (reducedRow c (entry (now (pivot .entry))) (entryAt w (now (work .entry))) i) (entryAt w (now (work .entry))) r j)
-        ⌝ }
+// How an elimination ends, or a part of it: done, with what is left of its allowance of row reductions, at a pivot that is too small, or
+// before the row reduction that would exceed the allowance.
+pub enum Eliminated {
+    Done(usize),
+    Small,
+    Exceeded,
+}
+
+// Whether the elimination came to its end.
+pub fn is_done(end: Eliminated) -> bool
+    ensures { λ r. ⌜ r ≡ isDone end ⌝ }
 {
-    if i != c {
-        let Span { start, end } = span_of(n, w, 0, w, i);
-        rows::reduce(&mut work[start..end], w, c, pivot);
+    match end {
+        Eliminated::Done(_) => true,
+        Eliminated::Small => false,
+        Eliminated::Exceeded => false,
     }
 }
 
-// All rows but row c are reduced by the pivot row, which is row c.
-fn reduce_others(work: &mut [f64], n: usize, w: usize, c: usize, pivot: &[f64])
+// Whether row i is not reduced in column c: it is row c, or its factor, which stands at place `at`, is skipped.
+fn left_alone(work: &[f64], n: usize, w: usize, i: usize, c: usize, at: usize) -> bool
+    requires { ⌜ (WorkRows n w (length (now work))) × (i < n) × (c < n) × (at ≡ i * w + c) ⌝ }
+    ensures { λ r. ⌜ r ≡ (eqb i c || operations .skips (entryAt w (now (work .entry)) i c)) ⌝ }
+{
+    if i == c {
+        return true;
+    }
+    rows::skipped(get(work, at))
+}
+
+// Row i loses its factor in column c, which stands at place `at`, times the pivot row.
+fn reduce_row(work: &mut [f64], n: usize, w: usize, i: usize, c: usize, at: usize, pivot: &[f64])
+    requires { ⌜ (WorkRows n w (length (now work))) × (i < n) × (c < n) × (BesideTurned w (now pivot)) × (at ≡ i * w + c) ⌝ }
+    ensures { λ _. ⌜
+        ((r j : ℕ) → j < w → entryAt w (now (work .exit)) r j
+        ≡ withRow i (lessFactor c (entry (now (pivot .entry))) (entryAt w (now (work .entry))) i) (entryAt w (now (work .entry))) r j)
+        ⌝ }
+{
+    let factor = get(work, at);
+    let Span { start, end } = span_of(n, w, 0, w, i);
+    rows::subtract(&mut work[start..end], w, factor, pivot);
+}
+
+// All rows but row c, which is the pivot row, are reduced by it, unless the allowance is exceeded.
+fn reduce_others(
+    work: &mut [f64],
+    n: usize,
+    w: usize,
+    c: usize,
+    pivot: &[f64],
+    allowed: usize,
+) -> Eliminated
     requires { ⌜
         (WorkRows n w (length (now work)))
         × (c < n)
         × (BesideTurned w (now pivot))
         × ((j : ℕ) → j < w → entry (now pivot) j ≡ entryAt w (now work) c j)
         ⌝ }
-    ensures { λ _. ⌜
-        ((i j : ℕ) → i < n → j < w → entryAt w (now (work .exit)) i j ≡ spec.reduced operations c (entryAt w (now (work .entry))) i j)
+    ensures { λ r. ⌜
+        (r ≡ ended allowed (spec.pairsIn operations (entryAt w (now (work .entry))) c n) false)
+        × (spec.pairsIn operations (entryAt w (now (work .entry))) c n ≤ allowed → (i j : ℕ) → i < n → j < w
+        → entryAt w (now (work .exit)) i j ≡ spec.reduced operations c (entryAt w (now (work .entry))) i j)
         ⌝ }
 {
+    let mut left = allowed;
+    let mut at = c;
     let mut i = 0;
     while i < n {
-        reduce_row(work, n, w, i, c, pivot);
+        if !left_alone(work, n, w, i, c, at) {
+            if left == 0 {
+                return Eliminated::Exceeded;
+            }
+            reduce_row(work, n, w, i, c, at, pivot);
+            left -= 1;
+        }
+        at += w;
         i += 1;
     }
+    Eliminated::Done(left)
 }
 
 // Row c, which the first half of `row` holds, is scaled by its pivot's inverse, and the others are reduced.
-fn clear_column(work: &mut [f64], n: usize, w: usize, c: usize, row: &mut [f64])
+fn clear_column(
+    work: &mut [f64],
+    n: usize,
+    w: usize,
+    c: usize,
+    row: &mut [f64],
+    allowed: usize,
+) -> Eliminated
     requires { ⌜
         (WorkRows n w (length (now work)))
         × (c < n)
         × (length (now row) ≡ 4 * w)
         × ((j : ℕ) → j < w → entry (now row) j ≡ entryAt w (now work) c j)
         ⌝ }
-    ensures { λ _. ⌜
-        ((i j : ℕ) → i < n → j < w → entryAt w (now (work .exit)) i j ≡ spec.cleared operations c (entryAt w (now (work .entry))) i j)
+    ensures { λ r. ⌜
+        (r ≡ ended allowed (spec.pairsIn operations (spec.scaled operations c (entryAt w (now (work .entry)))) c n) false)
+        × (spec.pairsIn operations (spec.scaled operations c (entryAt w (now (work .entry)))) c n ≤ allowed → (i j : ℕ) → i < n → j < w
+        → entryAt w (now (work .exit)) i j ≡ spec.cleared operations c (entryAt w (now (work .entry))) i j)
         ⌝ }
 {
     rows::scale(row, w, complex::complex_inv(get(row, c)));
@@ -112,51 +170,59 @@ fn clear_column(work: &mut [f64], n: usize, w: usize, c: usize, row: &mut [f64])
     let e = 2 * w;
     rows::copy(&row[0..e], &mut work[start..end]);
     rows::turn(row, w);
-    reduce_others(work, n, w, c, row);
+    reduce_others(work, n, w, c, row, allowed)
 }
 
-// One column; `row` has room for a row and the same row turned. Whether its pivot is too small: then the rows have changed places, and no
-// more.
-fn column(work: &mut [f64], n: usize, w: usize, c: usize, row: &mut [f64]) -> bool
+// One column; `row` has room for a row and the same row turned. Where its pivot is too small, the rows have changed places, and no more.
+fn column(
+    work: &mut [f64],
+    n: usize,
+    w: usize,
+    c: usize,
+    row: &mut [f64],
+    allowed: usize,
+) -> Eliminated
     requires { ⌜ (WorkRows n w (length (now work))) × (c < n) × (length (now row) ≡ 4 * w) ⌝ }
-    ensures { λ r. ⌜ ColumnDone n w c r (now (work .entry)) (now (work .exit)) ⌝ }
+    ensures { λ r. ⌜ ColumnDone n w c allowed r (now (work .entry)) (now (work .exit)) ⌝ }
 {
     let p = pivot_row(work, n, w, c);
     let e = 2 * w;
     swap(work, n, w, c, p, &mut row[0..e]);
     if complex::sqmag(get(row, c)) < DIVISION_LIMIT {
-        return true;
+        return Eliminated::Small;
     }
-    clear_column(work, n, w, c, row);
-    false
+    clear_column(work, n, w, c, row, allowed)
 }
 
-fn columns(work: &mut [f64], n: usize, w: usize, row: &mut [f64]) -> bool
+fn columns(work: &mut [f64], n: usize, w: usize, row: &mut [f64], allowed: usize) -> Eliminated
     requires { ⌜ (WorkRows n w (length (now work))) × (length (now row) ≡ 4 * w) ⌝ }
-    ensures { λ r. ⌜
-        (r ≡ spec.gaussJordan operations n (entryAt w (now (work .entry))) .singular)
-        × (now (work .exit) ≡ grid n w (spec.gaussJordan operations n (entryAt w (now (work .entry))) .left))
-        ⌝ }
+    ensures { λ r. ⌜ Ran n w allowed r (now (work .entry)) (now (work .exit)) ⌝ }
 {
+    let mut left = allowed;
     let mut c = 0;
     while c < n {
-        if column(work, n, w, c, row) {
-            return true;
+        match column(work, n, w, c, row, left) {
+            Eliminated::Done(rest) => {
+                left = rest;
+            }
+            Eliminated::Small => {
+                return Eliminated::Small;
+            }
+            Eliminated::Exceeded => {
+                return Eliminated::Exceeded;
+            }
         }
         c += 1;
     }
-    false
+    Eliminated::Done(left)
 }
 
-// All columns. Whether a pivot was too small; then the work ends there.
-pub fn gauss_jordan(work: &mut [f64], n: usize, w: usize) -> bool
+// All columns, with so many row reductions allowed; where the elimination is not done, it ends at the pivot or before the row reduction.
+pub fn gauss_jordan(work: &mut [f64], n: usize, w: usize, allowed: usize) -> Eliminated
     requires { ⌜ (n ≤ w) × (w ≤ 2 * limit) × (length (now work) ≡ 2 * (n * w)) ⌝ }
-    ensures { λ r. ⌜
-        (r ≡ spec.gaussJordan operations n (entryAt w (now (work .entry))) .singular)
-        × (now (work .exit) ≡ grid n w (spec.gaussJordan operations n (entryAt w (now (work .entry))) .left))
-        ⌝ }
+    ensures { λ r. ⌜ Ran n w allowed r (now (work .entry)) (now (work .exit)) ⌝ }
 {
     let mut buffer = [0.0; 8 * LIMIT];
     let e = 4 * w;
-    columns(work, n, w, &mut buffer[0..e])
+    columns(work, n, w, &mut buffer[0..e], allowed)
 }

@@ -1,6 +1,11 @@
 // The solution of a complex system, and the inverse of a complex matrix, by Gauss-Jordan elimination.
+use crate::elimination::Eliminated;
+use refusals::Allowance;
+use refusals::BEYOND_ALLOWANCE;
+use refusals::Counted;
 use refusals::Outcome;
 use refusals::SINGULAR;
+use refusals::allowed_rows;
 ghost use mathlib.Core.Path.{_≡_};
 ghost use Rattle.solver.specs.Calls as spec;
 
@@ -10,23 +15,34 @@ pub mod lengths;
 pub mod rows;
 pub mod solving;
 
-// x becomes the solution of a x = b: a has n rows of n complex entries, b and x have n, and the work slice has n rows of n + 1.
-// Refused: 1, 2, 5 from the input, 13 where a pivot is too small. The work slice is all +0 after acceptance or 13.
-pub fn solve_linear(n: usize, a: &[f64], b: &[f64], x: &mut [f64], work: &mut [f64]) -> Outcome
+// x becomes the solution of a x = b: a has n rows of n complex entries, b and x have n, and the work slice has n rows of n + 1. Answers how
+// many rows were reduced: the pairs of column and other row whose factor was not skipped, at most n (n - 1).
+// Refused: 1, 2, 5 from the input; 13 where a pivot is too small, 18 before the row reduction that would exceed the allowance, whichever
+// the work meets first. The work slice is all +0 after acceptance, 13 or 18.
+pub fn solve_linear(
+    n: usize,
+    a: &[f64],
+    b: &[f64],
+    allowance: Allowance,
+    x: &mut [f64],
+    work: &mut [f64],
+) -> Counted
     ensures { λ r. ⌜
-        (r ≡ spec.afterSolve n (now (a .entry)) (now (b .entry)) (now (x .entry)) (now (work .entry)) .answer)
-        × (now (x .exit) ≡ spec.afterSolve n (now (a .entry)) (now (b .entry)) (now (x .entry)) (now (work .entry)) .output)
-        × (now (work .exit) ≡ spec.afterSolve n (now (a .entry)) (now (b .entry)) (now (x .entry)) (now (work .entry)) .work)
+        (r ≡ spec.afterSolve n (now (a .entry)) (now (b .entry)) allowance (now (x .entry)) (now (work .entry)) .answer)
+        × (now (x .exit) ≡ spec.afterSolve n (now (a .entry)) (now (b .entry)) allowance (now (x .entry)) (now (work .entry)) .output)
+        × (now (work .exit) ≡ spec.afterSolve n (now (a .entry)) (now (b .entry)) allowance (now (x .entry)) (now (work .entry)) .work)
         ⌝ }
 {
     let told = lengths::solve_refusal(n, a.len(), b.len(), x.len(), work.len());
     if told != 0 {
-        return Outcome::Refused(told);
+        return Counted::Refused(told);
     }
-    if solving::solved(n, a, b, x, work) {
-        return Outcome::Refused(SINGULAR);
+    let allowed = allowed_rows(allowance);
+    match solving::solved(n, a, b, allowed, x, work) {
+        Eliminated::Done(left) => Counted::Reduced(allowed - left),
+        Eliminated::Small => Counted::Refused(SINGULAR),
+        Eliminated::Exceeded => Counted::Refused(BEYOND_ALLOWANCE),
     }
-    Outcome::Done
 }
 
 // `inverse` becomes the inverse of mat, both n rows of n complex entries; the work slice has n rows of 2 n.

@@ -10,7 +10,7 @@ ghost use lib.ListN.{length};
 ghost use Rattle.complex.specs.Arithmetic as arithmetic;
 ghost use Rattle.complex.specs.Entries.{entry};
 ghost use Rattle.solver.specs.Solving as spec;
-ghost use Rattle.solver.specs.Inner.Work.{BesideTurned, reducedEntry};
+ghost use Rattle.solver.specs.Inner.Work.{BesideTurned};
 
 // Copies a row.
 pub fn copy(from: &[f64], to: &mut [f64])
@@ -78,7 +78,8 @@ pub fn turn(row: &mut [f64], w: usize)
     }
 }
 
-// Number by number: with the turned row both parts are computed alike, so that the row is loaded and stored in vectors as it lies.
+// The row loses its factor times the pivot row, number by number: with the turned row both parts are computed alike, so that the row is
+// loaded and stored in vectors as it lies.
 pub fn subtract(row: &mut [f64], w: usize, factor: Complex, pivot: &[f64])
     requires { ⌜ (length (now row) ≡ 2 * w) × (BesideTurned w (now pivot)) ⌝ }
     ensures { λ _. ⌜
@@ -91,19 +92,5 @@ pub fn subtract(row: &mut [f64], w: usize, factor: Complex, pivot: &[f64])
     while j < e {
         row[j] = row[j] - (factor.re * pivot[j] + factor.im * pivot[e + j]);
         j += 1;
-    }
-}
-
-// The row loses its factor, its entry in column c, times the pivot row, unless the factor is skipped.
-pub fn reduce(row: &mut [f64], w: usize, c: usize, pivot: &[f64])
-    requires { ⌜ (c < w) × (length (now row) ≡ 2 * w) × (BesideTurned w (now pivot)) ⌝ }
-    ensures { λ _. ⌜
-        ((q : ℕ) → q < w → entry (now (row .exit)) q
-        ≡ reducedEntry (entry (now (row .entry)) c) (entry (now (pivot .entry)) q) (entry (now (row .entry)) q))
-        ⌝ }
-{
-    let factor = get(row, c);
-    if !skipped(factor) {
-        subtract(row, w, factor, pivot);
     }
 }

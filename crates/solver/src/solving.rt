@@ -1,6 +1,9 @@
 // The work of `solve_linear` and `complex_matrix_inverse` once the input is accepted: the slice is filled, eliminated, read, and cleared.
 // The functions here have a `requires`, which their callers prove.
 use crate::blocks;
+use crate::elimination::Eliminated;
+use crate::elimination::gauss_jordan;
+use crate::elimination::is_done;
 use complex::slices::clear;
 ghost use mathlib.Core.Path.{_≡_};
 ghost use mathlib.Core.Bool.{cond};
@@ -9,8 +12,9 @@ ghost use lib.ListN.{length};
 ghost use Rattle.complex.specs.Entries.{entry};
 ghost use Rattle.complex.specs.Matrices.{entryAt, grid, zeros};
 ghost use Rattle.refusals.specs.Refusals.{limit};
-ghost use Rattle.solver.specs.GaussJordan.{augmented};
+ghost use Rattle.solver.specs.GaussJordan.{augmented, pairs};
 ghost use Rattle.solver.specs.Solving as spec;
+ghost use Rattle.solver.specs.Inner.Work.{ended, isDone};
 
 // The system beside its right side.
 fn fill_system(work: &mut [f64], n: usize, a: &[f64], b: &[f64])
@@ -25,8 +29,15 @@ fn fill_system(work: &mut [f64], n: usize, a: &[f64], b: &[f64])
     blocks::place_block(work, n, w, n, 1, b);
 }
 
-// Whether the system is singular; where not, x becomes its solution.
-pub fn solved(n: usize, a: &[f64], b: &[f64], x: &mut [f64], work: &mut [f64]) -> bool
+// How the elimination of a x = b ends under an allowance of row reductions; where it is done, x becomes the solution.
+pub fn solved(
+    n: usize,
+    a: &[f64],
+    b: &[f64],
+    allowed: usize,
+    x: &mut [f64],
+    work: &mut [f64],
+) -> Eliminated
     requires { ⌜
         (n ≤ limit)
         × (length (now work) ≡ 2 * (n * (n + 1)))
@@ -35,21 +46,22 @@ pub fn solved(n: usize, a: &[f64], b: &[f64], x: &mut [f64], work: &mut [f64]) -
         × (length (now x) ≡ 2 * n)
         ⌝ }
     ensures { λ r. ⌜
-        (r ≡ spec.isSingular n (entryAt n (now (a .entry))))
-        × (now (x .exit) ≡ cond r (now (x .entry))
-        (grid n 1 (λ (i k : ℕ). spec.solve n (entryAt n (now (a .entry))) (entry (now (b .entry))) i)))
+        (r ≡ ended allowed (pairs spec.operations n (entryAt n (now (a .entry)))) (spec.isSingular n (entryAt n (now (a .entry)))))
+        × (now (x .exit)
+        ≡ cond (isDone r) (grid n 1 (λ (i k : ℕ). spec.solve n (entryAt n (now (a .entry))) (entry (now (b .entry))) i)) (now (x .entry)))
         × (now (work .exit) ≡ zeros (length (now (work .entry))))
         ⌝ }
 {
     let w = n + 1;
     fill_system(work, n, a, b);
-    if crate::elimination::gauss_jordan(work, n, w) {
+    let end = gauss_jordan(work, n, w, allowed);
+    if !is_done(end) {
         clear(work);
-        return true;
+        return end;
     }
     blocks::take(work, n, w, n, 1, x);
     clear(work);
-    false
+    end
 }
 
 // The matrix beside the identity.
@@ -82,7 +94,8 @@ pub fn inverted(n: usize, mat: &[f64], inverse: &mut [f64], work: &mut [f64]) ->
 {
     let w = n + n;
     fill_identity(work, n, mat);
-    if crate::elimination::gauss_jordan(work, n, w) {
+    // n n row reductions are enough
+    if !is_done(gauss_jordan(work, n, w, n * n)) {
         clear(work);
         return true;
     }

@@ -3,7 +3,7 @@ use Rattle.prelude.proofs.Prelude.{_≡_, refl, sym, ap, _∙_, subst, Bool, tr
 use lib.Seq.{drop-append-seam, drop-append-add}
 use Rattle.lists.specs.Buses.{mem, _isOneOf_, others, allBelow, repeats}
 use Rattle.ward_equivalent.specs.Calls.{studyOf}
-use Rattle.ward_equivalent.specs.Inner.Steps.{cut}
+use Rattle.ward_equivalent.specs.Inner.Listed.{cut}
 use Rattle.lists.proofs.Buses.{in-head, in-cases, stays, others-none, below-all, all-below}
 
 -- ---- a list that repeats none

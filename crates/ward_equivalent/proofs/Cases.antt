@@ -1,18 +1,27 @@
 -- Studies for the order of rows, the sign of the currents and the buses' numbers, one that retains nothing, and one for each refusal, computed from
 -- the definitions.
-use Rattle.prelude.proofs.Prelude.{_≡_, refl, List, [], _∷_, ℕ, _+_, _*_, length, replicate, Float, binary64, ofBits, span, climb, size, odd, units, round, neg, sum, add, sub, mul, div, lt, eq, ofInt, ofFields}
+use Rattle.prelude.proofs.Prelude.{_≡_, refl, sym, ap, _∙_, false, true≢false, arith, eqb, List, [], _∷_, ℕ, _+_, _*_, length, replicate, Float, binary64, ofBits, span, climb, size, odd, units, round, neg, sum, add, sub, mul, div, lt, eq, ofInt, ofFields}
 use Rattle.complex.specs.{entryAt, row, rows, zeros, cadd, csub, cmul, sqmag, cdiv, complexInv, plus0, one, divisionLimit, smallMagnitude, entry, abs, magnitude}
 use Rattle.lists.specs.Buses.{upTo, place, repeats, within, rowsIn}
 use Rattle.ward_equivalent.specs.declared.answers.WardAnswer.{WardAnswer}
 use Rattle.ward_equivalent.specs.declared.answers.WardAnswer.the-variants.{Done, Refused}
 use Rattle.ward_equivalent.specs.Arithmetic.{sumUp, current, injectedP, injectedQ}
-use Rattle.ward_equivalent.specs.Ward.{Study, Outputs, retained, listed, externals, admittance, yEE, solvedColumn, rowTimes, equivalent, solvedCurrents, boundaryCurrent, injectionP, injectionQ, thenSingular, reduction, summary, wardAnswer, acceptedOutputs, workAfter, outputsAfter, AfterWard, studied}
+use Rattle.ward_equivalent.specs.Ward.{Study, Outputs, retained, listed, externals, admittance, yEE, solvedColumn, rowTimes, equivalent, solvedCurrents, boundaryCurrent, injectionP, injectionQ, ratio}
+use Rattle.ward_equivalent.specs.Studied.{summary, wardAnswer, acceptedOutputs, workAfter, outputsAfter, AfterWard, studied}
+use Rattle.ward_equivalent.specs.Steps.{ofEach, stepsOfColumn, stepsOfCurrents, ofProducts, ofRowTimes, ofEquivalentEntry, ofEquivalent, ofCurrents, ofInjection, ofInjections, ofRatio, stepsOf, ofSums, ofTies, ofCorrection, stepsOfExtended}
 use Rattle.ward_equivalent.specs.Calls.{studyOf, outputsOf, afterExtended}
-use Rattle.refusals.specs.Refusals.{limit}
+use Rattle.refusals.specs.declared.Allowance.the-variants.{Unlimited, Rows}
+use Rattle.refusals.specs.Refusals.{limit, beyondAllowance}
+use Rattle.refusals.specs.Work.{computing, reductions, meets, granted, workRefusal, thenWork, _noMoreThan_}
+use Rattle.solver.specs.Steps.{ofSearch, ofScaling, ofReducing, stepsOfRow, stepsOfRows, stepsFrom, stepsOfRun, stepsOfSolve}
 use Rattle.solver.specs.GaussJordan.{stays, heldAfter, pivotRow, swapped, scaled, reduced, pivoted, cleared, gaussJordanFrom, gaussJordan, augmented, solution, singularSystem}
 use Rattle.solver.specs.Solving.{skipped}
 use Rattle.binary64.specs.Root.{root, rootOf, wholeRoot, half, radicand}
-use Rattle.ward_equivalent.specs.Extended.{ExtendedOutputs, addUp, deviation, weight, weightSum, weightedSum, meanOf, voltageCorrection, reactive, qCompensation, extendedOutputsAfter, studiedExtended}
+use Rattle.ward_equivalent.specs.Extended.{ExtendedOutputs, addUp, deviation, weight, weightSum, weightedSum, meanOf, voltageCorrection, reactive, qCompensation}
+use Rattle.ward_equivalent.specs.Studied.{extendedOutputsAfter, studiedExtended}
+use Rattle.ward_equivalent.specs.Studied.{wardNumber}
+use Rattle.ward_equivalent.specs.Allowances.{mostRows}
+use Rattle.ward_equivalent.proofs.Allowances.{study-allowances}
 use Rattle.ward_equivalent.specs.Lengths.{overLimit, wrongLengths, unmatched, lengthRefusal}
 use Rattle.ward_equivalent.specs.Numbers.{NumberedStudy, NumberedExtended, numberedOf, numberedExtendedOf, inRows, extendedInRows, busRefusal, wardRefusal, extendedRefusal, afterCompute, afterComputeExtended}
 
@@ -61,14 +70,23 @@ study ns ys is es bs ps qs = numberedOf ns (studyOf 2 ys is es bs C ps qs)
 
 -- number and slices at exit
 abbrev after : NumberedStudy → AfterWard
-after N = afterCompute N (room (N .study))
+after N = afterCompute N Unlimited (room (N .study))
 
+-- with this allowance
+abbrev under : ℕ → NumberedStudy → AfterWard
+under m N = afterCompute N (Rows m) (room (N .study))
+
+-- a study that reduces so many rows
+abbrev counting : ℕ → ℕ → Float → ℕ → WardAnswer
+counting n r x rows = Done (record { «n_buses_reduced» = n; «n_buses_equivalent» = r; «reduction_ratio» = x; «rows_reduced» = rows })
+
+-- with one external bus or none there is no other row
 abbrev done : ℕ → ℕ → Float → WardAnswer
-done n r x = Done (record { «n_buses_reduced» = n; «n_buses_equivalent» = r; «reduction_ratio» = x })
+done n r x = counting n r x 0
 
 -- to open this is to open all that the cases compute with
 opened : Unit {0}
-unfolding retained listed admittance sumUp yEE solvedColumn rowTimes equivalent current injectedP injectedQ solvedCurrents boundaryCurrent injectionP injectionQ thenSingular reduction summary wardAnswer acceptedOutputs workAfter outputsAfter studied place repeats within rowsIn inRows overLimit wrongLengths unmatched lengthRefusal busRefusal wardRefusal afterCompute stays heldAfter pivotRow swapped scaled reduced pivoted cleared gaussJordanFrom gaussJordan augmented solution singularSystem skipped cadd csub cmul sqmag cdiv complexInv plus0 one divisionLimit entry abs upTo entryAt row rows zeros ofBits span climb size odd units round neg sum add sub mul div lt eq ofInt ofFields
+unfolding computing reductions meets granted workRefusal thenWork ofSearch ofScaling ofReducing stepsOfRow stepsOfRows stepsFrom stepsOfRun stepsOfSolve ofEach stepsOfColumn stepsOfCurrents ofProducts ofRowTimes ofEquivalentEntry ofEquivalent ofCurrents ofInjection ofInjections ofRatio stepsOf retained listed admittance sumUp yEE solvedColumn rowTimes equivalent current injectedP injectedQ solvedCurrents boundaryCurrent injectionP injectionQ ratio summary wardAnswer acceptedOutputs workAfter outputsAfter studied place repeats within rowsIn inRows overLimit wrongLengths unmatched lengthRefusal busRefusal wardRefusal afterCompute stays heldAfter pivotRow swapped scaled reduced pivoted cleared gaussJordanFrom gaussJordan augmented solution singularSystem skipped cadd csub cmul sqmag cdiv complexInv plus0 one divisionLimit entry abs upTo entryAt row rows zeros ofBits span climb size odd units round neg sum add sub mul div lt eq ofInt ofFields
 opened = tt
 
 -- numbers as rows, for what is not about numbers
@@ -80,8 +98,8 @@ order : after (study rows-own M (1 ∷ []) [] (0 ∷ []) [] []) ≡ record { ans
 unfolding opened
 order = refl
 
--- nothing retained
-none : after (study rows-own M [] (0 ∷ 1 ∷ []) [] (z ∷ z ∷ []) (z ∷ z ∷ [])) ≡ record { answer = done 2 0 I; outputs = record { y-ward = []; p-ward = []; q-ward = []; work = zeros 12 } }
+-- nothing retained: the currents' solve alone, of two rows
+none : after (study rows-own M [] (0 ∷ 1 ∷ []) [] (z ∷ z ∷ []) (z ∷ z ∷ [])) ≡ record { answer = counting 2 0 I 2; outputs = record { y-ward = []; p-ward = []; q-ward = []; work = zeros 12 } }
 unfolding opened
 none = refl
 
@@ -133,6 +151,67 @@ flat = study rows-own (z ∷ z ∷ z ∷ z ∷ z ∷ z ∷ z ∷ z ∷ []) [] (1
 pivot : after flat ≡ record { answer = Refused 13; outputs = outputsOf (I ∷ I ∷ []) (I ∷ []) (I ∷ []) (zeros 6) }
 unfolding opened
 pivot = refl
+
+-- ---- allowances
+
+-- three buses, 5, 1, 1 / 1, 2, 1 / 1, 1, 2, the second and the third external: a solve for bus 0 and one for the currents, of two row reductions each
+abbrev pair : List Float → NumberedStudy
+pair ys = numberedOf (0 ∷ 1 ∷ 2 ∷ []) (studyOf 3 ys [] (1 ∷ 2 ∷ []) (0 ∷ []) C (C ∷ z ∷ []) (z ∷ z ∷ []))
+
+abbrev meshed : NumberedStudy
+meshed = pair (float 0x4014000000000000 ∷ z ∷ I ∷ z ∷ I ∷ z ∷ I ∷ z ∷ II ∷ z ∷ I ∷ z ∷ I ∷ z ∷ I ∷ z ∷ II ∷ z ∷ [])
+
+four-reduced : under 4 meshed .answer ≡ counting 3 1 (float 0x3fe5555555555556) 4
+unfolding opened
+four-reduced = refl
+
+all-four : under 4 meshed ≡ after meshed
+unfolding opened
+all-four = refl
+
+-- three are enough for either solve, and not for both: every output is as it was, the work slice cleared
+one-too-few : under 3 meshed ≡ record { answer = Refused beyondAllowance; outputs = outputsOf (I ∷ I ∷ []) (I ∷ []) (I ∷ []) (zeros 16) }
+unfolding opened
+one-too-few = refl
+
+-- Y_ee is 1, 1 / 1, 1: the first solve reduces one row and finds the second pivot too small
+abbrev flat-pair : NumberedStudy
+flat-pair = pair (float 0x4014000000000000 ∷ z ∷ I ∷ z ∷ I ∷ z ∷ I ∷ z ∷ I ∷ z ∷ I ∷ z ∷ I ∷ z ∷ I ∷ z ∷ I ∷ z ∷ [])
+
+pivot-first : under 1 flat-pair .answer ≡ Refused 13
+unfolding opened
+pivot-first = refl
+
+reduction-first : under 0 flat-pair ≡ record { answer = Refused beyondAllowance; outputs = outputsOf (I ∷ I ∷ []) (I ∷ []) (I ∷ []) (zeros 16) }
+unfolding opened
+reduction-first = refl
+
+-- an input refusal comes first, and leaves the work slice
+input-first : under 0 (study rows-own M [] (2 ∷ []) (0 ∷ []) (z ∷ []) (z ∷ [])) ≡ after (study rows-own M [] (2 ∷ []) (0 ∷ []) (z ∷ []) (z ∷ []))
+unfolding opened
+input-first = refl
+
+-- the theorems on allowances at the edges of their premises: what is carried out, what 13 ends and what the input refuses is the same with more
+-- allowed, and the bound is enough
+not-beyond : (a : WardAnswer) → eqb (wardNumber a) beyondAllowance ≡ false → a ≡ Refused beyondAllowance → ⊥
+unfolding wardNumber
+not-beyond a t e = true≢false (sym (ap (λ (x : WardAnswer). eqb (wardNumber x) beyondAllowance) e) ∙ t)
+
+others : (eqb (wardNumber (under 4 meshed .answer)) beyondAllowance ≡ false) × (eqb (wardNumber (under 1 flat-pair .answer)) beyondAllowance ≡ false)
+unfolding opened wardNumber
+others = (refl, refl)
+
+still-done : after meshed ≡ under 4 meshed
+unfolding _noMoreThan_
+still-done = study-allowances .larger meshed (Rows 4) Unlimited (room (meshed .study)) tt (not-beyond _ (others .0))
+
+still-singular : under 2 flat-pair ≡ under 1 flat-pair
+unfolding _noMoreThan_
+still-singular = study-allowances .larger flat-pair (Rows 1) (Rows 2) (room (flat-pair .study)) (omega arith) (not-beyond _ (others .1))
+
+from-four : under 4 meshed ≡ after meshed
+unfolding mostRows retained
+from-four = study-allowances .from-bound meshed 4 (room (meshed .study)) (omega arith)
 
 -- ---- numbers
 
@@ -219,20 +298,44 @@ abbrev wide : NumberedExtended → ExtendedOutputs
 wide X = record { outputs = room (X .study .study); correction = I ∷ []; compensation = I ∷ [] }
 
 opened-extended : Unit {0}
-unfolding opened magnitude root rootOf wholeRoot half radicand smallMagnitude addUp deviation weight weightSum weightedSum meanOf voltageCorrection reactive qCompensation extendedOutputsAfter studiedExtended extendedInRows extendedRefusal afterComputeExtended
+unfolding opened ofSums ofTies ofCorrection stepsOfExtended magnitude root rootOf wholeRoot half radicand smallMagnitude addUp deviation weight weightSum weightedSum meanOf voltageCorrection reactive qCompensation extendedOutputsAfter studiedExtended extendedInRows extendedRefusal afterComputeExtended
 opened-extended = tt
 
 -- voltage 1.25: bus 7 gets P -3.5 and Q -0.5; its correction is 0.25, and the extended form's own Q -1
 both-q : let X = extended 3 (float 0x3ff4000000000000 ∷ []) in
-    afterComputeExtended X (wide X)
+    afterComputeExtended X Unlimited (wide X)
     ≡ afterExtended (done 2 1 +½) (outputsOf (float 0x4032800000000000 ∷ float 0x4012000000000000 ∷ []) (float 0xc00c000000000000 ∷ []) (-½ ∷ []) (zeros 6)) (float 0x3fd0000000000000 ∷ []) (-I ∷ [])
 unfolding opened-extended
 both-q = refl
 
-unlike-v : afterComputeExtended (extended 3 []) (wide (extended 3 [])) ≡ record { answer = Refused 3; outputs = wide (extended 3 []) }
+-- the extended form of `meshed`: as many rows, and with one too few neither correction nor compensation is written
+abbrev wide-pair : NumberedExtended
+wide-pair = numberedExtendedOf meshed (I ∷ I ∷ [])
+
+extended-beyond : afterComputeExtended wide-pair (Rows 3) (wide wide-pair) ≡ afterExtended (Refused beyondAllowance) (outputsOf (I ∷ I ∷ []) (I ∷ []) (I ∷ []) (zeros 16)) (I ∷ []) (I ∷ [])
+unfolding opened-extended
+extended-beyond = refl
+
+extended-four : afterComputeExtended wide-pair (Rows 4) (wide wide-pair) .answer ≡ counting 3 1 (float 0x3fe5555555555556) 4
+unfolding opened-extended
+extended-four = refl
+
+other-extended : eqb (wardNumber (afterComputeExtended wide-pair (Rows 4) (wide wide-pair) .answer)) beyondAllowance ≡ false
+unfolding opened-extended wardNumber
+other-extended = refl
+
+still-done-extended : afterComputeExtended wide-pair Unlimited (wide wide-pair) ≡ afterComputeExtended wide-pair (Rows 4) (wide wide-pair)
+unfolding _noMoreThan_
+still-done-extended = study-allowances .larger-extended wide-pair (Rows 4) Unlimited (wide wide-pair) tt (not-beyond _ other-extended)
+
+from-four-extended : afterComputeExtended wide-pair (Rows 4) (wide wide-pair) ≡ afterComputeExtended wide-pair Unlimited (wide wide-pair)
+unfolding mostRows retained
+from-four-extended = study-allowances .from-bound-extended wide-pair 4 (wide wide-pair) (omega arith)
+
+unlike-v : afterComputeExtended (extended 3 []) Unlimited (wide (extended 3 [])) ≡ record { answer = Refused 3; outputs = wide (extended 3 []) }
 unfolding opened-extended
 unlike-v = refl
 
-lacks-v : let X = extended 1 (I ∷ []) in afterComputeExtended X (wide X) ≡ record { answer = Refused 7; outputs = wide X }
+lacks-v : let X = extended 1 (I ∷ []) in afterComputeExtended X Unlimited (wide X) ≡ record { answer = Refused 7; outputs = wide X }
 unfolding opened-extended
 lacks-v = refl

@@ -1,5 +1,7 @@
 pub mod Places
 pub mod Signs
+pub mod Steps
+pub mod Solves
 pub mod Solved
 pub mod Studied
 pub mod Sums
@@ -10,4 +12,5 @@ pub mod Named
 pub mod Laws
 pub mod Ties
 pub mod Extended
+pub mod Allowances
 pub mod Cases

@@ -1,31 +1,35 @@
 -- A study whose buses are named by number: what its lengths and numbers refuse, and that what they let through is the study on rows.
-use Rattle.prelude.proofs.Prelude.{_≡_, refl, sym, ap, _∙_, subst, Bool, true, false, not, _||_, List, _++_, ℕ, zero, suc, _+_, _-_, _*_, _≤_, arith, T, length, length-append, ne-eqb}
+use Rattle.prelude.proofs.Prelude.{_≡_, refl, sym, ap, _∙_, subst, Bool, true, false, not, _||_, List, _++_, ℕ, zero, suc, _+_, _-_, _*_, _≤_, arith, T, length, length-append}
 use lib.Dec.{eqb·suc-zero}
+use Rattle.refusals.specs.declared.Allowance.{Allowance}
 use Rattle.refusals.specs.Refusals.{refuse}
+use Rattle.refusals.specs.Work.{thenWork}
 use Rattle.lists.specs.Buses.{allBelow, repeats, within, rowsIn}
 use Rattle.lists.proofs.Lookups.{length-rowsIn}
 use Rattle.lists.proofs.Naming.{rowsIn-append, below-within, repeats-rows}
 use Rattle.ward_equivalent.specs.declared.answers.WardAnswer.the-variants.{Refused}
 use Rattle.ward_equivalent.specs.declared.lengths.Lengths.{Lengths}
 use Rattle.ward_equivalent.specs.Lengths.{lengthRefusal}
-use Rattle.ward_equivalent.specs.Ward.{Study, Outputs, externals, listed, thenSingular, summary, wardAnswer, outputsAfter, workAfter, studied}
-use Rattle.ward_equivalent.specs.Extended.{ExtendedStudy, ExtendedOutputs, extendedOutputsAfter, studiedExtended}
+use Rattle.ward_equivalent.specs.Ward.{Study, Outputs, externals, listed}
+use Rattle.ward_equivalent.specs.Studied.{wardAnswer, outputsAfter, workAfter, studied}
+use Rattle.ward_equivalent.specs.Extended.{ExtendedStudy, ExtendedOutputs}
+use Rattle.ward_equivalent.specs.Studied.{extendedOutputsAfter, studiedExtended}
 use Rattle.ward_equivalent.specs.Calls.{afterWard, afterExtended}
-use Rattle.ward_equivalent.specs.Inner.Steps.{cut, CheckedStudy}
+use Rattle.ward_equivalent.specs.Inner.Listed.{cut, CheckedStudy}
 use Rattle.ward_equivalent.specs.Numbers.{NumberedStudy, NumberedExtended, lengthsOf, extendedLengthsOf, inRows, extendedInRows, busRefusal, wardRefusal, extendedRefusal, afterCompute, afterComputeExtended}
 use Rattle.ward_equivalent.proofs.Buses.{distinct-length, cut-joined}
 use Rattle.ward_equivalent.proofs.Told.{Fitting, lengths-refuse, lengths-pass}
 
 -- ---- 7, 8 or none
 
-small : (w r : Bool) → refuse w 7 (refuse r 8 0) ≤ 8
-small true r = omega arith
-small false true = omega arith
-small false false = omega arith
-
-bus-small : (ns ks : List ℕ) → busRefusal ns ks ≤ 8
+pub bus-most : (ns ks : List ℕ) → busRefusal ns ks ≤ 8
 unfolding busRefusal
-bus-small ns ks = small (not (within ns ks)) (repeats ns || repeats ks)
+bus-most ns ks = most (not (within ns ks)) (repeats ns || repeats ks)
+  where
+    most : (w r : Bool) → refuse w 7 (refuse r 8 0) ≤ 8
+    most true r = omega arith
+    most false true = omega arith
+    most false false = omega arith
 
 none : (w p q : Bool) → refuse (not w) 7 (refuse (p || q) 8 0) ≡ 0 → (w ≡ true) × (q ≡ false)
 none true true q h = absurd (omega arith)
@@ -118,43 +122,39 @@ cut-rows N L h =
 
 -- ---- an input refusal leaves every slice as it was
 
-refused : (S : Study) (o : Outputs) (k : ℕ) → (k ≡ 0 → ⊥) → k ≤ 8 → afterWard (Refused k) (o .y-ward) (o .p-ward) (o .q-ward) (o .work) ≡ studied S o k
-unfolding studied thenSingular wardAnswer summary outputsAfter workAfter
-refused S o zero h l = absurd (h refl)
-refused S o (suc k) h l = simp (eqb·suc-zero, ne-eqb (suc k) 13 (λ (p : suc k ≡ 13). omega arith))
+refused : (S : Study) (a : Allowance) (o : Outputs) (k : ℕ) → (k ≡ 0 → ⊥) → afterWard (Refused k) (o .y-ward) (o .p-ward) (o .q-ward) (o .work) ≡ studied S a o k
+unfolding studied thenWork wardAnswer outputsAfter workAfter
+refused S a o zero h = absurd (h refl)
+refused S a o (suc k) h = simp eqb·suc-zero
 
-refusedX : (X : ExtendedStudy) (o : ExtendedOutputs) (k : ℕ) → (k ≡ 0 → ⊥) → k ≤ 8 → afterExtended (Refused k) (o .outputs) (o .correction) (o .compensation) ≡ studiedExtended X o k
-unfolding studiedExtended thenSingular wardAnswer summary extendedOutputsAfter outputsAfter workAfter
-refusedX X o zero h l = absurd (h refl)
-refusedX X o (suc k) h l = simp (eqb·suc-zero, ne-eqb (suc k) 13 (λ (p : suc k ≡ 13). omega arith))
+refusedX : (X : ExtendedStudy) (a : Allowance) (o : ExtendedOutputs) (k : ℕ) → (k ≡ 0 → ⊥) → afterExtended (Refused k) (o .outputs) (o .correction) (o .compensation) ≡ studiedExtended X a o k
+unfolding studiedExtended thenWork wardAnswer extendedOutputsAfter outputsAfter workAfter
+refusedX X a o zero h = absurd (h refl)
+refusedX X a o (suc k) h = simp eqb·suc-zero
 
 -- ---- t is told by the lengths, u by the numbers and the lists
 
 module _ (l : Lengths) (ns ks : List ℕ) (t : ℕ) (e : t ≡ lengthRefusal l 0) where
   -- 1, 2, 3
-  pub told-first : (t ≡ 0 → ⊥) → (t ≡ lengthRefusal l (busRefusal ns ks)) × (t ≤ 8)
-  told-first h =
-      let r = lengths-refuse l (λ (z : lengthRefusal l 0 ≡ 0). h (e ∙ z)) in
-      (e ∙ sym (r .whatever (busRefusal ns ks)), subst (λ (m : ℕ). m ≤ 8) (sym e) (r .small))
+  pub told-first : (t ≡ 0 → ⊥) → t ≡ lengthRefusal l (busRefusal ns ks)
+  told-first h = e ∙ sym (lengths-refuse l (λ (z : lengthRefusal l 0 ≡ 0). h (e ∙ z)) .whatever (busRefusal ns ks))
 
   -- 7, 8 or 0
-  pub told-then : t ≡ 0 → (u : ℕ) → u ≡ busRefusal ns ks → (u ≡ lengthRefusal l (busRefusal ns ks)) × (u ≤ 8)
-  told-then z u v =
-      let (p, _) = lengths-pass l 0 (sym e ∙ z) in
-      (v ∙ sym (p .on (busRefusal ns ks)), subst (λ (m : ℕ). m ≤ 8) (sym v) (bus-small ns ks))
+  pub told-then : t ≡ 0 → (u : ℕ) → u ≡ busRefusal ns ks → u ≡ lengthRefusal l (busRefusal ns ks)
+  told-then z u v = let (p, _) = lengths-pass l 0 (sym e ∙ z) in v ∙ sym (p .on (busRefusal ns ks))
 
-module _ (N : NumberedStudy) (o : Outputs) (k : ℕ) (e : k ≡ lengthRefusal (lengthsOf N o) (busRefusal (N .numbers) (listed (N .study)))) where
-  pub answered : studied (inRows N) o k ≡ afterCompute N o
+module _ (N : NumberedStudy) (a : Allowance) (o : Outputs) (k : ℕ) (e : k ≡ lengthRefusal (lengthsOf N o) (busRefusal (N .numbers) (listed (N .study)))) where
+  pub answered : studied (inRows N) a o k ≡ afterCompute N a o
   unfolding afterCompute wardRefusal
-  answered = ap (studied (inRows N) o) e
+  answered = ap (studied (inRows N) a o) e
 
-  pub answered-refused : (k ≡ 0 → ⊥) → k ≤ 8 → afterWard (Refused k) (o .y-ward) (o .p-ward) (o .q-ward) (o .work) ≡ afterCompute N o
-  answered-refused h s = refused (inRows N) o k h s ∙ answered
+  pub answered-refused : (k ≡ 0 → ⊥) → afterWard (Refused k) (o .y-ward) (o .p-ward) (o .q-ward) (o .work) ≡ afterCompute N a o
+  answered-refused h = refused (inRows N) a o k h ∙ answered
 
-module _ (X : NumberedExtended) (o : ExtendedOutputs) (k : ℕ) (e : k ≡ lengthRefusal (extendedLengthsOf X o) (busRefusal (X .study .numbers) (listed (X .study .study)))) where
-  pub answeredX : studiedExtended (extendedInRows X) o k ≡ afterComputeExtended X o
+module _ (X : NumberedExtended) (a : Allowance) (o : ExtendedOutputs) (k : ℕ) (e : k ≡ lengthRefusal (extendedLengthsOf X o) (busRefusal (X .study .numbers) (listed (X .study .study)))) where
+  pub answeredX : studiedExtended (extendedInRows X) a o k ≡ afterComputeExtended X a o
   unfolding afterComputeExtended extendedRefusal
-  answeredX = ap (studiedExtended (extendedInRows X) o) e
+  answeredX = ap (studiedExtended (extendedInRows X) a o) e
 
-  pub answered-refusedX : (k ≡ 0 → ⊥) → k ≤ 8 → afterExtended (Refused k) (o .outputs) (o .correction) (o .compensation) ≡ afterComputeExtended X o
-  answered-refusedX h s = refusedX (extendedInRows X) o k h s ∙ answeredX
+  pub answered-refusedX : (k ≡ 0 → ⊥) → afterExtended (Refused k) (o .outputs) (o .correction) (o .compensation) ≡ afterComputeExtended X a o
+  answered-refusedX h = refusedX (extendedInRows X) a o k h ∙ answeredX

@@ -2,15 +2,17 @@
 use Rattle.prelude.proofs.Prelude.{_≡_, refl, sym, ap, _∙_, Bool, cond, _⊎_, inl, inr, List, [], _∷_, ℕ, zero, suc, _+_, _-_, _≤_, _<_, arith, T, ltb, length, getD, take, drop, Float, nan, lt-ltb, le-ltb, length-take-le, getD-take, and-i, and-l, and-r}
 use Rattle.complex.specs.{Complex, cadd, cmul, Matrix, entryAt, grid}
 use Rattle.complex.proofs.Matrices.{entry-grid}
-use Rattle.solver.specs.GaussJordan.{gaussJordan, augmented, solution, singularSystem}
+use Rattle.solver.specs.GaussJordan.{gaussJordan, pairs, augmented, solution, singularSystem}
 use Rattle.solver.specs.Solving.{operations, isSingular}
+use Rattle.solver.proofs.Pairs.{pairs-same}
 use Rattle.solver.proofs.GaussJordan.{run-same, singular-system, augmented-system, augmented-right, column-alone}
 use Rattle.lists.specs.Buses.{allBelow}
 use Rattle.lists.proofs.Order.{lt-or-ge}
 use Rattle.ward_equivalent.specs.Arithmetic.{sumUp, current}
 use Rattle.ward_equivalent.specs.Ward.{externals, admittance, yEE, solvedColumn, rowTimes, solvedCurrents, boundaryCurrent}
 use Rattle.ward_equivalent.specs.Inner.Work.{Listing, workRow, workMatrix, productTo, product}
-use Rattle.ward_equivalent.specs.Inner.Steps.{cut}
+use Rattle.ward_equivalent.specs.Inner.Listed.{cut}
+use Rattle.ward_equivalent.proofs.Steps.{rowsOfSolve}
 
 -- ---- parts of a listing
 
@@ -87,6 +89,15 @@ module _ (n : ℕ) (ys : List Float) (bs : List ℕ) (e f : ℕ) (base : Float) 
         filled i j h (omega arith) ∙ augmented-beside i j h (omega arith)
         ∙ augmented-system operations e (yEE (cut n ys bs e f base ps qs)) (rights n ys bs e base ps qs) i j k)
         ∙ ap (λ (m : ℕ). singularSystem operations m (yEE (cut n ys bs e f base ps qs))) (sym count)
+
+    -- and so the count
+    pub pairs-of : pairs operations e (entryAt (length bs + 1) ws) ≡ rowsOfSolve (cut n ys bs e f base ps qs)
+    pairs-of =
+        pairs-same operations e e (omega arith) (entryAt (length bs + 1) ws) (yEE (cut n ys bs e f base ps qs))
+        (λ (i j : ℕ) (h : i < e) (k : j < e).
+        filled i j h (omega arith) ∙ augmented-beside i j h (omega arith)
+        ∙ augmented-system operations e (yEE (cut n ys bs e f base ps qs)) (rights n ys bs e base ps qs) i j k)
+        ∙ ap (λ (m : ℕ). pairs operations m (yEE (cut n ys bs e f base ps qs))) (sym count)
 
     -- column c behind the system's is the solve of right side c alone
     pub column-of : (left : List Float) → left ≡ grid e (length bs + 1) (gaussJordan operations e (entryAt (length bs + 1) ws) .left) → (k c : ℕ) → k < e → c < length bs - e + 1

@@ -1,30 +1,42 @@
--- What a study with right lists leaves: refused with 13, or the equivalent that the work slice holds after the elimination.
-use Rattle.prelude.proofs.Prelude.{_≡_, refl, sym, ap, _∙_, subst, true, false, List, [], _∷_, _++_, ℕ, _+_, _-_, _*_, _≤_, _<_, arith, eqb, length, getD, take, drop, Float, map, ne-eqb, length-drop, take-append-drop, length-take-le, getD-drop, drop-drop}
+-- What a study with right lists leaves: refused with 13 or 18, or the equivalent that the work slice holds after the elimination.
+use Rattle.prelude.proofs.Prelude.{_≡_, refl, sym, ap, _∙_, subst, Bool, false, List, [], _∷_, _++_, ℕ, zero, suc, _+_, _-_, _*_, _≤_, _<_, arith, eqb, length, getD, take, drop, Float, map, ne-eqb, length-drop, take-append-drop, length-take-le, getD-drop, drop-drop}
+use lib.Dec.{eqb·suc-zero}
 use Rattle.complex.specs.{plus0, csub, Matrix, entryAt, rows, grid, zeros}
 use Rattle.complex.proofs.Matrices.{entry-grid, rows-ext, length-grid, grid-ext, length-rows, entry-rows}
-use Rattle.solver.specs.GaussJordan.{gaussJordan, gaussJordanFrom, singularSystem}
-use Rattle.solver.specs.Solving.{operations, isSingular}
+use Rattle.refusals.specs.declared.Allowance.the-variants.{Rows}
+use Rattle.refusals.specs.declared.Counted.{Counted}
+use Rattle.refusals.specs.declared.Counted.the-variants as counts
+use Rattle.refusals.specs.Refusals.{counted}
+use Rattle.refusals.specs.Work.{reductions, meets, granted, workRefusal, thenWork}
+use Rattle.refusals.proofs.Answering.{counted-refuses, counted-reduces}
+use Rattle.solver.specs.GaussJordan.{gaussJordan, pairs}
+use Rattle.solver.specs.Solving.{operations}
 use Rattle.ward_equivalent.specs.declared.answers.WardAnswer.{WardAnswer}
 use Rattle.ward_equivalent.specs.declared.answers.WardAnswer.the-variants.{Done, Refused}
 use Rattle.ward_equivalent.specs.Arithmetic.{injectedP, injectedQ}
-use Rattle.ward_equivalent.specs.Ward.{Study, Outputs, externals, retained, admittance, equivalent, rowTimes, solvedColumn, injectionP, injectionQ, yEE, reduction, summary, wardAnswer, thenSingular, acceptedOutputs, workAfter, outputsAfter, AfterWard, studied}
+use Rattle.ward_equivalent.specs.Ward.{Study, Outputs, externals, retained, admittance, equivalent, rowTimes, solvedColumn, injectionP, injectionQ, ratio}
+use Rattle.ward_equivalent.specs.Studied.{summary, wardAnswer, acceptedOutputs, workAfter, outputsAfter, AfterWard, studied}
 use Rattle.ward_equivalent.specs.Inner.Work.{workMatrix, product, lessProduct}
 use Rattle.ward_equivalent.specs.Calls.{afterWard}
-use Rattle.ward_equivalent.specs.Inner.Steps.{cut, outputsFrom}
-use Rattle.ward_equivalent.proofs.Solved.{product-column, product-currents}
+use Rattle.ward_equivalent.specs.Steps.{stepsOf}
+use Rattle.ward_equivalent.specs.Inner.Listed.{cut, outputsFrom, metBySolves, Solved}
+use Rattle.ward_equivalent.proofs.Steps.{rowsOfSolve, study-count, study-met}
+use Rattle.ward_equivalent.proofs.Solved.{pivots-of, pairs-of, product-column, product-currents}
 
--- ---- after 13, and with none
-
-pub studied-singular : (S : Study) (o : Outputs) → isSingular (externals S) (yEE S) ≡ true → studied S o 0 ≡ afterWard (Refused 13) (o .y-ward) (o .p-ward) (o .q-ward) (zeros (length (o .work)))
-unfolding studied thenSingular wardAnswer summary outputsAfter workAfter
-studied-singular S o h = rw h
+-- ---- by what the work meets
 
 abbrev pub accepted : Study → List Float → AfterWard
 accepted S ws = record { answer = Done (summary S); outputs = acceptedOutputs S (zeros (length ws)) }
 
-pub studied-regular : (S : Study) (o : Outputs) → isSingular (externals S) (yEE S) ≡ false → studied S o 0 ≡ accepted S (o .work)
-unfolding studied thenSingular wardAnswer summary outputsAfter workAfter
-studied-regular S o h = rw h
+module _ (S : Study) (m : ℕ) (o : Outputs) where
+  pub studied-refused : (k : ℕ) → meets m (stepsOf S) ≡ k → (k ≡ 0 → ⊥) → studied S (Rows m) o 0 ≡ afterWard (Refused k) (o .y-ward) (o .p-ward) (o .q-ward) (zeros (length (o .work)))
+  unfolding studied thenWork workRefusal granted wardAnswer outputsAfter workAfter
+  studied-refused zero h some = absurd (some refl)
+  studied-refused (suc k) h some = simp (h, eqb·suc-zero)
+
+  pub studied-done : meets m (stepsOf S) ≡ 0 → studied S (Rows m) o 0 ≡ accepted S (o .work)
+  unfolding studied thenWork workRefusal granted wardAnswer outputsAfter workAfter
+  studied-done h = rw h
 
 pub same-after : {r r' : WardAnswer} {yw yw' pw pw' qw qw' ws ws' : List Float} → r ≡ r' → yw ≡ yw' → pw ≡ pw' → qw ≡ qw' → ws ≡ ws' → afterWard r yw pw qw ws ≡ afterWard r' yw' pw' qw' ws'
 same-after a b c d e = λ i. record { answer = a i; outputs = record { y-ward = b i; p-ward = c i; q-ward = d i; work = e i } }
@@ -50,7 +62,8 @@ module _ (n : ℕ) (ys : List Float) (bs : List ℕ) (e f : ℕ) (base : Float) 
   kept : length (retained (cut n ys bs e f base ps qs)) ≡ length bs - e
   kept = ap length (retained-cut n ys bs e f base ps qs first) ∙ length-drop e bs
 
-  summary-cut : summary (cut n ys bs e f base ps qs) ≡ record { «n_buses_reduced» = n; «n_buses_equivalent» = length bs - e; «reduction_ratio» = reduction (length bs - e) n }
+  summary-cut : summary (cut n ys bs e f base ps qs)
+      ≡ record { «n_buses_reduced» = n; «n_buses_equivalent» = length bs - e; «reduction_ratio» = ratio (length bs - e) n; «rows_reduced» = reductions (stepsOf (cut n ys bs e f base ps qs)) }
   unfolding summary
   summary-cut = rw (any, kept)
 
@@ -87,13 +100,44 @@ module _ (n : ℕ) (ys : List Float) (bs : List ℕ) (e f : ℕ) (base : Float) 
     unfolding injectionQ
     reactive-ward i = rw any (ap (injectedQ base) (product-currents n ys bs e f base ps qs (omega arith) ws set left reached i))
 
-    pub filled-ward : (us : List Float) → length left ≡ length us → outputsFrom n ys bs e f base left ≡ accepted (cut n ys bs e f base ps qs) us
+    pub filled-ward : (us : List Float) → length left ≡ length us → (reduced : ℕ) → reduced ≡ reductions (stepsOf (cut n ys bs e f base ps qs))
+        → outputsFrom n ys bs e f base reduced left ≡ accepted (cut n ys bs e f base ps qs) us
     unfolding outputsFrom acceptedOutputs
-    filled-ward us l =
-        same-after (ap Done (sym summary-cut)) matrix-ward
+    filled-ward us l reduced q =
+        same-after
+        (ap (λ (m : ℕ). Done (record { «n_buses_reduced» = n; «n_buses_equivalent» = length bs - e; «reduction_ratio» = ratio (length bs - e) n; «rows_reduced» = m })) q ∙ ap Done (sym summary-cut))
+        matrix-ward
         (map-same (λ (i : ℕ). injectedP base (product n ys (take e bs) (length bs + 1) left i (length bs))) (injectionP (cut n ys bs e f base ps qs)) (drop f bs) active-ward)
         (map-same (λ (i : ℕ). injectedQ base (product n ys (take e bs) (length bs + 1) left i (length bs))) (injectionQ (cut n ys bs e f base ps qs)) (drop f bs) reactive-ward)
         (ap zeros l)
+
+  -- ---- the solves in one elimination
+
+  module _ (ws : List Float) (set : (k j : ℕ) → k < e → j < length bs + 1 → entryAt (length bs + 1) ws k j ≡ workMatrix n ys bs base ps qs k j)
+      (m : ℕ) (answered : Counted) (left : List Float) (solved : Solved e (length bs + 1) m answered ws left) where
+    -- what they answer is what the steps of the study count and meet
+    told-solves : answered ≡ counted (reductions (stepsOf (cut n ys bs e f base ps qs))) (meets m (stepsOf (cut n ys bs e f base ps qs)))
+    told-solves =
+        let S = cut n ys bs e f base ps qs in
+        let solves : length bs + 1 - e ≡ length (retained S) + 1 = omega (arith, kept) in
+        let rows = pairs-of n ys bs e f base ps qs (omega arith) ws set in
+        let small = pivots-of n ys bs e f base ps qs (omega arith) ws set in
+        solved .answer
+        ∙ ap (λ (k : ℕ). counted (k * pairs operations e (entryAt (length bs + 1) ws)) (metBySolves m k (pairs operations e (entryAt (length bs + 1) ws)) (gaussJordan operations e (entryAt (length bs + 1) ws) .singular))) solves
+        ∙ ap (λ (k : ℕ). counted ((length (retained S) + 1) * k) (metBySolves m (length (retained S) + 1) k (gaussJordan operations e (entryAt (length bs + 1) ws) .singular))) rows
+        ∙ ap (λ (b : Bool). counted ((length (retained S) + 1) * rowsOfSolve S) (metBySolves m (length (retained S) + 1) (rowsOfSolve S) b)) small
+        ∙ ap (counted ((length (retained S) + 1) * rowsOfSolve S)) (sym (study-met S any m))
+        ∙ ap (λ (k : ℕ). counted k (meets m (stepsOf S))) (sym (study-count S))
+
+    pub solves-refused : (k : ℕ) → answered ≡ counts.Refused k → (o : Outputs)
+        → studied (cut n ys bs e f base ps qs) (Rows m) o 0 ≡ afterWard (Refused k) (o .y-ward) (o .p-ward) (o .q-ward) (zeros (length (o .work)))
+    solves-refused k q o = let (h, some) = counted-refuses _ _ k (sym q ∙ told-solves) in studied-refused (cut n ys bs e f base ps qs) m o k h some
+
+    pub solves-done : (reduced : ℕ) → answered ≡ counts.Reduced reduced → (o : Outputs) → length left ≡ length (o .work)
+        → outputsFrom n ys bs e f base reduced left ≡ studied (cut n ys bs e f base ps qs) (Rows m) o 0
+    solves-done reduced q o l =
+        let (h, rows) = counted-reduces _ _ reduced (sym q ∙ told-solves) in
+        filled-ward ws set left (solved .entries reduced q) (o .work) l reduced rows ∙ sym (studied-done (cut n ys bs e f base ps qs) m o h)
 
 -- ---- what the products leave, as the equivalent that the work slice holds
 
@@ -125,13 +169,13 @@ none-zeros [] h = refl
 none-zeros (x ∷ ws) h = absurd (omega arith)
 
 module _ (n : ℕ) (ys : List Float) (bs : List ℕ) (f : ℕ) (base : Float) (ps qs : List Float) where
-  regular : isSingular (externals (cut n ys bs 0 f base ps qs)) (yEE (cut n ys bs 0 f base ps qs)) ≡ false
-  unfolding singularSystem gaussJordan gaussJordanFrom
-  regular = refl
+  none-met : (m : ℕ) → meets m (stepsOf (cut n ys bs 0 f base ps qs)) ≡ 0
+  unfolding stepsOf meets
+  none-met m = refl
 
-  summary-none : record { «n_buses_reduced» = n; «n_buses_equivalent» = length bs; «reduction_ratio» = plus0 } ≡ summary (cut n ys bs 0 f base ps qs)
-  unfolding summary
-  summary-none = ap (λ (r : ℕ). record { «n_buses_reduced» = n; «n_buses_equivalent» = r; «reduction_ratio» = plus0 }) (ap length (sym (retained-cut n ys bs 0 f base ps qs (omega arith))))
+  summary-none : record { «n_buses_reduced» = n; «n_buses_equivalent» = length bs; «reduction_ratio» = plus0; «rows_reduced» = 0 } ≡ summary (cut n ys bs 0 f base ps qs)
+  unfolding summary stepsOf reductions
+  summary-none = ap (λ (r : ℕ). record { «n_buses_reduced» = n; «n_buses_equivalent» = r; «reduction_ratio» = plus0; «rows_reduced» = 0 }) (ap length (sym (retained-cut n ys bs 0 f base ps qs (omega arith))))
 
   matrix-none : rows (entryAt n ys) bs bs ≡ rows (equivalent (cut n ys bs 0 f base ps qs)) (retained (cut n ys bs 0 f base ps qs)) (retained (cut n ys bs 0 f base ps qs))
   unfolding equivalent admittance
@@ -147,11 +191,11 @@ module _ (n : ℕ) (ys : List Float) (bs : List ℕ) (f : ℕ) (base : Float) (p
   unfolding injectionQ
   reactive-none = map-zeros (injectionQ (cut n ys bs 0 f base ps qs)) (drop f bs) (λ (i : ℕ). refl)
 
-  pub studied-none : (o : Outputs) (yw pw qw : List Float) → yw ≡ rows (entryAt n ys) bs bs → pw ≡ zeros (length (o .p-ward)) → qw ≡ zeros (length (o .q-ward))
+  pub studied-none : (m : ℕ) (o : Outputs) (yw pw qw : List Float) → yw ≡ rows (entryAt n ys) bs bs → pw ≡ zeros (length (o .p-ward)) → qw ≡ zeros (length (o .q-ward))
       → length (o .p-ward) ≡ length bs - f → length (o .q-ward) ≡ length bs - f → length (o .work) ≡ 0
-      → afterWard (Done (record { «n_buses_reduced» = n; «n_buses_equivalent» = length bs; «reduction_ratio» = plus0 })) yw pw qw (o .work) ≡ studied (cut n ys bs 0 f base ps qs) o 0
+      → afterWard (Done (record { «n_buses_reduced» = n; «n_buses_equivalent» = length bs; «reduction_ratio» = plus0; «rows_reduced» = 0 })) yw pw qw (o .work) ≡ studied (cut n ys bs 0 f base ps qs) (Rows m) o 0
   unfolding acceptedOutputs
-  studied-none o yw pw qw y p q lp lq lw =
+  studied-none m o yw pw qw y p q lp lq lw =
       same-after (ap Done summary-none) (y ∙ matrix-none)
       (p ∙ ap zeros (lp ∙ sym (length-drop f bs)) ∙ active-none) (q ∙ ap zeros (lq ∙ sym (length-drop f bs)) ∙ reactive-none) (none-zeros (o .work) lw)
-      ∙ sym (studied-regular (cut n ys bs 0 f base ps qs) o regular)
+      ∙ sym (studied-done (cut n ys bs 0 f base ps qs) m o (none-met m))

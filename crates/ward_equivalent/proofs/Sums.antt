@@ -10,7 +10,7 @@ use Rattle.binary64.proofs.Floats.{Zero, add-left, sub-right, zero-of}
 use Rattle.complex.proofs.Finite.{all-left, all-right, all-at, zero-times}
 use Rattle.ward_equivalent.specs.Arithmetic.{sumUp}
 use Rattle.ward_equivalent.specs.Extended.{addUp}
-use Rattle.ward_equivalent.specs.Computed.{ofEach, ofProducts}
+use Rattle.ward_equivalent.specs.Steps.{ofEach, ofProducts}
 
 abbrev pub Null : Complex → Type 0
 Null c = Zero (c .re) × Zero (c .im)

@@ -4,7 +4,7 @@ use Rattle.complex.specs.{Complex, plus0, one, smallMagnitude, _⊕_, _⊖_, _�
 use Rattle.ward_equivalent.specs.Ward.{admittance}
 use Rattle.ward_equivalent.specs.Extended.{ExtendedStudy, addUp, boundaryTie, weight, deviation, reactive, weightSum, weightedSum, voltageCorrection, qCompensation}
 use Rattle.ward_equivalent.specs.Extended.{meanOf}
-use Rattle.ward_equivalent.specs.Inner.Steps.{correctionInput}
+use Rattle.ward_equivalent.specs.Inner.Listed.{correctionInput}
 
 -- the sums over the ties of bus i to the first k external buses
 pub record TiesTo (S : ExtendedStudy) (i k : ℕ) (a b c : Float) : Type 0 where

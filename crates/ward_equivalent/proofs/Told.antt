@@ -1,5 +1,5 @@
 -- What the lengths of a study tell, and what they leave: 1, 2, 3, or lengths that fit.
-use Rattle.prelude.proofs.Prelude.{_≡_, refl, sym, _∙_, Bool, true, false, not, _||_, _⊎_, inl, inr, ⊎-elim, ℕ, _+_, _*_, _≤_, arith, eqb, ltb, ltb-false, eqb-true, not-false}
+use Rattle.prelude.proofs.Prelude.{_≡_, refl, sym, _∙_, subst, Bool, true, false, not, _||_, _⊎_, inl, inr, ⊎-elim, ℕ, _+_, _*_, _≤_, arith, eqb, ltb, ltb-false, eqb-true, not-false}
 use Rattle.refusals.specs.Refusals.{limit}
 use Rattle.ward_equivalent.specs.declared.lengths.Lengths.{Lengths}
 use Rattle.ward_equivalent.specs.Lengths.{overLimit, wrongLengths, unmatched, lengthRefusal}
@@ -107,3 +107,7 @@ lengths-refuse l h = ⊎-elim (λ (r : Refuses l). r) (λ (p : Passes l). absurd
 -- where nothing is told, the lengths fit, and nothing comes after
 pub lengths-pass : (l : Lengths) (next : ℕ) → lengthRefusal l next ≡ 0 → Passes l × (next ≡ 0)
 lengths-pass l next z = ⊎-elim (λ (r : Refuses l). absurd (r .some (sym (r .whatever next) ∙ z))) (λ (p : Passes l). (p, sym (p .on next) ∙ z)) (lengths-tell l)
+
+-- and none of the work's numbers is among them
+pub told-most : (l : Lengths) (next : ℕ) → next ≤ 8 → lengthRefusal l next ≤ 8
+told-most l next h = ⊎-elim (λ (r : Refuses l). subst (λ (k : ℕ). k ≤ 8) (sym (r .whatever next)) (r .small)) (λ (p : Passes l). subst (λ (k : ℕ). k ≤ 8) (sym (p .on next)) h) (lengths-tell l)

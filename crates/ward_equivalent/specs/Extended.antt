@@ -1,17 +1,14 @@
--- The extended Ward study: its formulas, and what it answers and leaves beside Ward's own. Buses are rows here.
+-- The extended Ward study: its formulas beside Ward's own. Buses are rows here.
 use Prim.Native.Nat.{ℕ, zero, suc}
 use mathlib.Core.Bool.{cond}
-use mathlib.Core.List.{List, map}
-use lib.Dec.{eqb}
+use mathlib.Core.List.{List}
 use lib.ListN.{getD}
 use lib.Ieee.{Float, nan, neg, lt}
 use Rattle.complex.specs.declared.Complex.{Complex}
 use Rattle.complex.specs.Constants.{plus0, one, smallMagnitude}
 use Rattle.complex.specs.Arithmetic.{_⊕_, _⊖_, _⊗_, _⊘_}
 use Rattle.complex.specs.Magnitude.{magnitude}
-use Rattle.ward_equivalent.specs.declared.answers.WardAnswer.{WardAnswer}
-use Rattle.ward_equivalent.specs.Ward.{Study, Outputs, externals, externalAt, admittance, thenSingular, summary, wardAnswer}
-use Rattle.ward_equivalent.specs.Ward.{outputsAfter}
+use Rattle.ward_equivalent.specs.Ward.{Study, Outputs, externals, externalAt, admittance}
 
 -- the voltages at the external buses, per unit
 pub record ExtendedStudy : Type 0 where
@@ -68,26 +65,3 @@ reactive base y d = neg (y .im) ⊗ d ⊗ base
 unfoldable pub qCompensation : ExtendedStudy → ℕ → Float
 unfolding addUp reactive deviation
 qCompensation S i = addUp (externals (S .study)) (λ (k : ℕ). reactive (S .study .base) (boundaryTie S i k) (deviation S k))
-
--- ---- the answer
-
--- the slices after refusal f: outputs are written only where there is none
-unfoldable pub extendedOutputsAfter : ExtendedStudy → ℕ → ExtendedOutputs → ExtendedOutputs
-unfolding outputsAfter voltageCorrection qCompensation
-extendedOutputsAfter S f o =
-    record {
-      outputs = outputsAfter (S .study) f (o .outputs);
-      correction = cond (eqb f 0) (map (voltageCorrection S) (S .study .boundary)) (o .correction);
-      compensation = cond (eqb f 0) (map (qCompensation S) (S .study .boundary)) (o .compensation);
-    }
-
-pub record AfterExtended : Type 0 where
-  pub answer : WardAnswer
-  pub outputs : ExtendedOutputs
-
--- after the input refusal f
-unfoldable pub studiedExtended : ExtendedStudy → ExtendedOutputs → ℕ → AfterExtended
-unfolding thenSingular wardAnswer summary extendedOutputsAfter
-studiedExtended X o f =
-    let k = thenSingular (X .study) f in
-    record { answer = wardAnswer k (summary (X .study)); outputs = extendedOutputsAfter X k o }

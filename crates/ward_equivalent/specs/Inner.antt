@@ -1,2 +1,2 @@
 pub mod Work
-pub mod Steps
+pub mod Listed

@@ -1,8 +1,10 @@
 pub mod Arithmetic
 pub mod Ward
 pub mod Extended
+pub mod Steps
+pub mod Studied
 pub mod Calls
-pub mod Computed
 pub mod Lengths
 pub mod Numbers
+pub mod Allowances
 pub mod Inner

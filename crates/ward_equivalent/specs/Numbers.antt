@@ -6,12 +6,16 @@ use mathlib.Core.List.{List}
 use lib.Dec.{T, eqb}
 use lib.ListN.{length}
 use lib.Ieee.{Float}
+use Rattle.refusals.specs.declared.Allowance.{Allowance}
 use Rattle.refusals.specs.Refusals.{noSuchBus, busTwice, refuse}
+use Rattle.refusals.specs.Work.{thenWork}
 use Rattle.lists.specs.Buses.{repeats, within, rowsIn}
 use Rattle.ward_equivalent.specs.declared.lengths.Lengths.{Lengths}
 use Rattle.ward_equivalent.specs.Lengths.{lengthRefusal}
-use Rattle.ward_equivalent.specs.Ward.{Study, Outputs, listed, externals, thenSingular, AfterWard, studied}
-use Rattle.ward_equivalent.specs.Extended.{ExtendedStudy, ExtendedOutputs, AfterExtended, studiedExtended}
+use Rattle.ward_equivalent.specs.Ward.{Study, Outputs, listed, externals}
+use Rattle.ward_equivalent.specs.Extended.{ExtendedStudy, ExtendedOutputs}
+use Rattle.ward_equivalent.specs.Steps.{stepsOf, stepsOfExtended}
+use Rattle.ward_equivalent.specs.Studied.{AfterWard, studied, AfterExtended, studiedExtended}
 
 -- the number of each row's bus, and a study whose lists hold numbers
 pub record NumberedStudy : Type 0 where
@@ -74,14 +78,15 @@ unfoldable pub wardRefusal : NumberedStudy → Outputs → ℕ
 unfolding lengthRefusal listed busRefusal
 wardRefusal N o = lengthRefusal (lengthsOf N o) (busRefusal (N .numbers) (listed (N .study)))
 
-abbrev pub AcceptedStudy : NumberedStudy → Outputs → Type 0
-AcceptedStudy N o = T (eqb (thenSingular (inRows N) (wardRefusal N o)) 0)
+abbrev pub AcceptedStudy : NumberedStudy → Allowance → Outputs → Type 0
+AcceptedStudy N a o = T (eqb (thenWork (wardRefusal N o) a (stepsOf (inRows N))) 0)
 
 -- ---- the calls
 
-unfoldable pub afterCompute : NumberedStudy → Outputs → AfterWard
+-- the allowance is of row reductions, over all solves of the study
+unfoldable pub afterCompute : NumberedStudy → Allowance → Outputs → AfterWard
 unfolding inRows wardRefusal studied
-afterCompute N o = studied (inRows N) o (wardRefusal N o)
+afterCompute N a o = studied (inRows N) a o (wardRefusal N o)
 
 -- with the voltages at the external buses, per unit
 pub record NumberedExtended : Type 0 where
@@ -120,9 +125,9 @@ unfoldable pub extendedRefusal : NumberedExtended → ExtendedOutputs → ℕ
 unfolding lengthRefusal listed busRefusal
 extendedRefusal X o = lengthRefusal (extendedLengthsOf X o) (busRefusal (X .study .numbers) (listed (X .study .study)))
 
-abbrev pub AcceptedExtended : NumberedExtended → ExtendedOutputs → Type 0
-AcceptedExtended X o = T (eqb (thenSingular (inRows (X .study)) (extendedRefusal X o)) 0)
+abbrev pub AcceptedExtended : NumberedExtended → Allowance → ExtendedOutputs → Type 0
+AcceptedExtended X a o = T (eqb (thenWork (extendedRefusal X o) a (stepsOfExtended (extendedInRows X))) 0)
 
-unfoldable pub afterComputeExtended : NumberedExtended → ExtendedOutputs → AfterExtended
+unfoldable pub afterComputeExtended : NumberedExtended → Allowance → ExtendedOutputs → AfterExtended
 unfolding extendedInRows extendedRefusal studiedExtended
-afterComputeExtended X o = studiedExtended (extendedInRows X) o (extendedRefusal X o)
+afterComputeExtended X a o = studiedExtended (extendedInRows X) a o (extendedRefusal X o)

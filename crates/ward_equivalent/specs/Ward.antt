@@ -1,8 +1,8 @@
--- Ward's study: its formulas, and what it answers and leaves. Buses are rows of the given matrix here, counted from 0; Numbers.antt says
--- how numbers come in, and what is told from the input.
-use Prim.Native.Nat.{ℕ, zero, suc}
-use mathlib.Core.Bool.{_||_, cond}
-use mathlib.Core.List.{List, _++_, map}
+-- Ward's study: its formulas. Buses are rows of the given matrix here, counted from 0. Steps.antt has the order of the work, Studied.antt
+-- what a study answers and leaves, and Numbers.antt how numbers come in, and what is told from the input.
+use Prim.Native.Nat.{ℕ}
+use mathlib.Core.Bool.{cond}
+use mathlib.Core.List.{List, _++_}
 use lib.Dec.{eqb}
 use lib.ListN.{length, getD}
 use lib.IntN.{pos}
@@ -10,13 +10,9 @@ use lib.Ieee.{Float, nan, binary64, ofInt}
 use Rattle.complex.specs.declared.Complex.{Complex}
 use Rattle.complex.specs.Constants.{plus0, one}
 use Rattle.complex.specs.Arithmetic.{_⊖_, _⊘_, csub, cmul}
-use Rattle.complex.specs.Matrices.{Matrix, entryAt, rows, zeros}
+use Rattle.complex.specs.Matrices.{Matrix, entryAt}
 use Rattle.ward_equivalent.specs.Arithmetic.{sumUp, current, injectedP, injectedQ}
-use Rattle.refusals.specs.Refusals.{singular, refuse}
-use Rattle.solver.specs.Solving.{solve, isSingular}
-use Rattle.ward_equivalent.specs.declared.answers.WardSummary.{WardSummary}
-use Rattle.ward_equivalent.specs.declared.answers.WardAnswer.{WardAnswer}
-use Rattle.ward_equivalent.specs.declared.answers.WardAnswer.the-variants.{Done, Refused}
+use Rattle.solver.specs.Solving.{solve}
 
 -- what is given: base in MVA, injections at the external buses in MW and MVAr; the lists name rows here, and numbers in a `NumberedStudy`
 pub record Study : Type 0 where
@@ -99,67 +95,7 @@ unfoldable pub injectionQ : Study → ℕ → Float
 unfolding plus0 injectedQ boundaryCurrent
 injectionQ S i = cond (eqb (externals S) 0) plus0 (injectedQ (S .base) (boundaryCurrent S i))
 
--- ---- the answer
-
--- 13 after the input refusal f
-unfoldable pub thenSingular : Study → ℕ → ℕ
-unfolding yEE
-thenSingular S f = cond (eqb f 0) (refuse (isSingular (externals S) (yEE S)) singular 0) f
-
--- 1 - r / n, in binary64
-unfoldable pub reduction : ℕ → ℕ → Float
+-- 1 - r / n, in binary64: the share of the n buses that r retained ones leave out
+unfoldable pub ratio : ℕ → ℕ → Float
 unfolding one
-reduction r n = one ⊖ ofInt binary64 (pos r) ⊘ ofInt binary64 (pos n)
-
--- the original size, and the size of the equivalent
-unfoldable pub summary : Study → WardSummary
-unfolding reduction retained plus0
-summary S =
-    record {
-      «n_buses_reduced» = S .size;
-      «n_buses_equivalent» = length (retained S);
-      «reduction_ratio» = cond (eqb (externals S) 0) plus0 (reduction (length (retained S)) (S .size));
-    }
-
--- the answer of a study with this refusal
-unfoldable pub wardAnswer : ℕ → WardSummary → WardAnswer
-wardAnswer zero s = Done s
-wardAnswer (suc k) s = Refused (suc k)
-
--- the number of an answer
-unfoldable pub wardNumber : WardAnswer → ℕ
-wardNumber (Done s) = 0
-wardNumber (Refused k) = k
-
--- the outputs of an accepted study
-unfoldable pub acceptedOutputs : Study → List Float → Outputs
-unfolding equivalent injectionP injectionQ retained rows
-acceptedOutputs S ws =
-    record {
-      y-ward = rows (equivalent S) (retained S) (retained S);
-      p-ward = map (injectionP S) (S .boundary);
-      q-ward = map (injectionQ S) (S .boundary);
-      work = ws;
-    }
-
--- the work slice after refusal f: +0 after acceptance or 13, else as it was
-unfoldable pub workAfter : ℕ → List Float → List Float
-unfolding zeros
-workAfter f ws = cond (eqb f 0 || eqb f singular) (zeros (length ws)) ws
-
--- the slices after refusal f: outputs are written only where there is none
-unfoldable pub outputsAfter : Study → ℕ → Outputs → Outputs
-unfolding acceptedOutputs workAfter
-outputsAfter S f o =
-    cond (eqb f 0)
-    (acceptedOutputs S (workAfter f (o .work)))
-    (record { y-ward = o .y-ward; p-ward = o .p-ward; q-ward = o .q-ward; work = workAfter f (o .work) })
-
-pub record AfterWard : Type 0 where
-  pub answer : WardAnswer
-  pub outputs : Outputs
-
--- after the input refusal f
-unfoldable pub studied : Study → Outputs → ℕ → AfterWard
-unfolding thenSingular wardAnswer summary outputsAfter
-studied S o f = let k = thenSingular S f in record { answer = wardAnswer k (summary S); outputs = outputsAfter S k o }
+ratio r n = one ⊖ ofInt binary64 (pos r) ⊘ ofInt binary64 (pos n)

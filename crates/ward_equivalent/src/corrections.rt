@@ -10,8 +10,10 @@ ghost use mathlib.Core.List.{map};
 ghost use Prim.Native.Nat.{_-_, _<_};
 ghost use lib.ListN.{length};
 ghost use Rattle.ward_equivalent.specs.Calls as spec;
-ghost use Rattle.ward_equivalent.specs.Inner.Steps as steps;
+ghost use Rattle.ward_equivalent.specs.Inner.Listed as listed;
 ghost use Rattle.ward_equivalent.specs.Extended as ward;
+ghost use Rattle.refusals.specs.declared.Allowance.the-variants.{Rows};
+ghost use Rattle.ward_equivalent.specs.Studied as studied;
 ghost use Rattle.ward_equivalent.specs.Inner.Work.{Listing};
 
 // Over the ties of one boundary bus: the magnitudes, the deviations weighted with them, and the reactive power in MVAr.
@@ -31,9 +33,9 @@ fn over_ties(
 ) -> TieSums
     requires { ⌜ (Listing n (now y) (now outer)) × (bus < n) × (length (now voltages) ≡ length (now outer)) ⌝ }
     ensures { λ r. ⌜
-        (r .weights ≡ ward.weightSum (steps.correctionInput n (now (y .entry)) (now (outer .entry)) (now (voltages .entry)) base) bus)
-        × (r .weighted ≡ ward.weightedSum (steps.correctionInput n (now (y .entry)) (now (outer .entry)) (now (voltages .entry)) base) bus)
-        × (r .reactive ≡ ward.qCompensation (steps.correctionInput n (now (y .entry)) (now (outer .entry)) (now (voltages .entry)) base)
+        (r .weights ≡ ward.weightSum (listed.correctionInput n (now (y .entry)) (now (outer .entry)) (now (voltages .entry)) base) bus)
+        × (r .weighted ≡ ward.weightedSum (listed.correctionInput n (now (y .entry)) (now (outer .entry)) (now (voltages .entry)) base) bus)
+        × (r .reactive ≡ ward.qCompensation (listed.correctionInput n (now (y .entry)) (now (outer .entry)) (now (voltages .entry)) base)
         bus)
         ⌝ }
 {
@@ -87,10 +89,10 @@ fn corrections(
         ⌝ }
     ensures { λ _. ⌜
         (now (correction .exit)
-        ≡ map (ward.voltageCorrection (steps.correctionInput n (now (y .entry)) (now (outer .entry)) (now (voltages .entry)) base))
+        ≡ map (ward.voltageCorrection (listed.correctionInput n (now (y .entry)) (now (outer .entry)) (now (voltages .entry)) base))
         (now (boundary .entry)))
         × (now (compensation .exit)
-        ≡ map (ward.qCompensation (steps.correctionInput n (now (y .entry)) (now (outer .entry)) (now (voltages .entry)) base))
+        ≡ map (ward.qCompensation (listed.correctionInput n (now (y .entry)) (now (outer .entry)) (now (voltages .entry)) base))
         (now (boundary .entry)))
         ⌝ }
 {
@@ -114,6 +116,7 @@ pub fn corrected(
     p: &[f64],
     q: &[f64],
     voltages: &[f64],
+    allowed: usize,
     to: &mut [f64],
     active: &mut [f64],
     reactive: &mut [f64],
@@ -122,7 +125,7 @@ pub fn corrected(
     work: &mut [f64],
 ) -> WardAnswer
     requires { ⌜
-        (steps.CheckedStudy n (now y) (now buses) e f (now p) (now q) (spec.outputsOf (now to) (now active) (now reactive) (now work)))
+        (listed.CheckedStudy n (now y) (now buses) e f (now p) (now q) (spec.outputsOf (now to) (now active) (now reactive) (now work)))
         × (length (now voltages) ≡ e)
         × (length (now correction) ≡ length (now buses) - f)
         × (length (now compensation) ≡ length (now buses) - f)
@@ -130,14 +133,28 @@ pub fn corrected(
     ensures { λ r. ⌜
         spec.afterExtended r (spec.outputsOf (now (to .exit)) (now (active .exit)) (now (reactive .exit)) (now (work .exit)))
         (now (correction .exit)) (now (compensation .exit))
-        ≡ ward.studiedExtended
-        (steps.extendedOf (steps.cut n (now (y .entry)) (now (buses .entry)) e f base (now (p .entry)) (now (q .entry)))
-        (now (voltages .entry)))
+        ≡ studied.studiedExtended
+        (listed.extendedOf (listed.cut n (now (y .entry)) (now (buses .entry)) e f base (now (p .entry)) (now (q .entry)))
+        (now (voltages .entry))) (Rows allowed)
         (spec.extendedOutputsOf (spec.outputsOf (now (to .entry)) (now (active .entry)) (now (reactive .entry)) (now (work .entry)))
         (now (correction .entry)) (now (compensation .entry))) 0
         ⌝ }
 {
-    let answer = study::study(n, y, buses, e, f, base, p, q, to, active, reactive, work);
+    let answer = study::study(
+        n,
+        y,
+        buses,
+        e,
+        f,
+        base,
+        p,
+        q,
+        allowed,
+        to,
+        active,
+        reactive,
+        work,
+    );
     let WardAnswer::Done(summary) = answer else {
         return answer;
     };

@@ -2,7 +2,9 @@
 use crate::answers::WardAnswer;
 use crate::lengths::Lengths;
 use crate::lengths::length_refusal;
+use refusals::Allowance;
 use refusals::LIMIT;
+use refusals::allowed_rows;
 ghost use mathlib.Core.Path.{_≡_};
 ghost use Rattle.binary64.specs.Values.{F64s};
 ghost use Rattle.ward_equivalent.specs.Calls as spec;
@@ -18,8 +20,10 @@ pub mod study;
 // Ward's equivalent of the n buses of y for the internal and boundary buses, in this order: its matrix in y_ward, and what each boundary
 // bus gets, in MW and MVAr, in p_ward and q_ward. p_ext and q_ext are the injections at the external buses, in MW and MVAr, base_mva in
 // MVA; at unit voltage the current of P + jQ is P - jQ. numbers[i] is the number of the bus of row i; the three lists hold numbers.
-// Refused: 1, 2, 3, 7, 8 from the input, 13 where a pivot is too small; then no output is written. The work slice has 2 e (e + r + 1)
-// numbers for e external and r retained buses, all +0 after acceptance or 13.
+// Answers how many rows its r + 1 solves reduced, one for each of r retained buses and one for the currents: at most (r + 1) e (e - 1)
+// for e external buses. Refused: 1, 2, 3, 7, 8 from the input; 13 where a pivot is too small, 18 before the row reduction that would exceed
+// the allowance over the whole study, whichever the work meets first; then no output is written. The work slice has 2 e (e + r + 1)
+// numbers, all +0 after acceptance, 13 or 18.
 pub fn compute(
     n: usize,
     y: &[f64],
@@ -30,6 +34,7 @@ pub fn compute(
     base_mva: f64,
     p_ext: &[f64],
     q_ext: &[f64],
+    allowance: Allowance,
     y_ward: &mut [f64],
     p_ward: &mut [f64],
     q_ward: &mut [f64],
@@ -39,7 +44,7 @@ pub fn compute(
         (spec.afterWard r (now («y_ward» .exit)) (now («p_ward» .exit)) (now («q_ward» .exit)) (now (work .exit))
         ≡ ward.afterCompute (ward.numberedOf (now (numbers .entry))
         (spec.studyOf n (now (y .entry)) (now (internal .entry)) (now (external .entry)) (now (boundary .entry)) «base_mva»
-        (now («p_ext» .entry)) (now («q_ext» .entry))))
+        (now («p_ext» .entry)) (now («q_ext» .entry)))) allowance
         (spec.outputsOf (now («y_ward» .entry)) (now («p_ward» .entry)) (now («q_ward» .entry)) (now (work .entry))))
         × F64s (now (y .entry))
         ⌝ }
@@ -81,6 +86,7 @@ pub fn compute(
         base_mva,
         p_ext,
         q_ext,
+        allowed_rows(allowance),
         y_ward,
         p_ward,
         q_ward,
@@ -101,6 +107,7 @@ pub fn compute_extended(
     p_ext: &[f64],
     q_ext: &[f64],
     v_ext: &[f64],
+    allowance: Allowance,
     y_ward: &mut [f64],
     p_ward: &mut [f64],
     q_ward: &mut [f64],
@@ -115,7 +122,7 @@ pub fn compute_extended(
         (ward.numberedExtendedOf
         (ward.numberedOf (now (numbers .entry))
         (spec.studyOf n (now (y .entry)) (now (internal .entry)) (now (external .entry)) (now (boundary .entry)) «base_mva»
-        (now («p_ext» .entry)) (now («q_ext» .entry)))) (now («v_ext» .entry)))
+        (now («p_ext» .entry)) (now («q_ext» .entry)))) (now («v_ext» .entry))) allowance
         (spec.extendedOutputsOf (spec.outputsOf (now («y_ward» .entry)) (now («p_ward» .entry)) (now («q_ward» .entry)) (now (work .entry)))
         (now («voltage_correction» .entry)) (now («q_compensation» .entry))))
         × F64s (now (y .entry))
@@ -159,6 +166,7 @@ pub fn compute_extended(
         p_ext,
         q_ext,
         v_ext,
+        allowed_rows(allowance),
         y_ward,
         p_ward,
         q_ward,

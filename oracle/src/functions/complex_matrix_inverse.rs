@@ -2,10 +2,9 @@
 use super::{ASKED, LIMIT};
 use crate::ask::{ask, Asked};
 use crate::call::{dirty, Call, Function};
-use crate::elimination::identity;
+use crate::elimination::{identity, Solver};
 use crate::expected::{self, faults, Expected};
 use crate::matrices::matrix;
-use crate::pivots::Model;
 use crate::source::Source;
 use crate::words::{bytes_of_reals, rows_of, words_of_rows};
 use reference::reduction::reach;
@@ -33,7 +32,10 @@ pub fn expected(call: &Call) -> Expected {
     } else {
         ask(|| reach::complex_matrix_inverse(&rows_of(&call.slices[MAT], n, n)))
     };
-    let model = || Some(Model::of(&rows_of(&call.slices[MAT], n, n), &identity(n), |z| z));
+    let model = || {
+        let mat = rows_of(&call.slices[MAT], n, n);
+        Some(move |solver: &mut Solver| solver.solutions(&mat, &identity(n)))
+    };
     expected::by_pivots(call, &refusals, asked, model, WORK, |e, z| {
         e.words(INVERSE, words_of_rows(&z))
     })

@@ -50,7 +50,16 @@ pub fn expected(call: &Call) -> Expected {
     }
 }
 
-// A call with n buses (or branches by n) whose lengths and lists are right.
+// Of a sound call that takes an allowance: the row reductions until its work ends, and the most.
+pub fn reductions(call: &Call) -> Option<(u64, u64)> {
+    match call.function {
+        Function::SolveLinear => Some(solve_linear::reductions(call)),
+        Function::WardCompute | Function::WardComputeExtended => Some(ward_model::reductions(call)),
+        _ => None,
+    }
+}
+
+// A call with n buses (or branches by n) whose lengths and lists are right, with no allowance.
 pub fn sound(function: Function, s: &mut Source, n: usize) -> Call {
     match function {
         Function::SolveLinear => solve_linear::random(s, n),

@@ -1,13 +1,15 @@
-// solve_linear(n, a, b, x, work)
+// solve_linear(n, a, b, allowance, x, work, rows_reduced)
 use super::{ASKED, LIMIT};
+use crate::allowances::{self, NONE};
 use crate::ask::{ask, Asked};
 use crate::call::{dirty, Call, Function};
+use crate::elimination::{Rule, Solver};
 use crate::expected::{self, faults, Expected};
 use crate::matrices::matrix;
 use crate::numbers::{kind, reals};
-use crate::pivots::Model;
 use crate::source::Source;
-use crate::words::{bytes_of_reals, pairs_of, rows_of, words_of_pairs, Rows};
+use crate::words::{bytes_of_reals, pairs_of, rows_of, words_of_pairs};
+use reference::counted;
 use reference::reduction::WardEquivalent;
 
 const A: usize = 0;
@@ -18,13 +20,14 @@ const WORK: usize = 3;
 pub fn of(n: usize, a: &[f64], b: &[f64]) -> Call {
     Call {
         function: Function::SolveLinear,
-        wholes: vec![n as u64],
+        wholes: vec![n as u64, NONE],
         reals: Vec::new(),
         slices: vec![
             bytes_of_reals(a),
             bytes_of_reals(b),
             dirty(2 * n),
             dirty(2 * n * (n + 1)),
+            dirty(1),
         ],
     }
 }
@@ -38,19 +41,33 @@ pub fn expected(call: &Call) -> Expected {
         (2, !lengths),
         (5, n == 0 || call.count(B) as u128 != 2 * wide),
     ]);
+    let system = || (rows_of(&call.slices[A], n, n), right_side(call));
     let asked = if n > ASKED {
         Asked::NotAsked
     } else {
-        ask(|| WardEquivalent::solve_linear(&rows_of(&call.slices[A], n, n), &right_side(call)))
+        let (a, b) = system();
+        ask(|| WardEquivalent::solve_linear(&a, &b))
+    };
+    let rows = || {
+        let (a, b) = system();
+        let (_, calls) = counted::counting(|| counted::WardEquivalent::solve_linear(&a, &b));
+        allowances::rows_of(calls, n + 1)
     };
     let model = || {
-        let sides: Rows = right_side(call).into_iter().map(|b| vec![b]).collect();
-        let first_column = |x: Rows| x.iter().map(|row| row[0]).collect();
-        Some(Model::of(&rows_of(&call.slices[A], n, n), &sides, first_column))
+        let (a, b) = system();
+        Some(move |solver: &mut Solver| solver.solution(&a, &b))
     };
-    expected::by_pivots(call, &refusals, asked, model, WORK, |e, x| {
+    expected::by_rows(call, &refusals, asked, rows, model, WORK, |e, x| {
         e.words(X, words_of_pairs(&x))
     })
+}
+
+// the row reductions until the work of a sound call ends, and the most
+pub fn reductions(call: &Call) -> (u64, u64) {
+    let n = call.size();
+    let mut solver = Solver::new(Rule::First, NONE);
+    let _ = solver.solution(&rows_of(&call.slices[A], n, n), &right_side(call));
+    (solver.reduced, (n * n - n) as u64)
 }
 
 // half a complex number too many is one too many, half a one missing is one missing

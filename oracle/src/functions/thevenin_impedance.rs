@@ -2,11 +2,10 @@
 use super::reducer::{self, Record};
 use crate::ask::{ask, Asked};
 use crate::call::{dirty, Call, Function};
-use crate::elimination::identity;
+use crate::elimination::{identity, Solver, Stop};
 use crate::expected::{self, faults, Expected};
-use crate::pivots::Model;
 use crate::source::Source;
-use crate::words::{words_of_pairs, Pair, Rows};
+use crate::words::{words_of_pairs, Pair};
 use reference::reduction::reach::{self, cadd, cmul, csub};
 
 const Y: usize = 1;
@@ -50,14 +49,16 @@ fn rows(call: &Call, before: &Record) -> [usize; 2] {
     [0, 1].map(|i| before.row(call.wholes[i] as u32))
 }
 
-fn model(call: &Call) -> Option<Model<Pair>> {
+fn model(call: &Call) -> Option<impl Fn(&mut Solver) -> Result<Pair, Stop>> {
     let (before, r) = reducer::reducer(call)?;
     let at = |row: usize| reach::active(&r).iter().position(|&active| active == row);
     let [i, j] = rows(call, &before).map(at);
     let (i, j) = (i?, j?);
     let y = r.reduced_matrix();
-    let across = |z: Rows| csub(cadd(z[i][i], z[j][j]), cmul((2.0, 0.0), z[i][j]));
-    Some(Model::of(&y, &identity(y.len()), across))
+    Some(move |solver: &mut Solver| {
+        let z = solver.solutions(&y, &identity(y.len()))?;
+        Ok(csub(cadd(z[i][i], z[j][j]), cmul((2.0, 0.0), z[i][j])))
+    })
 }
 
 pub fn random(s: &mut Source, made: usize) -> Call {

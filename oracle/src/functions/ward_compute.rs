@@ -1,7 +1,8 @@
-// ward_compute(n, y, numbers, internal, external, boundary, base_mva, p_ext, q_ext, y_ward, p_ward, q_ward, work,
-//     n_buses_reduced, n_buses_equivalent, reduction_ratio)
+// ward_compute(n, y, numbers, internal, external, boundary, base_mva, p_ext, q_ext, allowance,
+//     y_ward, p_ward, q_ward, work, n_buses_reduced, n_buses_equivalent, reduction_ratio, rows_reduced)
 use super::ward::{self, Places, Study};
 use super::ward_model;
+use crate::allowances::NONE;
 use crate::ask::{ask, Asked};
 use crate::call::{dirty, Call, Function};
 use crate::differences::Difference;
@@ -22,10 +23,10 @@ pub const AT: Places = Places {
 pub fn of(s: &Study) -> Call {
     let (r, b) = (s.retained(), s.boundary.len());
     let mut slices = s.given();
-    slices.extend([2 * r * r, b, b, s.work(), 1, 1, 1].map(dirty));
+    slices.extend([2 * r * r, b, b, s.work(), 1, 1, 1, 1].map(dirty));
     Call {
         function: Function::WardCompute,
-        wholes: vec![s.n as u64],
+        wholes: vec![s.n as u64, NONE],
         reals: vec![s.base],
         slices,
     }
@@ -48,47 +49,31 @@ fn written(e: Expected, w: &WardEquivalentResult) -> Expected {
 pub fn expected(call: &Call) -> Expected {
     let refusals = faults(&ward::refusals(call, &AT));
     let turned = ward::turned_q(call);
-    let with = |include_load_transfer| {
-        let asked = asked(call, include_load_transfer, &turned).map(|w| ward::turned_back(call, w));
-        expected::by_pivots(
-            call,
-            &refusals,
-            asked,
-            || ward_model::study(call),
-            AT.work,
-            |e, w| written(e, &w),
-        )
-    };
-    let e = with(true);
+    let with = |include_load_transfer| asked(call, include_load_transfer, &turned).map(|w| ward::turned_back(call, w));
+    let e = expected::by_rows(
+        call,
+        &refusals,
+        with(true),
+        || ward::rows_reduced(call),
+        || ward_model::study(call),
+        AT.work,
+        |e, w| written(e, &w),
+    );
     if e.number != 0 || call.size() > 8 {
         return e;
     }
-    // the Rust's unread field, the other way
-    let again = with(false);
-    if again.is_wrong() {
-        return again;
-    }
-    if !again.same(&e) {
+    // the Rust's unread field, the other way, and Q as given
+    let of_rust = |asked| expected::expected(call, &refusals, asked, Some(AT.work), |e, w| written(e, &w));
+    let [rust, again] = [true, false].map(|include_load_transfer| of_rust(with(include_load_transfer)));
+    let own = of_rust(asked(call, true, &ward::own_q(call)));
+    if !again.same(&rust) {
         return e.failing("include_load_transfer changes the Rust's answer");
     }
     match e.judge {
         Some(Judge::Model { .. }) => e,
-        _ => beside_own_q(call, &refusals, e),
-    }
-}
-
-// notes where the Rust, asked with Q as given, answers otherwise
-fn beside_own_q(call: &Call, refusals: &[u32], e: Expected) -> Expected {
-    let own = asked(call, true, &ward::own_q(call));
-    let own = expected::expected(call, refusals, own, Some(AT.work), |e, w| written(e, &w));
-    if own.is_wrong() {
-        return own;
-    }
-    let e = e.noting(Difference::LoadTransfer);
-    if own.same(&e) {
-        e
-    } else {
-        e.noting(Difference::Currents)
+        _ if own.is_wrong() => own,
+        _ if own.same(&rust) => e.noting(Difference::LoadTransfer),
+        _ => e.noting(Difference::LoadTransfer).noting(Difference::Currents),
     }
 }
 

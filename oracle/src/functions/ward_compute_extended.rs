@@ -1,8 +1,9 @@
-// ward_compute_extended(n, y, numbers, internal, external, boundary, base_mva, p_ext, q_ext, v_ext,
+// ward_compute_extended(n, y, numbers, internal, external, boundary, base_mva, p_ext, q_ext, v_ext, allowance,
 //     y_ward, p_ward, q_ward, voltage_correction, q_compensation, work,
-//     n_buses_reduced, n_buses_equivalent, reduction_ratio)
+//     n_buses_reduced, n_buses_equivalent, reduction_ratio, rows_reduced)
 use super::ward::{self, Places, Study};
 use super::{ward_model, LIMIT};
+use crate::allowances::NONE;
 use crate::ask::{ask, Asked};
 use crate::call::{dirty, Call, Function};
 use crate::expected::{self, faults, Expected};
@@ -25,10 +26,10 @@ pub fn of(s: &Study) -> Call {
     let (r, b) = (s.retained(), s.boundary.len());
     let mut slices = s.given();
     slices.push(bytes_of_reals(&s.v));
-    slices.extend([2 * r * r, b, b, b, b, s.work(), 1, 1, 1].map(dirty));
+    slices.extend([2 * r * r, b, b, b, b, s.work(), 1, 1, 1, 1].map(dirty));
     Call {
         function: Function::WardComputeExtended,
-        wholes: vec![s.n as u64],
+        wholes: vec![s.n as u64, NONE],
         reals: vec![s.base],
         slices,
     }
@@ -50,8 +51,9 @@ pub fn expected(call: &Call) -> Expected {
         ward_result: ward::turned_back(call, x.ward_result),
         ..x
     });
+    let rows = || ward::rows_reduced(call);
     let model = || ward_model::extended(call, &list(V_EXT));
-    expected::by_pivots(call, &faults(&all), asked, model, AT.work, |e, x| {
+    expected::by_rows(call, &faults(&all), asked, rows, model, AT.work, |e, x| {
         e.words(AT.y_ward, words_of_rows(&x.ward_result.y_ward))
             .words(AT.p_ward, words_of_reals(&x.ward_result.p_ward_injections))
             .words(AT.q_ward, words_of_reals(&x.ward_result.q_ward_injections))

@@ -1,9 +1,20 @@
 -- `solver::solve_linear` meets its contract.
-use Rattle.prelude.proofs.Prelude.{refl, sym, _∙_, needs, ne-eqb}
-use Rattle.refusals.specs.Refusals.{outcome}
-use Rattle.refusals.proofs.Answering.{outcome-refused}
-use Rattle.solver.specs.Calls.{afterElimination, afterSolve}
+use Rattle.prelude.proofs.Prelude.{_≡_, refl, sym, ap, _∙_, ℕ, needs, arith, length, ne-eqb}
+use Rattle.complex.specs.{entryAt}
+use Rattle.refusals.specs.declared.Counted.{Counted}
+use Rattle.refusals.specs.declared.Counted.the-variants.{Reduced}
+use Rattle.refusals.specs.Refusals.{counted}
+use Rattle.refusals.specs.Work.{allowedRows}
+use Rattle.refusals.proofs.Answering.{counted-refused}
+use Rattle.solver.specs.declared.elimination.Eliminated.{Eliminated}
+use Rattle.solver.specs.declared.elimination.Eliminated.the-variants.{Done}
+use Rattle.solver.specs.GaussJordan.{pairs}
+use Rattle.solver.specs.Solving.{operations, isSingular}
+use Rattle.solver.specs.Inner.Work.{ended}
+use Rattle.solver.specs.Calls.{AfterElimination, solveRefusal, afterElimination, afterSolve}
 use Rattle.solver.proofs.Accepted.{solve-accepted}
+use Rattle.solver.proofs.Ending.{numberOf, EndedDone, ended-done}
+use Rattle.solver.proofs.Allowances.{solve-after}
 use Rattle.solver.proofs.solve_linear.Statement.{statement}
 use Rattle.solver.proofs.solve_linear.Tie as tie
 
@@ -11,25 +22,58 @@ returns : tie.Need-returns
 unfolding afterSolve afterElimination
 returns c =
     let n = c .if1 .taken in
-    rw (← (c .before .solve-refusal .ensures), ne-eqb _ 0 n, ne-eqb _ 0 n) (outcome-refused _ _ refl n, refl, refl)
+    rw (← (c .before .solve-refusal .ensures), ne-eqb _ 0 n, ne-eqb _ 0 n) (counted-refused _ _ _ refl n, refl, refl)
 
 solved-requires : tie.Need-solved-requires
 solved-requires c κs =
-    let k = solve-accepted _ _ _ _ _ (sym (c .before .before .before .solve-refusal .ensures) ∙ c .before .before .if1 .left) in
+    let t = c .before .before .before in
+    let k = solve-accepted _ _ _ _ _ (sym (t .before .solve-refusal .ensures) ∙ t .if1 .left) in
     (k .size, k .room, k .matrix, k .right, k .solution)
 
+-- the system is solved, or not
+module _ (c : tie.After-solved) where
+  abbrev test : tie.Else1
+  test = c .before .before .before .before
+
+  abbrev start : tie.Start
+  start = test .before .before .before .before .before .before
+
+  accepted : solveRefusal (start .args .n) (length (start .args .a .now)) (length (start .args .b .now)) (length (start .args .x .now)) (length (start .args .work .now)) ≡ 0
+  accepted = sym (test .before .solve-refusal .ensures) ∙ test .if1 .left
+
+  count : c .solved .result ≡ ended (allowedRows (start .args .allowance)) (pairs operations (start .args .n) (entryAt (start .args .n) (start .args .a .now))) (isSingular (start .args .n) (entryAt (start .args .n) (start .args .a .now)))
+  count = c .solved .ensures .0 ∙ ap (λ (m : ℕ). ended m (pairs operations (start .args .n) (entryAt (start .args .n) (start .args .a .now))) (isSingular (start .args .n) (entryAt (start .args .n) (start .args .a .now)))) (c .before .before .before .allowed-rows .ensures)
+
+  -- what the call answers and leaves, by how the elimination ended
+  after : (end : Eliminated) → c .solved .result ≡ end → (answer : Counted) → answer ≡ counted (pairs operations (start .args .n) (entryAt (start .args .n) (start .args .a .now))) (numberOf end)
+      → let r = afterSolve (start .args .n) (start .args .a .now) (start .args .b .now) (start .args .allowance) (start .args .x .now) (start .args .work .now) in
+      (answer ≡ r .answer) × (c .solved .last .1 .1 .1 .1 .0 ≡ r .output) × (c .solved .last .1 .1 .1 .1 .1 .0 ≡ r .work)
+  after end e answer a =
+      let r = solve-after (start .args .n) (start .args .a .now) (start .args .b .now) (start .args .allowance) (start .args .x .now) (start .args .work .now) accepted (solve-accepted _ _ _ _ _ accepted .size) (c .solved .result) count in
+      (a ∙ ap (λ (x : Eliminated). counted (pairs operations (start .args .n) (entryAt (start .args .n) (start .args .a .now))) (numberOf x)) (sym e) ∙ sym (ap (λ (x : AfterElimination Counted). x .answer) r), c .solved .ensures .1 ∙ sym (ap (λ (x : AfterElimination Counted). x .output) r), c .solved .ensures .2 ∙ sym (ap (λ (x : AfterElimination Counted). x .work) r))
+
+  -- what is left of the allowance
+  spent : (left : ℕ) → c .solved .result ≡ Done left → EndedDone left (allowedRows (start .args .allowance)) (pairs operations (start .args .n) (entryAt (start .args .n) (start .args .a .now))) (isSingular (start .args .n) (entryAt (start .args .n) (start .args .a .now)))
+  spent left e = ended-done left _ _ _ (sym e ∙ count)
+
 returns-2 : tie.Need-returns-2
-unfolding afterSolve afterElimination outcome
+unfolding counted numberOf
 returns-2 c =
-    let x = c .before .before .before .before .before in let t = x .before .before .before in let e = x .solved .ensures in
-    rw (← (t .before .solve-refusal .ensures), t .if1 .left, ← (e .0), e .1, e .2, c .if2 .taken) (refl, refl, refl)
+    let x = c .before .before .before .before .before .before .before in let e = c .before .left .given .1 in let t = spent x _ e in let allowed = x .before .before .before .allowed-rows .ensures in
+    after x _ e _ (ap Reduced (omega (arith, t .within, t .spent)))
 
 returns-3 : tie.Need-returns-3
-unfolding afterSolve afterElimination outcome
-returns-3 c =
-    let x = c .before .before .before .before .before in let t = x .before .before .before in let e = x .solved .ensures in
-    rw (← (t .before .solve-refusal .ensures), t .if1 .left, ← (e .0), e .1, e .2, c .if2 .left) (refl, refl, refl)
+unfolding counted numberOf
+returns-3 c = after (c .before .before .before .before .before .before) _ (c .enum-told .given .1) _ refl
+
+returns-4 : tie.Need-returns-4
+unfolding counted numberOf
+returns-4 c = after (c .before .before .before .before .before .before) _ (c .enum-told2 .given .1) _ refl
+
+sub-left : tie.Need-sub-t21
+sub-left c = let x = c .before .before .before .before .before .before .before in let t = spent x _ (c .before .left .given .1) in let allowed = x .before .before .before .allowed-rows .ensures in omega (arith, t .within, t .spent)
 
 pub solve-linear-spec : {M : Type 1} → statement M
-solve-linear-spec = tie.close (tie.spec (λ c κs. search needs) returns solved-requires (λ c. search needs) (λ c. search needs)
-    returns-2 (λ c. search needs) (λ c. search needs) returns-3)
+solve-linear-spec = tie.close (tie.spec (λ c κs. search needs) returns (λ c κs. search needs) solved-requires (λ c. search needs) sub-left
+    (λ c. search needs) (λ c. search needs) (λ c. search needs) (λ c. search needs) returns-2 (λ c. search needs) (λ c. search needs) returns-3
+    (λ c. search needs) (λ c. search needs) returns-4)

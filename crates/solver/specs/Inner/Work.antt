@@ -1,7 +1,7 @@
 -- The work slice of an elimination: n rows of w entries, what one column does to it, and blocks of columns put in or taken out.
 use Prim.Native.Nat.{ℕ, _+_, _*_, _-_, _<_, _≤_}
 use mathlib.Core.Path.{_≡_}
-use mathlib.Core.Bool.{Bool, _&&_, cond}
+use mathlib.Core.Bool.{Bool, true, false, _&&_, cond}
 use mathlib.Core.List.{List}
 use lib.Dec.{eqb, leb, ltb}
 use lib.ListN.{length}
@@ -9,8 +9,10 @@ use lib.Ieee.{Float, neg}
 use Rattle.complex.specs.declared.Complex.{Complex}
 use Rattle.complex.specs.Arithmetic.{unit}
 use Rattle.complex.specs.Entries.{entry}
-use Rattle.complex.specs.Matrices.{Matrix, entryAt}
-use Rattle.solver.specs.GaussJordan.{pivoted, cleared}
+use Rattle.complex.specs.Matrices.{Matrix, entryAt, grid}
+use Rattle.solver.specs.declared.elimination.Eliminated.{Eliminated}
+use Rattle.solver.specs.declared.elimination.Eliminated.the-variants.{Done, Small, Exceeded}
+use Rattle.solver.specs.GaussJordan.{pivoted, scaled, cleared, gaussJordan, pairsIn, pairs}
 use Rattle.solver.specs.Solving.{operations}
 
 -- a slice of this length holds n rows of w entries, the system's n columns among them
@@ -24,10 +26,6 @@ withRow r f A i j = cond (eqb i r) (f j) (A i j)
 
 -- ---- elimination
 
--- an entry x of a row with this factor, in the column of the pivot row's entry p
-unfoldable pub reducedEntry : Complex → Complex → Complex → Complex
-reducedEntry factor p x = cond (operations .skips factor) x (operations .minus x (operations .times factor p))
-
 -- p times the imaginary unit: its parts change places, and one its sign. Each part of f times p is then f's real part times that part of p
 -- plus f's imaginary part times that part of p turned, to the bit: in IEEE 754 a difference is the sum with the negated number, and a
 -- product's sign turns with its factor's, of zeros too.
@@ -39,17 +37,33 @@ pub record BesideTurned (w : ℕ) (row : List Float) : Type 0 where
   pub long : length row ≡ 4 * w
   pub halves : (q : ℕ) → q < w → entry row (w + q) ≡ turned (entry row q)
 
--- every row but row c reduced by the pivot row
-unfoldable pub reducedRow : ℕ → (ℕ → Complex) → Matrix → Matrix
-unfolding reducedEntry
-reducedRow c pivot A i j = cond (eqb i c) (A i j) (reducedEntry (A i c) (pivot j) (A i j))
+-- each row less its factor in column c times the pivot row
+unfoldable pub lessFactor : ℕ → (ℕ → Complex) → Matrix → Matrix
+lessFactor c pivot A i j = operations .minus (A i j) (operations .times (A i c) (pivot j))
 
--- column c done: the answer whether its pivot was too small, and the entries of the slice
-pub record ColumnDone (n w c : ℕ) (small : Bool) (before after : List Float) : Type 0 where
-  pub answer : small ≡ operations .small (pivoted operations n c (entryAt w before) c c)
-  pub entries : (i j : ℕ) → i < n → j < w
-      → entryAt w after i j
-      ≡ cond small (pivoted operations n c (entryAt w before)) (cleared operations c (pivoted operations n c (entryAt w before))) i j
+-- How an elimination of `count` row reductions ends with so many allowed: exceeded, at a pivot that is too small, or done, with what is
+-- left of the allowance.
+unfoldable pub ended : ℕ → ℕ → Bool → Eliminated
+ended allowed count small = cond (ltb allowed count) Exceeded (cond small Small (Done (allowed - count)))
+
+unfoldable pub isDone : Eliminated → Bool
+isDone (Done left) = true
+isDone Small = false
+isDone Exceeded = false
+
+-- column c's turn: the answer, and the entries of the slice unless the allowance is exceeded
+pub record ColumnDone (n w c allowed : ℕ) (answered : Eliminated) (before after : List Float) : Type 0 where
+  pub answer : let B = pivoted operations n c (entryAt w before) in
+      answered
+      ≡ ended allowed (cond (operations .small (B c c)) 0 (pairsIn operations (scaled operations c B) c n)) (operations .small (B c c))
+  pub entries : let B = pivoted operations n c (entryAt w before) in
+      cond (operations .small (B c c)) 0 (pairsIn operations (scaled operations c B) c n) ≤ allowed
+      → (i j : ℕ) → i < n → j < w → entryAt w after i j ≡ cond (operations .small (B c c)) B (cleared operations c B) i j
+
+-- all columns' turn
+pub record Ran (n w allowed : ℕ) (answered : Eliminated) (before after : List Float) : Type 0 where
+  pub answer : answered ≡ ended allowed (pairs operations n (entryAt w before)) (gaussJordan operations n (entryAt w before) .singular)
+  pub entries : pairs operations n (entryAt w before) ≤ allowed → after ≡ grid n w (gaussJordan operations n (entryAt w before) .left)
 
 -- ---- blocks of m columns from column `at` on
 

@@ -1,12 +1,15 @@
 -- `ward_equivalent::compute` meets its contract.
-use Rattle.prelude.proofs.Prelude.{_≡_, sym, ap, _∙_, _+_, _-_, _*_, _≤_, _++_, arith, needs, length, take, drop}
+use Rattle.prelude.proofs.Prelude.{_≡_, sym, ap, _∙_, _+_, _-_, _*_, _≤_, _++_, ℕ, arith, needs, length, take, drop}
 use Rattle.refusals.specs.Refusals.{limit}
 use Rattle.lists.specs.Buses.{rowsIn}
 use Rattle.ward_equivalent.specs.declared.lengths.Lengths.{Lengths}
 use Rattle.ward_equivalent.specs.Lengths.{lengthRefusal}
-use Rattle.ward_equivalent.specs.Ward.{Study, Outputs, retained, listed, studied}
+use Rattle.ward_equivalent.specs.Ward.{Study, Outputs, retained, listed}
+use Rattle.ward_equivalent.specs.Studied.{studied}
 use Rattle.ward_equivalent.specs.Calls.{studyOf, outputsOf}
-use Rattle.ward_equivalent.specs.Numbers.{NumberedStudy, numberedOf, lengthsOf, busRefusal}
+use Rattle.ward_equivalent.specs.Numbers.{NumberedStudy, numberedOf, lengthsOf, inRows, busRefusal}
+use Rattle.refusals.specs.declared.Allowance.the-variants.{Rows}
+use Rattle.ward_equivalent.proofs.Allowances.{allowed-study}
 use Rattle.ward_equivalent.proofs.Told.{Fitting, lengths-pass}
 use Rattle.ward_equivalent.proofs.Naming.{front-joined}
 use Rattle.ward_equivalent.proofs.Named.{rows-listed, cut-rows, told-first, told-then, answered, answered-refused}
@@ -27,8 +30,8 @@ module _ (s : tie.Start) where
 returns : tie.Need-returns
 returns c =
     let s = c .before .before .before .before .before .before .before .before .before .before .before .before .before in
-    let (e, k) = told-first (lengths s) (s .args .numbers .now) (listed (given s .study)) (c .before .length-refusal .result) (c .before .length-refusal .ensures) (c .if1 .taken) in
-    (answered-refused (given s) (outputs s) (c .before .length-refusal .result) e (c .if1 .taken) k, c .before .before .before .before .before .before .before .before .before .before .before .before .shared-slice-known .given)
+    let e = told-first (lengths s) (s .args .numbers .now) (listed (given s .study)) (c .before .length-refusal .result) (c .before .length-refusal .ensures) (c .if1 .taken) in
+    (answered-refused (given s) (s .args .allowance) (outputs s) (c .before .length-refusal .result) e (c .if1 .taken), c .before .before .before .before .before .before .before .before .before .before .before .before .shared-slice-known .given)
 
 -- where the lengths are right
 module _ (c : tie.Else1) where
@@ -46,14 +49,14 @@ module _ (c : tie.After-placed) where
   abbrev test : tie.Else1
   test = c .before .before
 
-  told : (c .placed .result ≡ lengthRefusal (lengths (start test)) (busRefusal (start test .args .numbers .now) (listed (given (start test) .study)))) × (c .placed .result ≤ 8)
+  told : c .placed .result ≡ lengthRefusal (lengths (start test)) (busRefusal (start test .args .numbers .now) (listed (given (start test) .study)))
   unfolding listed retained
   told = told-then (lengths (start test)) (start test .args .numbers .now) (listed (given (start test) .study)) (test .before .length-refusal .result) (test .before .length-refusal .ensures) (test .if1 .left) (c .placed .result) (c .placed .ensures .1)
 
 returns-2 : tie.Need-returns-2
 returns-2 c =
     let p = c .before .before in let s = start (test p) in
-    (answered-refused (given s) (outputs s) (p .placed .result) (told p .0) (c .if2 .taken) (told p .1), c .before .before .before .before .before .before .before .before .before .before .before .before .before .before .before .before .shared-slice-known .given)
+    (answered-refused (given s) (s .args .allowance) (outputs s) (p .placed .result) (told p) (c .if2 .taken), c .before .before .before .before .before .before .before .before .before .before .before .before .before .before .before .before .shared-slice-known .given)
 
 -- and no bus is refused
 module _ (c : tie.Else2) where
@@ -69,16 +72,22 @@ module _ (c : tie.Else2) where
 
 study-requires : tie.Need-study-requires
 study-requires c κs =
-    let e = c .before .before .before .before .before .before in let s = begun e in
+    let e = c .before .before .before .before .before .before .before in let s = begun e in
     rows-listed (given s) (outputs s) _ (fits (test (placed e))) (sym (placed e .placed .ensures .1) ∙ e .if2 .left) (rows e)
 
 returns-3 : tie.Need-returns-3
 returns-3 c =
-    let e = c .before .before .before .before .before .before .before .before .before .before .before .before .before .before .before in let s = begun e in
-    (c .before .before .before .before .before .before .before .before .study .ensures ∙ ap (λ (S : Study). studied S (outputs s) 0) (cut-rows (given s) _ (rows e)) ∙ answered (given s) (outputs s) 0 (sym (e .if2 .left) ∙ told (placed e) .0), c .before .before .before .before .before .before .before .before .before .before .before .before .before .before .before .before .before .before .before .before .before .before .before .before .before .before .before .before .before .before .before .shared-slice-known .given)
+    let e = c .before .before .before .before .before .before .before .before .before .before .before .before .before .before .before .before in let s = begun e in (
+      c .before .before .before .before .before .before .before .before .study .ensures
+          ∙ ap (λ (S : Study). studied S (Rows (c .before .before .before .before .before .before .before .before .before .before .before .before .before .allowed-rows .result)) (outputs s) 0) (cut-rows (given s) _ (rows e))
+          ∙ ap (λ (m : ℕ). studied (inRows (given s)) (Rows m) (outputs s) 0) (c .before .before .before .before .before .before .before .before .before .before .before .before .before .allowed-rows .ensures)
+          ∙ allowed-study (given s) (outputs s) (fits (test (placed e))) (s .args .allowance)
+          ∙ answered (given s) (s .args .allowance) (outputs s) 0 (sym (e .if2 .left) ∙ told (placed e)),
+      c .before .before .before .before .before .before .before .before .before .before .before .before .before .before .before .before .before .before .before .before .before .before .before .before .before .before .before .before .before .before .before .before .shared-slice-known .given,
+    )
 
 pub compute-spec : {M : Type 1} → statement M
 compute-spec = tie.close (tie.spec (λ c κs. search needs) returns (λ c. search needs) (λ c κs. omega (arith, few (c .before))) returns-2
     (λ c. search needs) (λ c. search needs) (λ c. search needs) (λ c. search needs)
-    (λ c. omega (arith, few (test (placed (c .before))), placed (c .before) .placed .kept .1 .1 .1 .1 .0)) study-requires
+    (λ c. omega (arith, few (test (placed (c .before))), placed (c .before) .placed .kept .1 .1 .1 .1 .0)) (λ c κs. search needs) study-requires
     (λ c. search needs) (λ c. search needs) (λ c. search needs) (λ c. search needs) returns-3)

@@ -1,14 +1,17 @@
 -- `ward_equivalent::compute_extended` meets its contract.
-use Rattle.prelude.proofs.Prelude.{_≡_, sym, ap, _∙_, _+_, _-_, _*_, _≤_, _++_, arith, needs, length, take, drop}
+use Rattle.prelude.proofs.Prelude.{_≡_, sym, ap, _∙_, _+_, _-_, _*_, _≤_, _++_, ℕ, arith, needs, length, take, drop}
 use Rattle.refusals.specs.Refusals.{limit}
 use Rattle.lists.specs.Buses.{rowsIn}
 use Rattle.ward_equivalent.specs.declared.lengths.Lengths.{Lengths}
 use Rattle.ward_equivalent.specs.Lengths.{lengthRefusal}
 use Rattle.ward_equivalent.specs.Ward.{Study, retained, listed}
-use Rattle.ward_equivalent.specs.Extended.{ExtendedOutputs, studiedExtended}
+use Rattle.ward_equivalent.specs.Extended.{ExtendedOutputs}
+use Rattle.ward_equivalent.specs.Studied.{studiedExtended}
 use Rattle.ward_equivalent.specs.Calls.{studyOf, outputsOf, extendedOutputsOf}
-use Rattle.ward_equivalent.specs.Inner.Steps.{extendedOf}
+use Rattle.ward_equivalent.specs.Inner.Listed.{extendedOf}
 use Rattle.ward_equivalent.specs.Numbers.{NumberedExtended, numberedOf, numberedExtendedOf, extendedLengthsOf, extendedInRows, busRefusal}
+use Rattle.refusals.specs.declared.Allowance.the-variants.{Rows}
+use Rattle.ward_equivalent.proofs.Allowances.{allowed-extended}
 use Rattle.ward_equivalent.proofs.Told.{Fitting, lengths-pass}
 use Rattle.ward_equivalent.proofs.Naming.{front-joined}
 use Rattle.ward_equivalent.proofs.Named.{without, rows-listed, rows-boundary, cut-rows, told-first, told-then, answeredX, answered-refusedX}
@@ -29,8 +32,8 @@ module _ (s : tie.Start) where
 returns : tie.Need-returns
 returns c =
     let s = c .before .before .before .before .before .before .before .before .before .before .before .before .before .before .before .before in
-    let (e, k) = told-first (lengths s) (s .args .numbers .now) (listed (given s .study .study)) (c .before .length-refusal .result) (c .before .length-refusal .ensures) (c .if1 .taken) in
-    (answered-refusedX (given s) (outputs s) (c .before .length-refusal .result) e (c .if1 .taken) k, c .before .before .before .before .before .before .before .before .before .before .before .before .before .before .before .shared-slice-known .given)
+    let e = told-first (lengths s) (s .args .numbers .now) (listed (given s .study .study)) (c .before .length-refusal .result) (c .before .length-refusal .ensures) (c .if1 .taken) in
+    (answered-refusedX (given s) (s .args .allowance) (outputs s) (c .before .length-refusal .result) e (c .if1 .taken), c .before .before .before .before .before .before .before .before .before .before .before .before .before .before .before .shared-slice-known .given)
 
 -- where the lengths are right
 module _ (c : tie.Else1) where
@@ -48,14 +51,14 @@ module _ (c : tie.After-placed) where
   abbrev test : tie.Else1
   test = c .before .before
 
-  told : (c .placed .result ≡ lengthRefusal (lengths (start test)) (busRefusal (start test .args .numbers .now) (listed (given (start test) .study .study)))) × (c .placed .result ≤ 8)
+  told : c .placed .result ≡ lengthRefusal (lengths (start test)) (busRefusal (start test .args .numbers .now) (listed (given (start test) .study .study)))
   unfolding listed retained
   told = told-then (lengths (start test)) (start test .args .numbers .now) (listed (given (start test) .study .study)) (test .before .length-refusal .result) (test .before .length-refusal .ensures) (test .if1 .left) (c .placed .result) (c .placed .ensures .1)
 
 returns-2 : tie.Need-returns-2
 returns-2 c =
     let p = c .before .before in let s = start (test p) in
-    (answered-refusedX (given s) (outputs s) (p .placed .result) (told p .0) (c .if2 .taken) (told p .1), c .before .before .before .before .before .before .before .before .before .before .before .before .before .before .before .before .before .before .before .shared-slice-known .given)
+    (answered-refusedX (given s) (s .args .allowance) (outputs s) (p .placed .result) (told p) (c .if2 .taken), c .before .before .before .before .before .before .before .before .before .before .before .before .before .before .before .before .before .before .before .shared-slice-known .given)
 
 -- and no bus is refused
 module _ (c : tie.Else2) where
@@ -71,18 +74,24 @@ module _ (c : tie.Else2) where
 
 corrected-requires : tie.Need-corrected-requires
 corrected-requires c κs =
-    let e = c .before .before .before .before .before .before .before .before in let s = begun e in
+    let e = c .before .before .before .before .before .before .before .before .before in let s = begun e in
     let F = fits (test (placed e)) in let t = rows-boundary (given s .study) _ (rows e) in
     (rows-listed (given s .study) (outputs s .outputs) _ (without (given s) (outputs s) F) (sym (placed e .placed .ensures .1) ∙ e .if2 .left) (rows e), F .v-ext, F .correction ∙ t, F .compensation ∙ t)
 
 returns-3 : tie.Need-returns-3
 unfolding extendedInRows
 returns-3 c =
-    let e = c .before .before .before .before .before .before .before .before .before .before .before .before .before .before .before .before .before .before .before .before .before in let s = begun e in
-    (c .before .before .before .before .before .before .before .before .before .before .before .before .corrected .ensures ∙ ap (λ (S : Study). studiedExtended (extendedOf S (s .args .v-ext .now)) (outputs s) 0) (cut-rows (given s .study) _ (rows e)) ∙ answeredX (given s) (outputs s) 0 (sym (e .if2 .left) ∙ told (placed e) .0), c .before .before .before .before .before .before .before .before .before .before .before .before .before .before .before .before .before .before .before .before .before .before .before .before .before .before .before .before .before .before .before .before .before .before .before .before .before .before .before .before .shared-slice-known .given)
+    let e = c .before .before .before .before .before .before .before .before .before .before .before .before .before .before .before .before .before .before .before .before .before .before in let s = begun e in (
+      c .before .before .before .before .before .before .before .before .before .before .before .before .corrected .ensures
+          ∙ ap (λ (S : Study). studiedExtended (extendedOf S (s .args .v-ext .now)) (Rows (c .before .before .before .before .before .before .before .before .before .before .before .before .before .before .before .before .before .before .before .allowed-rows .result)) (outputs s) 0) (cut-rows (given s .study) _ (rows e))
+          ∙ ap (λ (m : ℕ). studiedExtended (extendedInRows (given s)) (Rows m) (outputs s) 0) (c .before .before .before .before .before .before .before .before .before .before .before .before .before .before .before .before .before .before .before .allowed-rows .ensures)
+          ∙ allowed-extended (given s) (outputs s) (without (given s) (outputs s) (fits (test (placed e)))) (s .args .allowance)
+          ∙ answeredX (given s) (s .args .allowance) (outputs s) 0 (sym (e .if2 .left) ∙ told (placed e)),
+      c .before .before .before .before .before .before .before .before .before .before .before .before .before .before .before .before .before .before .before .before .before .before .before .before .before .before .before .before .before .before .before .before .before .before .before .before .before .before .before .before .before .shared-slice-known .given,
+    )
 
 pub compute-extended-spec : {M : Type 1} → statement M
 compute-extended-spec = tie.close (tie.spec (λ c κs. search needs) returns (λ c. search needs) (λ c κs. omega (arith, few (c .before)))
     returns-2 (λ c. search needs) (λ c. search needs) (λ c. search needs) (λ c. search needs)
-    (λ c. omega (arith, few (test (placed (c .before))), placed (c .before) .placed .kept .1 .1 .1 .1 .0)) corrected-requires
+    (λ c. omega (arith, few (test (placed (c .before))), placed (c .before) .placed .kept .1 .1 .1 .1 .0)) (λ c κs. search needs) corrected-requires
     (λ c. search needs) (λ c. search needs) (λ c. search needs) (λ c. search needs) (λ c. search needs) (λ c. search needs) returns-3)

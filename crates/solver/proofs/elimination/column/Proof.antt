@@ -4,9 +4,8 @@ use Rattle.complex.specs.{divisionLimit, Matrix, entry, entryAt}
 use Rattle.complex.proofs.Entries.{entry-append-left}
 use Rattle.solver.specs.GaussJordan.{pivoted}
 use Rattle.solver.specs.Solving.{operations}
-use Rattle.solver.proofs.GaussJordan.{cleared-same}
 use Rattle.solver.proofs.RowParts.{front-long}
-use Rattle.solver.proofs.ColumnSteps.{placed, weighed}
+use Rattle.solver.proofs.ColumnSteps.{placed, weighed, column-small, column-cleared}
 use Rattle.solver.proofs.elimination.column.Statement.{statement}
 use Rattle.solver.proofs.elimination.column.Tie as tie
 
@@ -40,7 +39,7 @@ module _ (c : tie.After-sqmag) where
 
 returns : tie.Need-returns
 unfolding divisionLimit
-returns c = record { answer = answer (c .before) true (c .if1 .taken); entries = λ (i j : ℕ) h k. rows (c .before) i j k }
+returns c = column-small _ _ _ _ _ _ (answer (c .before) true (c .if1 .taken)) (λ (i j : ℕ) h k. rows (c .before) i j k)
 
 clear-column-requires : tie.Need-clear-column-requires
 clear-column-requires c κs =
@@ -53,14 +52,8 @@ clear-column-requires c κs =
 returns-2 : tie.Need-returns-2
 unfolding divisionLimit
 returns-2 c =
-    let t = c .before .before .before .before .before .before .before .before in let a = s t .args in
-    record {
-      answer = answer t false (c .before .before .before .before .before .before .before .if1 .left);
-      entries = λ (i j : ℕ) (h : i < a .n) (k : j < a .w).
-          c .before .before .before .before .clear-column .ensures i j h k
-          ∙ cleared-same operations (a .n) (a .w) (s t .pre .0 .wide) (B t) (pivoted operations (a .n) (a .c) (A t))
-          (λ (r q : ℕ) (y : r < a .n) (z : q < a .w). rows t r q z) (a .c) (s t .pre .1) i j h k;
-    }
+    let t = c .before .before .before .before .before .before .before .before in let x = c .before .before .before .before .clear-column in
+    column-cleared _ _ _ _ _ _ (s t .pre .0 .wide) (s t .pre .1) (answer t false (c .before .before .before .before .before .before .before .if1 .left)) (B t) (rows t) _ (x .ensures .0) (x .ensures .1)
 
 pub column-spec : {M : Type 1} → statement M
 column-spec = tie.close (tie.spec (λ c κs. search needs) (λ c. search needs) (λ c. search needs) (λ c. search needs) (λ c. search needs)

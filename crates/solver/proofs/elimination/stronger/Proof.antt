@@ -1,8 +1,8 @@
 -- `solver::elimination::stronger` meets its contract.
 use Rattle.prelude.proofs.Prelude.{_≡_, ap, _∙_, Bool, true, false, not, cond, ℕ, _+_, _*_, _<_, arith, needs, length, Float, lt}
 use Rattle.complex.specs.{sqmag, entryAt}
-use Rattle.complex.proofs.Matrices.{entry-within}
 use Rattle.solver.specs.GaussJordan.{stays}
+use Rattle.solver.proofs.RowParts.{entry-inside}
 use Rattle.solver.proofs.elimination.stronger.Statement.{statement}
 use Rattle.solver.proofs.elimination.stronger.Tie as tie
 
@@ -12,7 +12,7 @@ held h x H X a b t p q e = rw (← p, ← q, e)
 
 -- the entry in column c of row i is within the slice
 inside : (s : tie.Start) (i : ℕ) → i < s .args .n → 2 * (i * s .args .w + s .args .c) + 1 < length (s .args .work .now)
-inside s i h = let within = entry-within (s .args .n) (s .args .w) i (s .args .c) h (omega (arith, s .pre .1, s .pre .0 .wide)) in omega (arith, s .pre .0 .full)
+inside s i h = entry-inside (s .pre .0) h (s .pre .1)
 
 get-requires : tie.Need-get-requires
 get-requires c κs = inside (c .before) _ (c .before .pre .2)

@@ -1,5 +1,5 @@
 -- `ward_equivalent::answers::number_of` meets its contract.
-use Rattle.ward_equivalent.specs.Ward.{wardNumber}
+use Rattle.ward_equivalent.specs.Studied.{wardNumber}
 use Rattle.prelude.proofs.Prelude.{needs}
 use Rattle.ward_equivalent.proofs.answers.number_of.Statement.{statement}
 use Rattle.ward_equivalent.proofs.answers.number_of.Tie as tie

@@ -3,7 +3,7 @@ use Rattle.prelude.proofs.Prelude.{_≡_, sym, ap, _∙_, _-_, arith, needs, le
 use Rattle.lists.proofs.Scans.{rest-is}
 use Rattle.ward_equivalent.specs.Extended.{ExtendedStudy, ExtendedOutputs}
 use Rattle.ward_equivalent.specs.Calls.{outputsOf, extendedOutputsOf}
-use Rattle.ward_equivalent.specs.Inner.Steps.{cut, StudySlices, extendedOf}
+use Rattle.ward_equivalent.specs.Inner.Listed.{cut, StudySlices, extendedOf}
 use Rattle.ward_equivalent.proofs.Solved.{listing-take, listing-drop}
 use Rattle.ward_equivalent.proofs.Extended.{extended-done, extended-not, corrections-seen, compensations-seen}
 use Rattle.ward_equivalent.proofs.corrections.corrected.Statement.{statement}
@@ -23,7 +23,7 @@ study-requires c κs = c .before .before .before .before .before .before .before
 returns : tie.Need-returns
 returns c =
     let s = c .before .before .before .before .before .before .before .before .before .before .before .before .before .before .before .before .before .before .before .before .before .before .before .before .before .before in
-    extended-not (given s) (outputs s) (c .before .before .before .before .before .before .before .before .before .before .study .ensures) (c .enum-told .given .0 .0) (c .enum-told .given .1)
+    extended-not (given s) (s .args .allowed) (outputs s) (c .before .before .before .before .before .before .before .before .before .before .study .ensures) (c .enum-told .given .0 .0) (c .enum-told .given .1)
 
 -- the lengths, where the study is accepted
 slices : (c : tie.After-known-told) → let s = c .before .before .before .before .before .before .before .before .before .before .before .before .before .before .before .before .before .before .before .before .before .before .before .before .before .before .before in StudySlices (s .args .n) (s .args .y .now) (s .args .buses .now) (s .args .e) (s .args .f) (outputs s .outputs)
@@ -47,7 +47,7 @@ returns-2 c =
     let s = c .before .before .before .before .before .before .before .before .before .before .before .before .before .before .before .before .before .before .before .before .before .before .before .before .before .before .before .before .before .before .before .before .before .before .before .before in
     let a = s .args in let k = c .before .before .before .before .before .before .before .before .before .before .answer .given in
     let x = c .before .before .before .before .corrections .ensures in
-    extended-done (given s) (outputs s) (c .before .before .before .before .before .before .before .before .before .before .before .before .before .before .before .before .before .before .before .before .study .ensures) (k .0 .0) (k .1)
+    extended-done (given s) (s .args .allowed) (outputs s) (c .before .before .before .before .before .before .before .before .before .before .before .before .before .before .before .before .before .before .before .before .study .ensures) (k .0 .0) (k .1)
     (x .0 ∙ corrections-seen (a .n) (a .y .now) (a .buses .now) (a .e) (a .f) (a .base) (a .p .now) (a .q .now) (a .voltages .now))
     (x .1 ∙ compensations-seen (a .n) (a .y .now) (a .buses .now) (a .e) (a .f) (a .base) (a .p .now) (a .q .now) (a .voltages .now))
 

@@ -2,7 +2,7 @@
 use Rattle.prelude.proofs.Prelude.{_≡_, sym, _∙_, ℕ, _-_, _≤_, arith, needs, length, getD, nan, length-set}
 use Rattle.solver.proofs.Passed.{Stored, stored-none, stored-more}
 use Rattle.ward_equivalent.specs.Extended.{ExtendedStudy, voltageCorrection, qCompensation}
-use Rattle.ward_equivalent.specs.Inner.Steps.{correctionInput}
+use Rattle.ward_equivalent.specs.Inner.Listed.{correctionInput}
 use Rattle.ward_equivalent.proofs.Places.{listed-below, stored-map}
 use Rattle.ward_equivalent.proofs.Ties.{mean-is}
 use Rattle.ward_equivalent.proofs.corrections.corrections.Statement.{statement}

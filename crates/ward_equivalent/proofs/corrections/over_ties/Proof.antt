@@ -1,7 +1,7 @@
 -- `ward_equivalent::corrections::over_ties` meets its contract. The invariant: each sum has the terms of the external buses before k.
 use Rattle.prelude.proofs.Prelude.{_-_, _≤_, arith, needs, length, getD}
 use Rattle.complex.specs.{plus0, one}
-use Rattle.ward_equivalent.specs.Inner.Steps.{correctionInput}
+use Rattle.ward_equivalent.specs.Inner.Listed.{correctionInput}
 use Rattle.ward_equivalent.proofs.Places.{listed-below, entry-index}
 use Rattle.ward_equivalent.proofs.Ties.{TiesTo, ties-none, ties-more, ties-all}
 use Rattle.ward_equivalent.proofs.corrections.over_ties.Statement.{statement}

@@ -3,7 +3,7 @@ use Rattle.prelude.proofs.Prelude.{_≡_, sym, ap, _∙_, List, ℕ, _+_, _-_, 
 use Rattle.ward_equivalent.specs.declared.answers.WardAnswer.the-variants.{Done}
 use Rattle.ward_equivalent.specs.Arithmetic.{injectedP, injectedQ}
 use Rattle.ward_equivalent.specs.Inner.Work.{product}
-use Rattle.ward_equivalent.specs.Inner.Steps.{outputsFrom}
+use Rattle.ward_equivalent.specs.Inner.Listed.{outputsFrom}
 use Rattle.lists.proofs.Scans.{rest-is}
 use Rattle.ward_equivalent.proofs.Solved.{listing-take, listing-drop}
 use Rattle.ward_equivalent.proofs.Studied.{same-after, matrix-of}
@@ -56,7 +56,7 @@ returns c =
     let F = rest-is bs (a .f) in
     let fs = take (length bs - a .f) (drop (a .f) bs) in
     same-after
-    (ap (λ (x : Float). Done (record { «n_buses_reduced» = a .n; «n_buses_equivalent» = length bs - a .e; «reduction_ratio» = x })) (c .ratio .ensures))
+    (ap (λ (x : Float). Done (record { «n_buses_reduced» = a .n; «n_buses_equivalent» = length bs - a .e; «reduction_ratio» = x; «rows_reduced» = a .reduced })) (c .ratio .ensures))
     (matrix-of (a .n) (a .y .now) bs (a .e) w ws (take (a .e - 0) bs) (take (length bs - a .e) (drop (a .e) bs)) E (rest-is bs (a .e)) (x .last .1 .1 .1 .1 .1 .1 .0) (x .kept .1 .1 .1 .1 .1 .1 .0 ∙ P .y-ward) (x .ensures))
     (j .ensures .0
     ∙ ap (λ (es : List ℕ). map (λ (i : ℕ). injectedP (a .base) (product (a .n) (a .y .now) es w ws i (length bs))) fs) E

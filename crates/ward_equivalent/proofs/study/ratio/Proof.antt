@@ -3,7 +3,7 @@ use Rattle.prelude.proofs.Prelude.{refl, arith}
 use lib.Ieee.{inFloat}
 use lib.Dec.{le→leb}
 use Rattle.complex.specs.{one}
-use Rattle.ward_equivalent.specs.Ward.{reduction}
+use Rattle.ward_equivalent.specs.Ward.{ratio}
 use Rattle.ward_equivalent.proofs.study.ratio.Statement.{statement}
 use Rattle.ward_equivalent.proofs.study.ratio.Tie as tie
 
@@ -16,7 +16,7 @@ unfolding inFloat
 int-to-float-result-2 c = le→leb (c .before .before .args .n) 9007199254740992 (omega (arith, c .before .before .pre .1))
 
 returns : tie.Need-returns
-unfolding reduction one
+unfolding ratio one
 returns c = refl
 
 pub ratio-spec : {M : Type 1} → statement M

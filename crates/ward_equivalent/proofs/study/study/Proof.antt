@@ -1,8 +1,9 @@
 -- `ward_equivalent::study::study` meets its contract.
 use Rattle.prelude.proofs.Prelude.{sym, ap, _∙_, subst, ℕ, arith, needs}
-use Rattle.ward_equivalent.specs.Ward.{studied}
+use Rattle.refusals.specs.declared.Allowance.the-variants.{Rows}
+use Rattle.ward_equivalent.specs.Studied.{studied}
 use Rattle.ward_equivalent.specs.Calls.{outputsOf}
-use Rattle.ward_equivalent.specs.Inner.Steps.{cut, CheckedStudy}
+use Rattle.ward_equivalent.specs.Inner.Listed.{cut, CheckedStudy}
 use Rattle.ward_equivalent.proofs.study.study.Statement.{statement}
 use Rattle.ward_equivalent.proofs.study.study.Tie as tie
 
@@ -16,7 +17,7 @@ returns c =
     let a = c .before .before .before .before .before .before .before .before .before .before .before .before .before .before .before .before .before .before .before .before .before .before .args in
     let o = outputsOf (a .to .now) (a .active .now) (a .reactive .now) (a .work .now) in
     c .before .before .before .before .before .before .before .before .unreduced .ensures
-    ∙ ap (λ (z : ℕ). studied (cut (a .n) (a .y .now) (a .buses .now) z (a .f) (a .base) (a .p .now) (a .q .now)) o 0) (sym (c .before .before .before .before .before .before .before .before .before .before .before .before .before .if1 .taken))
+    ∙ ap (λ (z : ℕ). studied (cut (a .n) (a .y .now) (a .buses .now) z (a .f) (a .base) (a .p .now) (a .q .now)) (Rows (a .allowed)) o 0) (sym (c .before .before .before .before .before .before .before .before .before .before .before .before .before .if1 .taken))
 
 eliminated-requires : tie.Need-eliminated-requires
 eliminated-requires c κs =

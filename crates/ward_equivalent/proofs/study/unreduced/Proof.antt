@@ -17,7 +17,7 @@ returns c =
     let s = c .before .before .before .before .before .before .before .before .before .before .before .before .before .before .before .before .before .before .before .before in
     let a = s .args in
     let o = outputsOf (a .to .now) (a .active .now) (a .reactive .now) (a .work .now) in
-    studied-none (a .n) (a .y .now) (a .buses .now) (a .f) (a .base) (a .p .now) (a .q .now) o (c .before .before .before .before .before .before .before .before .before .before .submatrix .last .1 .1 .1 .0) (c .before .before .before .before .before .before .clear .last .0) (c .before .before .clear2 .last .0)
+    studied-none (a .n) (a .y .now) (a .buses .now) (a .f) (a .base) (a .p .now) (a .q .now) (a .allowed) o (c .before .before .before .before .before .before .before .before .before .before .submatrix .last .1 .1 .1 .0) (c .before .before .before .before .before .before .clear .last .0) (c .before .before .clear2 .last .0)
     (c .before .before .before .before .before .before .before .before .before .before .submatrix .ensures) (c .before .before .before .before .before .before .clear .ensures) (c .before .before .clear2 .ensures) (s .pre .slices .p-ward) (s .pre .slices .q-ward) (omega (arith, s .pre .slices .work))
 
 pub unreduced-spec : {M : Type 1} → statement M

@@ -1,5 +1,5 @@
--- The numbers that a Ward study computes, in the order of the work; of a correction first its terms, then its sums. A turned sign is no
--- number of its own.
+-- The work of a Ward study as a list of steps: a solve for the column of each retained bus, the equivalent's entries, the currents and
+-- their solve, the injections, and the ratio. Of a correction first its terms, then its sums. A turned sign is no number of its own.
 use Prim.Native.Nat.{ℕ, zero, suc}
 use mathlib.Core.Bool.{cond}
 use mathlib.Core.List.{List, [], _∷_, _++_}
@@ -10,14 +10,15 @@ use lib.Ieee.{Float, nan, binary64, neg, ofInt}
 use Rattle.complex.specs.declared.Complex.{Complex}
 use Rattle.complex.specs.Arithmetic.{_⊗_, _⊘_, cmul}
 use Rattle.complex.specs.Computed.{ofParts, ofSum, ofProduct, ofDifference, ofSqmag}
-use Rattle.solver.specs.Computed.{ofSolve}
+use Rattle.refusals.specs.Work.{Step, computing, numbersIn}
+use Rattle.solver.specs.Steps.{stepsOfSolve}
 use Rattle.ward_equivalent.specs.Arithmetic.{sumUp, current}
 use Rattle.ward_equivalent.specs.Ward.{Study, retained, externals, externalAt, admittance, yEE, solvedColumn, rowTimes, injectionP}
-use Rattle.ward_equivalent.specs.Ward.{injectionQ, solvedCurrents, reduction}
+use Rattle.ward_equivalent.specs.Ward.{injectionQ, solvedCurrents, ratio}
 use Rattle.ward_equivalent.specs.Extended.{ExtendedStudy, addUp, deviation, boundaryTie, weight, voltageCorrection, reactive}
 
 -- of each of a list, in its order
-unfoldable pub ofEach : (ℕ → List Float) → List ℕ → List Float
+unfoldable pub ofEach : {A : Type 0} → (ℕ → List A) → List ℕ → List A
 ofEach f [] = []
 ofEach f (i ∷ is) = f i ++ ofEach f is
 
@@ -32,10 +33,10 @@ unfoldable pub ofRowTimes : Study → ℕ → (ℕ → Complex) → List Float
 unfolding ofProducts admittance
 ofRowTimes S i x = ofProducts (externals S) (λ (k : ℕ). admittance S i (externalAt S k)) x
 
--- the column of X for bus j
-unfoldable pub ofSolvedColumn : Study → ℕ → List Float
-unfolding yEE admittance
-ofSolvedColumn S j = ofSolve (externals S) (yEE S) (λ (l : ℕ). admittance S (externalAt S l) j)
+-- the solve for the column of X of bus j
+unfoldable pub stepsOfColumn : Study → ℕ → List Step
+unfolding yEE admittance stepsOfSolve
+stepsOfColumn S j = stepsOfSolve (externals S) (yEE S) (λ (l : ℕ). admittance S (externalAt S l) j)
 
 -- the equivalent's entry between buses i and j
 unfoldable pub ofEquivalentEntry : Study → ℕ → ℕ → List Float
@@ -48,32 +49,43 @@ unfolding current
 ofCurrents S zero = []
 ofCurrents S (suc count) = ofCurrents S count ++ ofParts (current (S .base) (getD (S .p-ext) count nan) (getD (S .q-ext) count nan))
 
-unfoldable pub ofSolvedCurrents : Study → List Float
-unfolding yEE current
-ofSolvedCurrents S = ofSolve (externals S) (yEE S) (λ (l : ℕ). current (S .base) (getD (S .p-ext) l nan) (getD (S .q-ext) l nan))
+-- the solve for them
+unfoldable pub stepsOfCurrents : Study → List Step
+unfolding yEE current stepsOfSolve
+stepsOfCurrents S = stepsOfSolve (externals S) (yEE S) (λ (l : ℕ). current (S .base) (getD (S .p-ext) l nan) (getD (S .q-ext) l nan))
 
 -- what boundary bus i gets
 unfoldable pub ofInjection : Study → ℕ → List Float
 unfolding ofRowTimes solvedCurrents injectionP injectionQ
 ofInjection S i = ofRowTimes S i (solvedCurrents S) ++ (injectionP S i ∷ injectionQ S i ∷ [])
 
-unfoldable pub ofReduction : ℕ → ℕ → List Float
-unfolding reduction
-ofReduction r n = ofInt binary64 (pos r) ∷ ofInt binary64 (pos n) ∷ ofInt binary64 (pos r) ⊘ ofInt binary64 (pos n) ∷ reduction r n ∷ []
+unfoldable pub ofRatio : ℕ → ℕ → List Float
+unfolding ratio
+ofRatio r n = ofInt binary64 (pos r) ∷ ofInt binary64 (pos n) ∷ ofInt binary64 (pos r) ⊘ ofInt binary64 (pos n) ∷ ratio r n ∷ []
 
--- the reduced matrix, and the injections
+-- all entries of the equivalent, row by row
 unfoldable pub ofEquivalent : Study → List Float
-unfolding ofEach ofSolvedColumn ofEquivalentEntry retained
-ofEquivalent S = ofEach (ofSolvedColumn S) (retained S) ++ ofEach (λ (i : ℕ). ofEach (ofEquivalentEntry S i) (retained S)) (retained S)
+unfolding ofEach ofEquivalentEntry retained
+ofEquivalent S = ofEach (λ (i : ℕ). ofEach (ofEquivalentEntry S i) (retained S)) (retained S)
 
 unfoldable pub ofInjections : Study → List Float
-unfolding ofEach ofCurrents ofSolvedCurrents ofInjection
-ofInjections S = ofCurrents S (externals S) ++ ofSolvedCurrents S ++ ofEach (ofInjection S) (S .boundary)
+unfolding ofEach ofInjection
+ofInjections S = ofEach (ofInjection S) (S .boundary)
 
 -- the whole study; with no external bus nothing is computed
+unfoldable pub stepsOf : Study → List Step
+unfolding ofEach stepsOfColumn ofEquivalent ofCurrents stepsOfCurrents ofInjections ofRatio retained computing
+stepsOf S =
+    cond (eqb (externals S) 0) []
+    (ofEach (stepsOfColumn S) (retained S)
+    ++ (computing (ofEquivalent S ++ ofCurrents S (externals S))
+    ++ (stepsOfCurrents S
+    ++ computing (ofInjections S ++ ofRatio (length (retained S)) (S .size)))))
+
+-- the numbers that it computes
 unfoldable pub ofStudy : Study → List Float
-unfolding ofEquivalent ofInjections ofReduction retained
-ofStudy S = cond (eqb (externals S) 0) [] (ofEquivalent S ++ ofInjections S ++ ofReduction (length (retained S)) (S .size))
+unfolding stepsOf numbersIn
+ofStudy S = numbersIn (stepsOf S)
 
 -- ---- extended
 
@@ -104,6 +116,10 @@ ofCorrection S i =
     ++ (voltageCorrection S i ∷ [])
 
 -- Ward's own study and the corrections of the boundary buses
+unfoldable pub stepsOfExtended : ExtendedStudy → List Step
+unfolding stepsOf ofEach ofCorrection computing
+stepsOfExtended S = stepsOf (S .study) ++ computing (ofEach (ofCorrection S) (S .study .boundary))
+
 unfoldable pub ofExtended : ExtendedStudy → List Float
-unfolding ofStudy ofEach ofCorrection
-ofExtended S = ofStudy (S .study) ++ ofEach (ofCorrection S) (S .study .boundary)
+unfolding stepsOfExtended numbersIn
+ofExtended S = numbersIn (stepsOfExtended S)
