@@ -75,3 +75,12 @@ pub fn inputs(n: usize) -> Inputs {
         ptdf,
     }
 }
+
+// The same with admittances and factors times 2^210.
+pub fn huge(n: usize) -> Inputs {
+    let mut given = inputs(n);
+    for x in given.y.iter_mut().chain(&mut given.ptdf) {
+        *x *= 2f64.powi(210);
+    }
+    given
+}

@@ -43,6 +43,15 @@ const TASKS: [Task; 13] = [
     Task::BytesOfNumbers,
 ];
 
+// on numbers too large for the port's fast path: there it looks through the whole work first
+const CAREFUL: [Task; 5] = [
+    Task::Removal,
+    Task::Removals,
+    Task::Ward,
+    Task::ExtendedWard,
+    Task::Lodf,
+];
+
 const SIZES: [usize; 3] = [8, 64, 256];
 
 #[cfg(port_linked)]
@@ -54,17 +63,25 @@ fn shown(seconds: f64) -> String {
     format!("{:.2} µs", seconds * 1e6)
 }
 
+fn show(task: Task, how: &str, given: &inputs::Inputs) {
+    let port = PORT.map(|port| port_side::side(task, given, port));
+    let (of_rust, of_port) = timing::timed(rust_side::side(task, given), port);
+    let of_port = of_port.map_or("- | -".to_string(), |(time, ratio)| {
+        format!("{} | {ratio:.2}", shown(time))
+    });
+    println!("| {task:?}{how} | {} | {} | {of_port} |", given.n, shown(of_rust));
+}
+
 fn main() {
     println!("| task | buses | Rust | port | ratio |\n|---|---|---|---|---|");
     for task in TASKS {
         for n in SIZES {
-            let given = inputs::inputs(n);
-            let port = PORT.map(|port| port_side::side(task, &given, port));
-            let (of_rust, of_port) = timing::timed(rust_side::side(task, &given), port);
-            let of_port = of_port.map_or("- | -".to_string(), |(time, ratio)| {
-                format!("{} | {ratio:.2}", shown(time))
-            });
-            println!("| {task:?} | {n} | {} | {of_port} |", shown(of_rust));
+            show(task, "", &inputs::inputs(n));
+        }
+    }
+    for task in CAREFUL {
+        for n in SIZES {
+            show(task, ", huge numbers", &inputs::huge(n));
         }
     }
     if PORT.is_none() {

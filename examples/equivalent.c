@@ -32,6 +32,8 @@ static const char *meaning(uint32_t refusal) {
     case JETURIPE_SMALL_ENTRY: return "the bus's own admittance is too small to divide by";
     case JETURIPE_SINGULAR: return "the system is singular or nearly so";
     case JETURIPE_BEYOND_ALLOWANCE: return "the work takes more row reductions than are allowed";
+    case JETURIPE_GIVEN_NOT_FINITE: return "a number handed in is infinite or NaN";
+    case JETURIPE_COMPUTED_NOT_FINITE: return "a number computed is infinite or NaN";
     default: return "not a refusal of this library";
     }
 }

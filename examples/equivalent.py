@@ -26,6 +26,8 @@ MEANINGS = {
     12: "the bus's own admittance is too small to divide by",
     13: "the system is singular or nearly so",
     18: "the work takes more row reductions than are allowed",
+    19: "a number handed in is infinite or NaN",
+    20: "a number computed is infinite or NaN",
 }
 
 # A slice is two arguments: its pointer and the count of its elements.

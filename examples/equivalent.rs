@@ -57,6 +57,8 @@ mod jeturipe {
                 12 => "the bus's own admittance is too small to divide by",
                 13 => "the system is singular or nearly so",
                 18 => "the work takes more row reductions than are allowed",
+                19 => "a number handed in is infinite or NaN",
+                20 => "a number computed is infinite or NaN",
                 _ => "not a refusal of this library",
             };
             write!(f, "refused with {}: {meaning}", self.0)

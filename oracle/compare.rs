@@ -8,7 +8,7 @@ use oracle::port::Port;
 use oracle::source::Source;
 use oracle::spoil::spoil;
 use oracle::tally::Tally;
-use oracle::{ask, matrices, roots, small, small_allowances};
+use oracle::{ask, matrices, roots, scaled, small, small_allowances, small_finite};
 
 #[cfg(port_linked)]
 mod linked;
@@ -72,11 +72,15 @@ fn told(tally: &Tally, seed: usize) -> bool {
     if let Some(function) = unallowed {
         println!("oracle: {function:?} needs allowances met in every way, a count by the Rust, and one by the model that is unlike");
     }
+    let unseen = tally.unseen();
+    if let Some((function, number)) = unseen {
+        println!("oracle: no call of {function:?} is to be answered with {number}");
+    }
     let alike = tally.lacks(Difference::Currents);
     if alike {
         println!("oracle: no study shows that the Rust's currents are (P + jQ)/base");
     }
-    failed == 0 && unjudged.is_none() && unallowed.is_none() && !alike
+    failed == 0 && unjudged.is_none() && unallowed.is_none() && unseen.is_none() && !alike
 }
 
 fn main() {
@@ -85,6 +89,8 @@ fn main() {
     let mut s = Source::new(seed as u64);
     let mut tally = Tally::default();
     small_allowances::stated(&mut |call, stated| tally.stated(&call, stated, PORT));
+    small_finite::stated(&mut |call, number| tally.stated_number(&call, number, PORT));
+    scaled::each(&mut s, &mut |scaled| tally.scaled(&scaled, PORT));
     let mut run = |call: Call| tally.run(&call, PORT);
     small::every(&mut |call| {
         run(call);

@@ -43,67 +43,43 @@ impl Given<'_> {
     }
 }
 
-// The number of a call: 0 of an entry that cannot refuse.
-trait Answer {
-    fn number(self, given: &mut Given) -> u32;
-}
-
-impl Answer for u32 {
-    fn number(self, _: &mut Given) -> u32 {
-        self
-    }
-}
-
-impl Answer for () {
-    fn number(self, _: &mut Given) -> u32 {
-        0
-    }
-}
-
-impl Answer for f64 {
-    fn number(self, given: &mut Given) -> u32 {
-        unsafe { *given.single() = self };
-        0
-    }
-}
-
 // Takes the parameters off one by one: [their types in C] [the values handed over], then declares the entry and calls it.
 macro_rules! entry {
-    ($name:ident $given:ident [$($type:ty,)*] [$($value:expr,)*] () $($answer:tt)*) => {{
+    ($name:ident $given:ident [$($type:ty,)*] [$($value:expr,)*] ()) => {{
         extern "C" {
             #[link_name = concat!("jeturipe_", stringify!($name))]
-            fn entry($(_: $type),*) $($answer)*;
+            fn entry($(_: $type),*) -> u32;
         }
-        unsafe { entry($($value),*) }.number(&mut $given)
+        unsafe { entry($($value),*) }
     }};
-    ($name:ident $given:ident [$($type:tt)*] [$($value:tt)*] (usize, $($rest:tt)*) $($answer:tt)*) => {
-        entry!($name $given [$($type)* usize,] [$($value)* $given.whole(),] ($($rest)*) $($answer)*)
+    ($name:ident $given:ident [$($type:tt)*] [$($value:tt)*] (usize, $($rest:tt)*)) => {
+        entry!($name $given [$($type)* usize,] [$($value)* $given.whole(),] ($($rest)*))
     };
-    ($name:ident $given:ident [$($type:tt)*] [$($value:tt)*] (u32, $($rest:tt)*) $($answer:tt)*) => {
-        entry!($name $given [$($type)* u32,] [$($value)* $given.bus(),] ($($rest)*) $($answer)*)
+    ($name:ident $given:ident [$($type:tt)*] [$($value:tt)*] (u32, $($rest:tt)*)) => {
+        entry!($name $given [$($type)* u32,] [$($value)* $given.bus(),] ($($rest)*))
     };
-    ($name:ident $given:ident [$($type:tt)*] [$($value:tt)*] (f64, $($rest:tt)*) $($answer:tt)*) => {
-        entry!($name $given [$($type)* f64,] [$($value)* $given.real(),] ($($rest)*) $($answer)*)
+    ($name:ident $given:ident [$($type:tt)*] [$($value:tt)*] (f64, $($rest:tt)*)) => {
+        entry!($name $given [$($type)* f64,] [$($value)* $given.real(),] ($($rest)*))
     };
-    ($name:ident $given:ident [$($type:tt)*] [$($value:tt)*] (&[$of:ident], $($rest:tt)*) $($answer:tt)*) => {
+    ($name:ident $given:ident [$($type:tt)*] [$($value:tt)*] (&[$of:ident], $($rest:tt)*)) => {
         entry!($name $given [$($type)* *const $of, usize,] [$($value)* $given.at(), $given.count(),]
-            ($($rest)*) $($answer)*)
+            ($($rest)*))
     };
-    ($name:ident $given:ident [$($type:tt)*] [$($value:tt)*] (&mut [$of:ident], $($rest:tt)*) $($answer:tt)*) => {
+    ($name:ident $given:ident [$($type:tt)*] [$($value:tt)*] (&mut [$of:ident], $($rest:tt)*)) => {
         entry!($name $given [$($type)* *mut $of, usize,] [$($value)* $given.at(), $given.count(),]
-            ($($rest)*) $($answer)*)
+            ($($rest)*))
     };
-    ($name:ident $given:ident [$($type:tt)*] [$($value:tt)*] (&mut $of:ident, $($rest:tt)*) $($answer:tt)*) => {
-        entry!($name $given [$($type)* *mut $of,] [$($value)* $given.single(),] ($($rest)*) $($answer)*)
+    ($name:ident $given:ident [$($type:tt)*] [$($value:tt)*] (&mut $of:ident, $($rest:tt)*)) => {
+        entry!($name $given [$($type)* *mut $of,] [$($value)* $given.single(),] ($($rest)*))
     };
 }
 
 macro_rules! linked {
-    ($($function:ident $name:ident($($parameters:tt)*) $(-> $answer:ident)?;)*) => {
+    ($($function:ident $name:ident($($parameters:tt)*) -> u32;)*) => {
         pub fn call(function: Function, wholes: &[u64], reals: &[f64], slices: &[Part]) -> u32 {
             let mut given = Given { wholes: wholes.iter(), reals: reals.iter(), slices };
             match function {
-                $(Function::$function => entry!($name given [] [] ($($parameters)*,) $(-> $answer)?),)*
+                $(Function::$function => entry!($name given [] [] ($($parameters)*,)),)*
             }
         }
     };

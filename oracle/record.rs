@@ -7,6 +7,7 @@ use oracle::functions::{conversions, expected, reductions, sound};
 use oracle::header::Function;
 use oracle::pivots::Judge;
 use oracle::recorded::{case, filled};
+use oracle::small_finite;
 use oracle::source::Source;
 use oracle::spoil::{spoil, unmatch};
 use oracle::words::bytes_of;
@@ -63,6 +64,17 @@ impl File {
         self.bytes.extend(bytes);
         true
     }
+
+    fn write(&self, folder: &str, name: &str) {
+        let bytes = [bytes_of(&[self.count]), self.bytes.clone()].concat();
+        std::fs::write(format!("{folder}/{name}"), &bytes).expect("the folder is there");
+        println!(
+            "{name}: {} cases, {} bytes; (function, outcome) and how often: {:?}",
+            self.count,
+            bytes.len(),
+            self.outcomes
+        );
+    }
 }
 
 fn record(folder: &str, name: &str, seed: u64, wanted: Wanted) {
@@ -74,6 +86,12 @@ fn record(folder: &str, name: &str, seed: u64, wanted: Wanted) {
         bytes: Vec::new(),
         outcomes: BTreeMap::new(),
     };
+    // those whose number is stated come first
+    small_finite::stated(&mut |call, _| {
+        if wanted.iter().any(|w| w.0 == call.function) {
+            file.add(&call);
+        }
+    });
     for &(function, count, _) in wanted {
         let mut taken = 0;
         while taken < count {
@@ -85,29 +103,27 @@ fn record(folder: &str, name: &str, seed: u64, wanted: Wanted) {
             taken += file.add(&drawn(function, &mut s, &mut allowances, n)) as usize;
         }
     }
-    // the large ones at the end, each a study that is carried out, with an allowance that is the count
+    // the large ones at the end
     for &(function, _, sizes) in wanted {
         for &n in sizes {
-            loop {
-                let call = sound(function, &mut s, n);
-                let call = match reductions(&call) {
-                    Some((rows, _)) => call.allowing(rows),
-                    None => call,
-                };
-                if expected(&call).number == 0 && sizeable(&call, n) && file.add(&call) {
-                    break;
-                }
-            }
+            while !file.add(&carried_out(function, &mut s, n)) {}
         }
     }
-    let bytes = [bytes_of(&[file.count]), file.bytes].concat();
-    std::fs::write(format!("{folder}/{name}"), &bytes).expect("the folder is there");
-    println!(
-        "{name}: {} cases, {} bytes; (function, outcome) and how often: {:?}",
-        file.count,
-        bytes.len(),
-        file.outcomes
-    );
+    file.write(folder, name);
+}
+
+// a large call that is carried out, with an allowance that is the count
+fn carried_out(function: Function, s: &mut Source, n: usize) -> Call {
+    loop {
+        let call = sound(function, s, n);
+        let call = match reductions(&call) {
+            Some((rows, _)) => call.allowing(rows),
+            None => call,
+        };
+        if expected(&call).number == 0 && sizeable(&call, n) {
+            return call;
+        }
+    }
 }
 
 // a list or record that has not shrunk to nothing

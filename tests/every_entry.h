@@ -55,15 +55,15 @@ static uint32_t call_bytes_of_words(const Slice *w) { return jeturipe_bytes_of_w
 static uint32_t call_bus_numbers_of_bytes(const Slice *w) { return jeturipe_bus_numbers_of_bytes(given.bytes, 4 * N, W(0)); }
 static uint32_t call_bytes_of_bus_numbers(const Slice *w) { return jeturipe_bytes_of_bus_numbers(SLICE(given.number), W(0)); }
 
-static uint32_t call_cadd(const Slice *w) { jeturipe_cadd(1, 2, 3, 4, w[0].at, w[1].at); return 0; }
-static uint32_t call_csub(const Slice *w) { jeturipe_csub(1, 2, 3, 4, w[0].at, w[1].at); return 0; }
-static uint32_t call_cmul(const Slice *w) { jeturipe_cmul(1, 2, 3, 4, w[0].at, w[1].at); return 0; }
-static uint32_t call_cdiv(const Slice *w) { jeturipe_cdiv(1, 2, 3, 4, w[0].at, w[1].at); return 0; }
-static uint32_t call_cneg(const Slice *w) { jeturipe_cneg(1, 2, w[0].at, w[1].at); return 0; }
-static uint32_t call_complex_inv(const Slice *w) { jeturipe_complex_inv(1, 2, w[0].at, w[1].at); return 0; }
-static uint32_t call_abs(const Slice *w) { *(double *)w[0].at = jeturipe_abs(-2); return 0; }
-static uint32_t call_sqrt(const Slice *w) { *(double *)w[0].at = jeturipe_sqrt(2); return 0; }
-static uint32_t call_magnitude(const Slice *w) { *(double *)w[0].at = jeturipe_magnitude(1, 2); return 0; }
+static uint32_t call_cadd(const Slice *w) { return jeturipe_cadd(1, 2, 3, 4, w[0].at, w[1].at); }
+static uint32_t call_csub(const Slice *w) { return jeturipe_csub(1, 2, 3, 4, w[0].at, w[1].at); }
+static uint32_t call_cmul(const Slice *w) { return jeturipe_cmul(1, 2, 3, 4, w[0].at, w[1].at); }
+static uint32_t call_cdiv(const Slice *w) { return jeturipe_cdiv(1, 2, 3, 4, w[0].at, w[1].at); }
+static uint32_t call_cneg(const Slice *w) { return jeturipe_cneg(1, 2, w[0].at, w[1].at); }
+static uint32_t call_complex_inv(const Slice *w) { return jeturipe_complex_inv(1, 2, w[0].at, w[1].at); }
+static uint32_t call_abs(const Slice *w) { return jeturipe_abs(-2, w[0].at); }
+static uint32_t call_sqrt(const Slice *w) { return jeturipe_sqrt(2, w[0].at); }
+static uint32_t call_magnitude(const Slice *w) { return jeturipe_magnitude(1, 2, w[0].at); }
 
 static uint32_t call_solve_linear(const Slice *w) {
     return jeturipe_solve_linear(N, SLICE(given.y), given.y, 2 * N, JETURIPE_SOLVE_ROWS(N), W(0), W(1), w[2].at);

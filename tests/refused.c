@@ -1,22 +1,10 @@
-/* For each refusal but 8 and 9, which tests/numbered.c has, a small call or more, which leaves all as it was; and what tests/two_bus.c does not ask
+/* For each refusal but 8 and 9, which tests/numbered.c has, and 19 and 20, which tests/finite.c has, a small call or more, which leaves all as it was; and what tests/two_bus.c does not ask
  * for: the active buses and the rows before and after a removal, and conversions there and back. */
 #include "room.h"
 
 static const double FLAT[8] = {1, 0, -1, 0, -1, 0, 0, 0};     /* bus 205 has no admittance of its own */
 static const double FLOATING[8] = {1, 0, -1, 0, -1, 0, 1, 0}; /* singular: nothing leads to earth */
 static const uint32_t NUMBERS[2] = {101, 205};
-
-static int cleared(size_t work_len) {
-    static const double zeros[16];
-    return memcmp(now.work, zeros, work_len * sizeof zeros[0]) == 0;
-}
-
-/* Refused with 13 or 18, which clear the work slice. */
-static void stopped(uint32_t answer, uint32_t number, size_t work_len, const char *call) {
-    expect(cleared(work_len), call);
-    memcpy(now.work, before.work, sizeof now.work);
-    refused(answer, number, call);
-}
 
 static void singular(uint32_t answer, size_t work_len, const char *call) {
     stopped(answer, JETURIPE_SINGULAR, work_len, call);

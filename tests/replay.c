@@ -9,7 +9,7 @@
 enum { FUNCTIONS = 29, SLICES = 18 };
 
 /* The slices of each entry as the header has them: n numbers, w words, u bus numbers, b bytes, in capitals where it may write them; x one
- * number and k one word that it answers, by pointer or as its value. */
+ * number and k one word that it answers, by pointer. */
 static const char *const SHAPES[FUNCTIONS + 1] = {
     "",
     "bN", "nB", "bW", "wB", "bU", "uB",
@@ -45,15 +45,15 @@ static uint32_t on_numbers(const Head *h, const Lent *l) {
     case 4: return jeturipe_bytes_of_words(WORDS(0), BYTES(1));
     case 5: return jeturipe_bus_numbers_of_bytes(BYTES(0), BUSES(1));
     case 6: return jeturipe_bytes_of_bus_numbers(BUSES(0), BYTES(1));
-    case 7: return jeturipe_cadd(R(0), R(1), R(2), R(3), NUMBER(0), NUMBER(1)), 0;
-    case 8: return jeturipe_csub(R(0), R(1), R(2), R(3), NUMBER(0), NUMBER(1)), 0;
-    case 9: return jeturipe_cmul(R(0), R(1), R(2), R(3), NUMBER(0), NUMBER(1)), 0;
-    case 10: return jeturipe_cdiv(R(0), R(1), R(2), R(3), NUMBER(0), NUMBER(1)), 0;
-    case 11: return jeturipe_cneg(R(0), R(1), NUMBER(0), NUMBER(1)), 0;
-    case 12: return jeturipe_complex_inv(R(0), R(1), NUMBER(0), NUMBER(1)), 0;
-    case 13: return *NUMBER(0) = jeturipe_abs(R(0)), 0;
-    case 14: return *NUMBER(0) = jeturipe_sqrt(R(0)), 0;
-    default: return *NUMBER(0) = jeturipe_magnitude(R(0), R(1)), 0;
+    case 7: return jeturipe_cadd(R(0), R(1), R(2), R(3), NUMBER(0), NUMBER(1));
+    case 8: return jeturipe_csub(R(0), R(1), R(2), R(3), NUMBER(0), NUMBER(1));
+    case 9: return jeturipe_cmul(R(0), R(1), R(2), R(3), NUMBER(0), NUMBER(1));
+    case 10: return jeturipe_cdiv(R(0), R(1), R(2), R(3), NUMBER(0), NUMBER(1));
+    case 11: return jeturipe_cneg(R(0), R(1), NUMBER(0), NUMBER(1));
+    case 12: return jeturipe_complex_inv(R(0), R(1), NUMBER(0), NUMBER(1));
+    case 13: return jeturipe_abs(R(0), NUMBER(0));
+    case 14: return jeturipe_sqrt(R(0), NUMBER(0));
+    default: return jeturipe_magnitude(R(0), R(1), NUMBER(0));
     }
 }
 

@@ -20,18 +20,18 @@ typedef struct {
 static Room now, before;
 static int failed = 0;
 
-static void expect(int ok, const char *fact) {
+static inline void expect(int ok, const char *fact) {
     if (!ok) {
         printf("%s: wrong\n", fact);
         failed = 1;
     }
 }
 
-static void hold(void) {
+static inline void hold(void) {
     memcpy(&before, &now, sizeof now);
 }
 
-static void refused(uint32_t answer, uint32_t number, const char *call) {
+static inline void refused(uint32_t answer, uint32_t number, const char *call) {
     if (answer != number) {
         printf("%s: answered with %u, not %u\n", call, (unsigned)answer, (unsigned)number);
         failed = 1;
@@ -42,30 +42,42 @@ static void refused(uint32_t answer, uint32_t number, const char *call) {
     }
 }
 
+static inline int cleared(size_t work_len) {
+    static const double zeros[16];
+    return memcmp(now.work, zeros, work_len * sizeof zeros[0]) == 0;
+}
+
+/* Refused in its work, which clears the work slice. */
+static inline void stopped(uint32_t answer, uint32_t number, size_t work_len, const char *call) {
+    expect(cleared(work_len), call);
+    memcpy(now.work, before.work, sizeof now.work);
+    refused(answer, number, call);
+}
+
 /* A reducer of two buses with these numbers; all else holds what no call leaves. */
-static void make(const double y[8], const uint32_t numbers[2]) {
+static inline void make(const double y[8], const uint32_t numbers[2]) {
     memset(&now, 0x5c, sizeof now);
     memcpy(now.y, y, sizeof now.y);
     expect(jeturipe_kron_new(2, SLICE(now.y), numbers, 2, SLICE(now.rec)) == 0, "a reducer of two buses");
     hold();
 }
 
-static uint32_t removal(uint32_t bus) {
+static inline uint32_t removal(uint32_t bus) {
     return jeturipe_eliminate_bus(SLICE(now.rec), SLICE(now.y), bus);
 }
 
-static uint32_t removals(const uint32_t *buses, size_t len) {
+static inline uint32_t removals(const uint32_t *buses, size_t len) {
     return jeturipe_eliminate_buses(SLICE(now.rec), SLICE(now.y), buses, len, &now.count);
 }
 
-static uint32_t active(void) {
+static inline uint32_t active(void) {
     return jeturipe_active_buses(SLICE(now.rec), SLICE(now.buses), &now.count);
 }
 
-static uint32_t present_rows(void) {
+static inline uint32_t present_rows(void) {
     return jeturipe_reduced_matrix(SLICE(now.rec), SLICE(now.y), SLICE(now.out));
 }
 
-static uint32_t impedance(uint32_t i, uint32_t j) {
+static inline uint32_t impedance(uint32_t i, uint32_t j) {
     return jeturipe_thevenin_impedance(SLICE(now.rec), SLICE(now.y), i, j, SLICE(now.work), &now.z_re, &now.z_im);
 }

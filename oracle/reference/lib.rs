@@ -1,5 +1,5 @@
-// The Rust reference: reduction.rs and error.rs, unchanged, at the paths that the build names; and a copy of reduction.rs that
-// counts its subtractions.
+// The Rust reference: reduction.rs and error.rs, unchanged, at the paths that the build names; and a copy of what is ported of
+// reduction.rs that watches its numbers.
 #![allow(dead_code, unused, clippy::all)]
 
 mod stubs;
@@ -48,25 +48,4 @@ pub mod reduction {
     }
 }
 
-// The copy, whose csub begins with count_csub(): oracle/build makes it.
-pub mod counted {
-    use super::stubs::{nalgebra, num_complex, sprs};
-    use std::cell::Cell;
-
-    include!(env!("JETURIPE_COUNTED_RS"));
-
-    thread_local! {
-        static CSUB_CALLS: Cell<u64> = const { Cell::new(0) };
-    }
-
-    fn count_csub() {
-        CSUB_CALLS.set(CSUB_CALLS.get() + 1);
-    }
-
-    // What f answers, and how often it called csub.
-    pub fn counting<T>(f: impl FnOnce() -> T) -> (T, u64) {
-        CSUB_CALLS.set(0);
-        let answer = f();
-        (answer, CSUB_CALLS.get())
-    }
-}
+pub mod watched;

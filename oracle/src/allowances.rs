@@ -14,6 +14,8 @@ pub enum Met {
     Beyond,
     // refused with 13 before that
     Singular,
+    // refused with 20 before that
+    NotFinite,
     // accepted, with an allowance that is the count, above 0
     Exactly,
     // accepted otherwise
@@ -21,12 +23,22 @@ pub enum Met {
 }
 
 impl Met {
-    pub const ALL: [Met; 4] = [Met::Beyond, Met::Singular, Met::Exactly, Met::Within];
+    pub const ALL: [Met; 5] = [Met::Beyond, Met::Singular, Met::NotFinite, Met::Exactly, Met::Within];
+
+    pub fn number(self) -> u32 {
+        match self {
+            Met::Beyond => 18,
+            Met::Singular => 13,
+            Met::NotFinite => 20,
+            Met::Exactly | Met::Within => 0,
+        }
+    }
 
     pub fn of(number: u32, allowance: u64, rows: u64) -> Self {
         match number {
             18 => Met::Beyond,
             13 => Met::Singular,
+            20 => Met::NotFinite,
             _ if allowance == rows && rows > 0 => Met::Exactly,
             _ => Met::Within,
         }
@@ -38,12 +50,6 @@ impl Met {
 pub struct Allowed {
     pub met: Met,
     pub counted_by: Option<Judge>,
-}
-
-// the rows that the Rust reduced by so many calls of csub, one for each entry of a row
-pub fn rows_of(calls: u64, entries: usize) -> u64 {
-    assert_eq!(calls % entries as u64, 0, "no whole rows");
-    calls / entries as u64
 }
 
 // every allowance up to one more than the most row reductions, and none

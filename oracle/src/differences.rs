@@ -44,6 +44,7 @@ fn listed(function: Function, number: u32, manner: Manner) -> bool {
         (3, Panics) => function == Function::LodfMatrix,
         (6, Accepts | Panics) => true,
         (7 | 8, Accepts | Errs(Kind::LinearAlgebra)) => true,
+        (19, Accepts | Errs(Kind::InvalidParameter | Kind::LinearAlgebra)) => true,
         _ => false,
     }
 }

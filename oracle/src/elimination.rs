@@ -1,8 +1,6 @@
 // A model of Gauss-Jordan that chooses pivots by document 02's rule or by the Rust's, and counts its row reductions.
+use crate::finite::{cdiv, cmul, csub, sqmag, Stop, TINY};
 use crate::words::{Pair, Rows};
-use reference::reduction::reach::{cdiv, cmul, csub};
-
-const TINY: f64 = 1e-300;
 
 #[derive(Clone, Copy)]
 pub enum Rule {
@@ -15,30 +13,14 @@ pub enum Rule {
 // Whether the two rules may choose different rows, by the first search in which they may.
 #[derive(Clone, Copy, PartialEq)]
 pub enum Choice {
-    // no search meets its largest weight twice, or a NaN
+    // no search meets its largest weight twice
     Clear,
     Open,
-    // equal weights, none a NaN, and all too small for a pivot: either rule ends there
+    // equal weights, all too small for a pivot: either rule ends there
     Small,
-}
-
-// What ends the work before it is done.
-pub enum Stop {
-    // the chosen pivot is too small
-    Small,
-    // 02 P8: the next row reduction would exceed the allowance
-    Beyond,
-}
-
-// the squared magnitude
-fn weight(c: Pair) -> f64 {
-    c.0 * c.0 + c.1 * c.1
 }
 
 fn choice(weights: &[f64]) -> Choice {
-    if weights.iter().any(|w| w.is_nan()) {
-        return Choice::Open;
-    }
     let most = weights.iter().copied().fold(0.0, f64::max);
     match weights.iter().filter(|&&w| w == most).count() {
         1 => Choice::Clear,
@@ -65,7 +47,7 @@ fn pivot(weights: &[f64], rule: Rule) -> usize {
 pub struct Solver {
     rule: Rule,
     allowance: u64,
-    // row reductions so far
+    // row reductions begun
     pub reduced: u64,
     pub choice: Choice,
 }
@@ -89,7 +71,7 @@ impl Solver {
             .map(|(a, b)| [&a[..], &b[..]].concat())
             .collect();
         for c in 0..n {
-            let weights: Vec<f64> = rows[c..].iter().map(|row| weight(row[c])).collect();
+            let weights: Vec<f64> = rows[c..].iter().map(|row| sqmag(row[c])).collect::<Result<_, _>>()?;
             if self.choice == Choice::Clear {
                 self.choice = choice(&weights);
             }
@@ -112,8 +94,8 @@ impl Solver {
 
     // row c is scaled by its pivot's inverse, and every other row that is not skipped is reduced
     fn clear(&mut self, rows: &mut Rows, c: usize) -> Result<(), Stop> {
-        let inverse = cdiv((1.0, 0.0), rows[c][c]);
-        let pivot_row: Vec<Pair> = rows[c].iter().map(|&x| cmul(x, inverse)).collect();
+        let inverse = cdiv((1.0, 0.0), rows[c][c])?;
+        let pivot_row: Vec<Pair> = rows[c].iter().map(|&x| cmul(x, inverse)).collect::<Result<_, _>>()?;
         rows[c].copy_from_slice(&pivot_row);
         for (i, row) in rows.iter_mut().enumerate() {
             let factor = row[c];
@@ -125,7 +107,7 @@ impl Solver {
             }
             self.reduced += 1;
             for (x, &p) in row.iter_mut().zip(&pivot_row) {
-                *x = csub(*x, cmul(factor, p));
+                *x = csub(*x, cmul(factor, p)?)?;
             }
         }
         Ok(())

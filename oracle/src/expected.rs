@@ -1,12 +1,13 @@
 // What a call must answer, and what every slice must hold after it.
-use crate::allowances::{Allowed, Met, NONE};
-use crate::ask::{Asked, Kind};
-use crate::call::{Call, Function};
+use crate::allowances::{Allowed, Met};
+use crate::ask::Asked;
+use crate::call::Call;
 use crate::differences::{judged, state_number, Difference, Told};
-use crate::elimination::{Rule, Solver, Stop};
+use crate::finite::Stop;
 use crate::header::Of;
-use crate::pivots::{self, Judge};
-use crate::words::{bytes_of, plain, words_of};
+use crate::outcomes::may_answer;
+use crate::pivots::Judge;
+use crate::words::{bytes_of, plain, reals_of, words_of};
 
 #[derive(Clone, Debug, PartialEq)]
 pub enum After {
@@ -43,7 +44,7 @@ pub struct Expected {
 }
 
 impl Expected {
-    fn held(call: &Call, number: u32, told: Told) -> Self {
+    pub fn held(call: &Call, number: u32, told: Told) -> Self {
         Expected {
             number,
             after: vec![After::Held; call.slices.len()],
@@ -98,7 +99,7 @@ impl Expected {
     }
 
     // after so many row reductions, which an accepted call tells
-    fn reducing(mut self, call: &Call, rows: u64) -> Self {
+    pub fn reducing(mut self, call: &Call, rows: u64) -> Self {
         self.rows = Some(rows);
         if self.number == 0 {
             self.words(call.rows_reduced(), vec![rows])
@@ -111,7 +112,7 @@ impl Expected {
         self.number == other.number && self.after == other.after && self.rows == other.rows
     }
 
-    fn allowing(mut self, allowance: u64, rows: u64, counted_by: Judge) -> Self {
+    pub fn allowing(mut self, allowance: u64, rows: u64, counted_by: Judge) -> Self {
         self.allowed = Some(Allowed {
             met: Met::of(self.number, allowance, rows),
             counted_by: (rows > 0).then_some(counted_by),
@@ -126,7 +127,7 @@ impl Expected {
 }
 
 // Refused by the input if a fault applies; else as the Rust says, with what is written where it accepts.
-// `work` is the slice that 13 leaves all +0.
+// `work` is the slice that 13 and 20 leave all +0.
 pub fn expected<T>(
     call: &Call,
     faults: &[u32],
@@ -145,117 +146,42 @@ pub fn expected<T>(
                 None => done,
             }
         }
-        Asked::Errs(kind) => match (state_number(call.function, kind), work) {
-            (Some(13), Some(w)) => Expected::held(call, 13, Told::ByReference).with(w, After::Zero),
-            (Some(number), _) if may_refuse(call.function, number) => Expected::held(call, number, Told::ByReference),
+        Asked::Errs(kind) => match state_number(call.function, kind) {
+            Some(number) if may_answer(call.function, number) => stopped(call, number, work),
             _ => Expected::wrong(call, format!("no fault, and the Rust errs with {kind:?}")),
         },
-        Asked::Panics => Expected::wrong(call, "no fault, and the Rust panics".to_string()),
-        Asked::NotAsked => Expected::wrong(call, "no fault, and the Rust was not asked".to_string()),
+        Asked::NotFinite if may_answer(call.function, 20) => stopped(call, 20, work),
+        Asked::Unlike => Expected::wrong(call, "the watched copy of the Rust does otherwise".to_string()),
+        other => Expected::wrong(call, format!("no fault, and the Rust {:?}", other.manner())),
     }
 }
 
-// What the work of a call must answer by the model, whose solver it is handed.
-fn by_model<T>(
+// refused in its work
+pub fn stopped(call: &Call, number: u32, work: Option<usize>) -> Expected {
+    let held = Expected::held(call, number, Told::ByReference);
+    match work {
+        Some(w) if number != 11 => held.with(w, After::Zero),
+        _ => held,
+    }
+}
+
+// The same of a call that no elimination decides: a model of its work must end alike.
+pub fn by_work<T>(
     call: &Call,
-    mut solver: Solver,
-    answer: &impl Fn(&mut Solver) -> Result<T, Stop>,
-    work: usize,
+    faults: &[u32],
+    asked: Asked<T>,
+    model: impl FnOnce() -> Result<(), Stop>,
     written: impl FnOnce(Expected, T) -> Expected,
-) -> (Solver, Expected) {
-    let asked = match answer(&mut solver) {
-        Ok(answer) => Asked::Accepts(answer),
-        Err(Stop::Small) => Asked::Errs(Kind::LinearAlgebra),
-        Err(Stop::Beyond) => return (solver, beyond(call, work)),
-    };
-    (solver, expected(call, &[], asked, Some(work), written))
-}
-
-// refused for its allowance
-fn beyond(call: &Call, work: usize) -> Expected {
-    Expected::held(call, 18, Told::ByReference).with(work, After::Zero)
-}
-
-// whether the Rust went on to eliminate
-fn eliminates<T>(faults: &[u32], asked: &Asked<T>) -> bool {
-    faults.is_empty() && matches!(asked, Asked::Accepts(_) | Asked::Errs(Kind::LinearAlgebra))
-}
-
-// The same as `expected` of a call that searches pivots: the model answers where document 02's rule may choose otherwise than the
-// Rust. `model` is the work by a solver, none where nothing is to be eliminated.
-pub fn by_pivots<T, M: Fn(&mut Solver) -> Result<T, Stop>>(
-    call: &Call,
-    faults: &[u32],
-    asked: Asked<T>,
-    model: impl FnOnce() -> Option<M>,
-    work: usize,
-    written: impl Fn(Expected, T) -> Expected,
 ) -> Expected {
-    let model = if eliminates(faults, &asked) { model() } else { None };
-    let rust = expected(call, faults, asked, Some(work), &written);
-    let Some(model) = model else {
-        return rust;
-    };
-    let [(solver, first), (_, last)] =
-        [Rule::First, Rule::Last].map(|rule| by_model(call, Solver::new(rule, NONE), &model, work, &written));
-    pivots::judged(solver.choice, rust, first, last)
-}
-
-// The same of a call that takes an allowance and tells its row reductions: `rows` are those of the Rust, which has no allowance.
-pub fn by_rows<T, M: Fn(&mut Solver) -> Result<T, Stop>>(
-    call: &Call,
-    faults: &[u32],
-    asked: Asked<T>,
-    rows: impl FnOnce() -> u64,
-    model: impl FnOnce() -> Option<M>,
-    work: usize,
-    written: impl Fn(Expected, T) -> Expected,
-) -> Expected {
-    let model = if eliminates(faults, &asked) { model() } else { None };
-    let rust = expected(call, faults, asked, Some(work), &written);
-    let Some(model) = model else {
-        return rust.reducing(call, 0);
-    };
-    let run = |rule, allowance| {
-        let (solver, e) = by_model(call, Solver::new(rule, allowance), &model, work, &written);
-        (solver.choice, e.reducing(call, solver.reduced))
-    };
-    let (choice, first) = run(Rule::First, NONE);
-    let rust_rows = rows();
-    let free = pivots::judged(choice, rust.reducing(call, rust_rows), first, run(Rule::Last, NONE).1);
-    let (Some(judge), Some(rows)) = (free.judge, free.rows) else {
-        return free;
-    };
-    // a larger allowance alters no answer but 18: below the count every one is refused, from there on none changes the answer
-    let allowance = call.allowance();
-    let due = if allowance < rows {
-        beyond(call, work).reducing(call, allowance).by(judge)
-    } else {
-        free
-    };
-    let (_, within) = run(Rule::First, allowance);
-    if !within.same(&due) {
-        return due.failing("the model within the allowance does not answer by its count without one");
+    let e = expected(call, faults, asked, None, written);
+    if !faults.is_empty() {
+        return e;
     }
-    let counted_by = match judge {
-        Judge::Model { .. } => Judge::Model {
-            alike: rows == rust_rows,
-        },
-        Judge::Rust => Judge::Rust,
-    };
-    due.allowing(allowance, rows, counted_by)
-}
-
-fn may_refuse(function: Function, number: u32) -> bool {
-    use Function::*;
-    match number {
-        11 => matches!(function, EliminateBus | EliminateBuses | TheveninImpedance),
-        12 => matches!(function, EliminateBus | EliminateBuses),
-        13 => matches!(
-            function,
-            SolveLinear | ComplexMatrixInverse | TheveninImpedance | WardCompute | WardComputeExtended
-        ),
-        _ => false,
+    let number = model().map_or_else(|stop| stop.number(call.function), |()| 0);
+    if e.number == number {
+        e
+    } else {
+        e.failing(&format!("the model answers {number}, and the Rust otherwise"))
     }
 }
 
@@ -265,4 +191,18 @@ pub fn faults(of: &[(u32, bool)]) -> Vec<u32> {
     numbers.sort();
     numbers.dedup();
     numbers
+}
+
+// 19 is told last: of a call that nothing else refuses, where one of these numbers is not finite.
+pub fn then_given(faults: Vec<u32>, given: impl IntoIterator<Item = f64>) -> Vec<u32> {
+    if faults.is_empty() && given.into_iter().any(|x| !x.is_finite()) {
+        vec![19]
+    } else {
+        faults
+    }
+}
+
+// all numbers in these slices
+pub fn numbers_in(call: &Call, slices: &[usize]) -> Vec<f64> {
+    slices.iter().flat_map(|&i| reals_of(&call.slices[i])).collect()
 }

@@ -12,15 +12,15 @@ macro_rules! header {
             BytesOfWords bytes_of_words(&[usize], &mut [u8]) -> u32;
             BusNumbersOfBytes bus_numbers_of_bytes(&[u8], &mut [u32]) -> u32;
             BytesOfBusNumbers bytes_of_bus_numbers(&[u32], &mut [u8]) -> u32;
-            Cadd cadd(f64, f64, f64, f64, &mut f64, &mut f64);
-            Csub csub(f64, f64, f64, f64, &mut f64, &mut f64);
-            Cmul cmul(f64, f64, f64, f64, &mut f64, &mut f64);
-            Cdiv cdiv(f64, f64, f64, f64, &mut f64, &mut f64);
-            Cneg cneg(f64, f64, &mut f64, &mut f64);
-            ComplexInv complex_inv(f64, f64, &mut f64, &mut f64);
-            Abs abs(f64) -> f64;
-            Sqrt sqrt(f64) -> f64;
-            Magnitude magnitude(f64, f64) -> f64;
+            Cadd cadd(f64, f64, f64, f64, &mut f64, &mut f64) -> u32;
+            Csub csub(f64, f64, f64, f64, &mut f64, &mut f64) -> u32;
+            Cmul cmul(f64, f64, f64, f64, &mut f64, &mut f64) -> u32;
+            Cdiv cdiv(f64, f64, f64, f64, &mut f64, &mut f64) -> u32;
+            Cneg cneg(f64, f64, &mut f64, &mut f64) -> u32;
+            ComplexInv complex_inv(f64, f64, &mut f64, &mut f64) -> u32;
+            Abs abs(f64, &mut f64) -> u32;
+            Sqrt sqrt(f64, &mut f64) -> u32;
+            Magnitude magnitude(f64, f64, &mut f64) -> u32;
             SolveLinear solve_linear(usize, &[f64], &[f64], usize, &mut [f64], &mut [f64], &mut usize) -> u32;
             ComplexMatrixInverse complex_matrix_inverse(usize, &[f64], &mut [f64], &mut [f64]) -> u32;
             KronNew kron_new(usize, &[f64], &[u32], &mut [u8]) -> u32;
@@ -96,7 +96,7 @@ impl Element for u8 {
 pub struct Slice {
     pub of: Of,
     pub written: bool,
-    // one answer: by pointer, or returned
+    // one answer, by pointer
     pub single: bool,
 }
 
@@ -111,8 +111,6 @@ macro_rules! shape {
     ([$($real:tt)*] [$($slice:expr,)*]) => {
         const { &Shape { reals: 0 $($real)*, slices: &[$($slice),*] } }
     };
-    ([$($real:tt)*] [$($slice:tt)*] -> u32) => { shape!([$($real)*] [$($slice)*]) };
-    ([$($real:tt)*] [$($slice:tt)*] -> f64) => { shape!([$($real)*] [$($slice)*] &mut f64,) };
     ([$($real:tt)*] [$($slice:tt)*] usize, $($rest:tt)*) => { shape!([$($real)*] [$($slice)*] $($rest)*) };
     ([$($real:tt)*] [$($slice:tt)*] u32, $($rest:tt)*) => { shape!([$($real)*] [$($slice)*] $($rest)*) };
     ([$($real:tt)*] [$($slice:tt)*] f64, $($rest:tt)*) => { shape!([$($real)* + 1] [$($slice)*] $($rest)*) };
@@ -128,7 +126,7 @@ macro_rules! shape {
 }
 
 macro_rules! functions {
-    ($($function:ident $name:ident($($parameters:tt)*) $(-> $answer:ident)?;)*) => {
+    ($($function:ident $name:ident($($parameters:tt)*) -> u32;)*) => {
         #[derive(Clone, Copy, Debug, PartialEq, Eq, PartialOrd, Ord)]
         pub enum Function {
             $($function,)*
@@ -139,7 +137,7 @@ macro_rules! functions {
 
             pub fn shape(self) -> &'static Shape {
                 match self {
-                    $(Function::$function => shape!([] [] $($parameters)*, $(-> $answer)?),)*
+                    $(Function::$function => shape!([] [] $($parameters)*,),)*
                 }
             }
         }

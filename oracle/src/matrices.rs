@@ -15,7 +15,7 @@ pub fn matrix(s: &mut Source, n: usize) -> Vec<f64> {
 }
 
 // the bus matrix of a random grid: branches and shunts
-fn grid(s: &mut Source, n: usize) -> Vec<f64> {
+pub fn grid(s: &mut Source, n: usize) -> Vec<f64> {
     let mut y = vec![0.0; 2 * n * n];
     for i in 0..n {
         y[2 * (i * n + i)] += s.unit();

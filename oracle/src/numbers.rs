@@ -10,9 +10,12 @@ pub enum Kind {
     TinyPivots,
     Specials,
     Patterns,
+    Edges,
+    // of sizes around this power of two
+    Around(i64),
 }
 
-pub const KINDS: [Kind; 7] = [
+pub const KINDS: [Kind; 15] = [
     Kind::Integers,
     Kind::Unit,
     Kind::Grid,
@@ -20,6 +23,37 @@ pub const KINDS: [Kind; 7] = [
     Kind::TinyPivots,
     Kind::Specials,
     Kind::Patterns,
+    Kind::Edges,
+    Kind::Edges,
+    // where a part is no longer small, and where its square is too small to divide by without a look
+    Kind::Around(200),
+    Kind::Around(-200),
+    // where products of three, and of two, are no longer finite
+    Kind::Around(341),
+    Kind::Around(511),
+    // where sums are no longer finite
+    Kind::Around(1021),
+    Kind::Around(1021),
+];
+
+// sizes at which an answer may change from accepted to refused, or the way to it
+pub const EDGES: [f64; 16] = [
+    two_to(200),
+    two_to(-200),
+    two_to(-400),
+    two_to(511),
+    two_to(512),
+    two_to(600),
+    two_to(-498),
+    two_to(-499),
+    1e-150,
+    1e-300,
+    f64::MAX,
+    f64::MAX / 2.0,
+    f64::MIN_POSITIVE,
+    5e-324,
+    1.0,
+    0.0,
 ];
 
 pub const SPECIALS: [f64; 40] = [
@@ -77,7 +111,7 @@ pub const NANS: [u64; 7] = [
 ];
 
 // 2^e, for exponents within the normal range
-pub fn two_to(e: i64) -> f64 {
+pub const fn two_to(e: i64) -> f64 {
     f64::from_bits(((e + 1023) as u64) << 52)
 }
 
@@ -102,9 +136,33 @@ pub fn real(s: &mut Source, kind: Kind) -> f64 {
         Kind::Grid => scaled(s, -12, 12),
         Kind::Wide => scaled(s, -1022, 1023),
         Kind::TinyPivots => scaled(s, -500, -496),
-        Kind::Specials => s.pick(&SPECIALS),
+        Kind::Specials => special(s),
         Kind::Patterns => f64::from_bits(s.bits()),
+        Kind::Edges => edge(s),
+        Kind::Around(e) => scaled(s, e - 3, e + 3),
     }
+}
+
+// now and then not finite
+fn special(s: &mut Source) -> f64 {
+    let x = s.pick(&SPECIALS);
+    if x.is_finite() || s.one_in(16) {
+        x
+    } else {
+        special(s)
+    }
+}
+
+// an edge or a neighbour of it, mostly a finite one
+fn edge(s: &mut Source) -> f64 {
+    let bits = s.pick(&EDGES).to_bits() + 1;
+    let near = f64::from_bits(bits - s.below(3).min(bits as usize) as u64);
+    let x = if near.is_finite() || s.one_in(16) {
+        near
+    } else {
+        f64::MAX
+    };
+    signed(s, x)
 }
 
 pub fn reals(s: &mut Source, kind: Kind, count: usize) -> Vec<f64> {

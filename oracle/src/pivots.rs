@@ -17,9 +17,7 @@ pub fn judged(choice: Choice, rust: Expected, first: Expected, last: Expected) -
     }
     let alike = rust.same(&first);
     match choice {
-        Choice::Clear if !alike => {
-            rust.failing("no column ties or holds a NaN, and the model's answer is not the Rust's")
-        }
+        Choice::Clear if !alike => rust.failing("no column ties, and the model's answer is not the Rust's"),
         Choice::Clear => rust.by(Judge::Rust),
         Choice::Small if !alike => rust.failing("equal pivots are too small, and the Rust does not end there"),
         Choice::Small | Choice::Open => first.by(Judge::Model { alike }),

@@ -53,9 +53,15 @@ pub fn filled(mut call: Call) -> Call {
     call
 }
 
-// The bytes of a case, where the Rust or the model of elimination gives the answer.
+// the Rust or the model of elimination gives the answer, or a given number is refused
+fn recordable(e: &Expected) -> bool {
+    let answered = matches!(e.told, Told::ByReference | Told::Differs(Difference::Refusal(19), _));
+    answered && !e.noted.contains(&Difference::ReiSum)
+}
+
+// The bytes of a case, where it is recorded.
 pub fn case(call: &Call, e: &Expected) -> Option<Vec<u8>> {
-    if !matches!(e.told, Told::ByReference) || e.noted.contains(&Difference::ReiSum) {
+    if !recordable(e) {
         return None;
     }
     let mut head = vec![call.function as u64 + 1, e.number as u64];

@@ -5,7 +5,7 @@ use crate::call::Call;
 use crate::functions::ward::Study;
 use crate::functions::*;
 use crate::header::{Function, Of};
-use crate::numbers::{NANS, SPECIALS};
+use crate::numbers::{two_to, NANS, SPECIALS};
 use crate::small_allowances;
 use crate::small_records::{self, fresh};
 use crate::words::bytes_of_reals;
@@ -161,6 +161,16 @@ fn converted(visit: &mut dyn FnMut(Call)) {
     }
 }
 
+// two buses with parts at the ends of what is finite, or may be divided by: real ones, and imaginary ones off the diagonal
+fn large_and_small(visit: &mut dyn FnMut(Call)) {
+    let [small, large, most] = [two_to(-498), two_to(200), two_to(511)];
+    let edges = [1.0, -small, small / 2.0, large, most, 2.0 * most, -f64::MAX, 5e-324];
+    each(&edges, 4, &mut |y| {
+        on_matrix(2, &entries(y), visit);
+        on_matrix(2, &[y[0], 0.0, 0.0, y[1], 0.0, y[2], y[3], 0.0], visit);
+    });
+}
+
 pub fn every(visit: &mut dyn FnMut(Call)) {
     each(&SPECIALS, 2, &mut |y| {
         on_matrix(1, y, visit);
@@ -175,6 +185,7 @@ pub fn every(visit: &mut dyn FnMut(Call)) {
     each(&edges, 4, &mut |y| {
         on_matrix(2, &[y[0], 0.0, y[1], -0.0, y[2], 0.0, y[3], 0.0], visit)
     });
+    large_and_small(visit);
     equal_pivots(visit);
     currents(visit);
     branches(visit);

@@ -1,4 +1,4 @@
-// Calls made wrong: lengths, sizes, lists and records that are refused.
+// Calls made wrong: lengths, sizes, lists, records and numbers that are refused.
 use crate::call::{Call, Function};
 use crate::functions::reducer::{NUMBERS_AT, RECORD, ROWS_AT};
 use crate::functions::LIMIT;
@@ -8,10 +8,11 @@ use crate::source::Source;
 pub fn spoil(s: &mut Source, call: &mut Call) {
     let ways = 1 + s.below(5) / 4;
     for _ in 0..ways {
-        match s.below(4) {
+        match s.below(5) {
             0 => stretch(s, call),
             1 => resize(s, call),
             2 => unmatch(s, call),
+            3 => overflow(s, call),
             _ => unlist(s, call),
         }
     }
@@ -72,6 +73,25 @@ fn elements(s: &mut Source, count: usize) -> usize {
         5 => count / 2,
         6 => count.saturating_sub(1),
         _ => count + 1,
+    }
+}
+
+// a given number that is not finite, mostly at the front of its slice
+fn overflow(s: &mut Source, call: &mut Call) {
+    let x = s.pick(&[f64::INFINITY, f64::NEG_INFINITY, f64::NAN]);
+    let slices = call.function.slices();
+    // a removal writes the matrix that it is given
+    let removes = matches!(call.function, Function::EliminateBus | Function::EliminateBuses);
+    let given = |i: &usize| slices[*i].of == Of::Numbers && (removes || !slices[*i].written) && call.count(*i) > 0;
+    let open: Vec<usize> = (0..slices.len()).filter(given).collect();
+    if !call.reals.is_empty() && (open.is_empty() || s.one_in(6)) {
+        let at = s.below(call.reals.len());
+        call.reals[at] = x;
+    } else if !open.is_empty() {
+        let i = s.pick(&open);
+        let front = if s.one_in(2) { 8 } else { usize::MAX };
+        let at = 8 * s.below(call.count(i).min(front));
+        call.slices[i][at..at + 8].copy_from_slice(&x.to_bits().to_le_bytes());
     }
 }
 

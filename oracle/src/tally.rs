@@ -6,8 +6,10 @@ use crate::crossing::Crossing;
 use crate::differences::{Difference, Told};
 use crate::expected::{After, Expected};
 use crate::functions::expected;
+use crate::outcomes;
 use crate::pivots::Judge;
 use crate::port::{Part, Port};
+use crate::scaled::Scaled;
 use crate::small_allowances::Stated;
 use crate::words::words_of;
 use std::collections::BTreeMap;
@@ -89,6 +91,23 @@ impl Tally {
         self.run(call, port);
     }
 
+    // a call whose number is stated beforehand
+    pub fn stated_number(&mut self, call: &Call, number: u32, port: Option<Port>) {
+        let answered = self.run(call, port);
+        if answered != number {
+            self.fail(call, &format!("stated is {number}, expected {answered}"));
+        }
+    }
+
+    // a call at two scales
+    pub fn scaled(&mut self, scaled: &Scaled, port: Option<Port>) {
+        if !scaled.answers_agree() {
+            self.fail(&scaled.other, "the answers are not those of the unscaled call, scaled");
+        }
+        self.run(&scaled.own, port);
+        self.run(&scaled.other, port);
+    }
+
     pub fn total(&self) -> usize {
         self.calls.values().sum()
     }
@@ -127,15 +146,15 @@ impl Tally {
             println!("pivots of {function:?}: {answers}");
         }
         for function in ALLOWING {
-            let [beyond, singular, exactly, within] = self.met(function);
-            let refused = format!("{beyond} refused with 18, {singular} with 13 before that");
+            let [beyond, singular, not_finite, exactly, within] = self.met(function);
+            let refused = format!("{beyond} refused with 18, {singular} with 13 and {not_finite} with 20 before that");
             let accepted = format!("{exactly} accepted at the very count, {within} above it or without one");
             let counts = told("counts above 0", of(&self.counts, function));
             println!("allowances of {function:?}: {refused}, {accepted}; {counts}");
         }
     }
 
-    fn met(&self, function: Function) -> [usize; 4] {
+    fn met(&self, function: Function) -> [usize; 5] {
         Met::ALL.map(|met| self.allowances.get(&(function, met)).copied().unwrap_or(0))
     }
 
@@ -158,7 +177,18 @@ impl Tally {
     // a function whose allowances were not met in every way, or that lacks a count by the Rust or one by the model that is unlike
     pub fn unallowed(&self) -> Option<Function> {
         let mut functions = ALLOWING.into_iter();
-        functions.find(|&function| self.met(function).contains(&0) || one_sided(of(&self.counts, function)))
+        let lacks = |function, met: Met| {
+            outcomes::may_answer(function, met.number()) && !self.allowances.contains_key(&(function, met))
+        };
+        functions.find(|&f| Met::ALL.into_iter().any(|met| lacks(f, met)) || one_sided(of(&self.counts, f)))
+    }
+
+    // a function and a number that it may answer and never did
+    pub fn unseen(&self) -> Option<(Function, u32)> {
+        let all = Function::ALL
+            .iter()
+            .flat_map(|&function| outcomes::of(function).iter().map(move |&number| (function, number)));
+        all.into_iter().find(|outcome| !self.answers.contains_key(outcome))
     }
 }
 

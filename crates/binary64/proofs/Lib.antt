@@ -9,3 +9,7 @@ pub mod RootRounding
 pub mod RootMiddles
 pub mod RootNearest
 mod RootCases
+pub mod Operands
+pub mod Magnitudes
+pub mod Flags
+pub mod SquareRange

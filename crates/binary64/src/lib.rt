@@ -4,6 +4,7 @@ ghost use mathlib.Core.Path.{_≡_};
 ghost use Rattle.binary64.specs.Root.{root, Root};
 
 mod digits;
+pub mod finite;
 mod steps;
 pub mod words;
 

@@ -7,12 +7,12 @@ use mathlib.Core.List.{List, [], _∷_, map}
 use lib.ListN.{replicate}
 use lib.Ieee.{Float}
 use Rattle.complex.specs.Arithmetic.{complexOf}
-use Rattle.refusals.specs.Refusals.{notActive, smallEntry}
+use Rattle.refusals.specs.Refusals.{notActive, smallEntry, computedNotFinite}
 use Rattle.kron_reduction.specs.Reducer.{ReducerInput, reducerInputOf, recordOf}
 use Rattle.ward_equivalent.specs.Calls.{studyOf, outputsOf}
 use Rattle.ward_equivalent.specs.Numbers.{numberedOf}
 use Rattle.cases.specs.Numbers.{+0, -0, 1/4, 1/2, -1/2, 3/4, +1, -1, 5/4, 3/2, +2, -2, +3, -3, +4, -4, -5, +6, -8, +10, +25, +50}
-use Rattle.cases.specs.Numbers.{+100, -100, 2^-499, 2^-498, 2^498, infinity}
+use Rattle.cases.specs.Numbers.{+100, -100, 2^-499, 2^-498, 2^498}
 use Rattle.cases.specs.Calls.{BookCall, product, inverse, removal, removals, impedance, study, extended, solution}
 use Rattle.cases.specs.Calls.{Seen, seen, reducerCounts, after}
 
@@ -64,9 +64,9 @@ case2 = bookRow 2 (inverse (complexOf +0 +2)) (seen 0 [] (+0 ∷ -1/2 ∷ []) []
 abbrev pub case3 : BookRow
 case3 = bookRow 3 (inverse (complexOf 2^-498 +0)) (seen 0 [] (2^498 ∷ +0 ∷ []) [])
 
--- 2 to the -499 is too small to divide by
+-- 2 to the -499 is too small to divide by: the inverse would not be finite
 abbrev pub case4 : BookRow
-case4 = bookRow 4 (inverse (complexOf 2^-499 +0)) (seen 0 [] (infinity ∷ infinity ∷ []) [])
+case4 = bookRow 4 (inverse (complexOf 2^-499 +0)) (seen computedNotFinite [] [] [])
 
 -- M without bus 1: bus 0 is left with 0.5
 abbrev pub case5 : BookRow

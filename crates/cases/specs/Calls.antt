@@ -1,10 +1,13 @@
 -- A call of the book, and what it answers and leaves by the definitions that the contracts cite.
 use Prim.Native.Nat.{ℕ}
+use mathlib.Core.Bool.{cond}
 use mathlib.Core.List.{List, [], _∷_, _++_}
+use lib.Dec.{eqb}
 use lib.Ieee.{Float}
 use Rattle.complex.specs.declared.Complex.{Complex}
-use Rattle.complex.specs.Arithmetic.{cmul, complexInv}
-use Rattle.complex.specs.Computed.{ofParts}
+use Rattle.complex.specs.Arithmetic.{unit, cmul, complexInv}
+use Rattle.complex.specs.Computed.{ofParts, ofProduct, ofQuotient}
+use Rattle.complex.specs.Leaves.{singleRefusal}
 use Rattle.refusals.specs.declared.Allowance.the-variants.{Unlimited}
 use Rattle.refusals.specs.declared.Counted.{Counted}
 use Rattle.refusals.specs.declared.Counted.the-variants as reduced
@@ -68,6 +71,12 @@ unfoldable pub reducedRows : Counted → List ℕ
 reducedRows (reduced.Reduced n) = n ∷ []
 reducedRows (reduced.Refused k) = []
 
+-- a call on single numbers: those given, those computed, and its value
+unfoldable pub seenSingle : List Float → List Float → Complex → Seen
+seenSingle given computed z =
+    let told = singleRefusal given computed in
+    seen told [] (cond (eqb told 0) (ofParts z) []) []
+
 -- ---- the calls
 
 abbrev pub seenBus : AfterBus → Seen
@@ -90,8 +99,8 @@ abbrev pub seenSolution : AfterElimination Counted → Seen
 seenSolution a = seen (countedNumber (a .answer)) (reducedRows (a .answer)) [] (a .output ∷ a .work ∷ [])
 
 unfoldable pub after : BookCall → Seen
-after (product a b) = seen 0 [] (ofParts (cmul a b)) []
-after (inverse b) = seen 0 [] (ofParts (complexInv b)) []
+after (product a b) = seenSingle (ofParts a ++ ofParts b) (ofProduct a b) (cmul a b)
+after (inverse b) = seenSingle (ofParts b) (ofQuotient unit b) (complexInv b)
 after (removal M k) = seenBus (afterBus (afterNew M .rec) (M .given) k)
 after (removals M ks) = seenBuses (afterBuses (afterNew M .rec) (M .given) ks)
 after (impedance M i j ws) = let a = afterImpedance (afterNew M .rec) (M .given) i j ws in seenImpedance (a .answer) (a .work ∷ [])

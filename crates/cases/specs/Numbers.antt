@@ -81,6 +81,3 @@ abbrev pub 2^-498 : Float
 
 abbrev pub 2^498 : Float
 2^498 = ofBits binary64 0x5f10000000000000
-
-abbrev pub infinity : Float
-infinity = ofBits binary64 0x7ff0000000000000

@@ -1,14 +1,14 @@
 -- The bridge: what a list of calls leaves is, as data, the record and layout of the account's state. So row p is the p-th kept bus, and the slice's entries are the formula's.
-use Rattle.prelude.proofs.Prelude.{_≡_, refl, sym, ap, _∙_, subst, Bool, true, false, not, cond, _⊎_, inl, inr, List, [], _∷_, ℕ, _*_, _≤_, _<_, T, eqb, length, Float, leb, eqb→eq, leb→le, lit≤, is-true}
+use Rattle.prelude.proofs.Prelude.{_≡_, refl, sym, ap, _∙_, subst, Bool, true, false, not, cond, List, [], _∷_, ℕ, _*_, _≤_, _<_, T, eqb, length, Float, leb, eqb→eq, leb→le, lit≤, is-true}
 use lib.Dec.{nleb→lt}
-use Rattle.refusals.specs.Refusals.{limit, tooMany, notActive, smallEntry, outcome}
+use Rattle.refusals.specs.Refusals.{limit, tooMany, outcome}
 use Rattle.kron_reduction.specs.declared.KronReducer.{KronReducer}
-use Rattle.lists.specs.Buses.{mem, place, repeats, rowsIn}
-use Rattle.kron_reduction.specs.Kron.{State, start, removalRefusal, accepts, remove, eliminate, carriedOut, stoppedBy}
-use Rattle.complex.specs.{tooSmall}
+use Rattle.lists.specs.Buses.{place, repeats, rowsIn}
+use Rattle.kron_reduction.specs.Kron.{State, start, removalRefusal, accepts, eliminate, carriedOut, stoppedBy}
 use Rattle.kron_reduction.specs.Reducer.{ReducerInput, AcceptedMaking, makingRefusal, activeOf, afterNew, inputRefusal, ReducerState, reducerStateOf, stored, leaves, removedRows, removalsRefusal, afterBus, afterBuses}
-use Rattle.kron_reduction.proofs.States.{Accepted, taken-accepted, append-accepted, eliminate-append, eliminate-active, Regular, regular-start, regular-eliminate}
+use Rattle.kron_reduction.proofs.States.{Accepted, FiniteIn, finite-eliminate, taken-accepted, append-accepted, eliminate-append, eliminate-active, Regular, regular-start, regular-eliminate}
 use Rattle.kron_reduction.proofs.Making.{Makes, makes-has}
+use Rattle.kron_reduction.proofs.FiniteAnswers.{finite-start}
 use Rattle.kron_reduction.proofs.Reducer.{active-recordOf, entry-rowMajor, rowMajor-all, input-stored, removed-stored, refusal-stored, leaves-stored, input-long, removable-long}
 use Rattle.claims.specs.Accounts.{Call, bus, buses, afterCall, leftFrom, left, entryIn, Account, fresh, stateAfter, removes, step, accountFrom, account, kept, rowAt}
 
@@ -44,6 +44,28 @@ pub kept-state : (a : Account) → stateAfter a .active ≡ kept a
 unfolding stateAfter
 kept-state a = eliminate-active (start (a .size) (a .old)) (a .removed)
 
+-- ---- the buses removed by a call
+
+removes-accepted : (a : Account) (c : Call) → Accepted (stateAfter a) (removes a c)
+unfolding removes
+removes-accepted a (bus k) = taken-accepted (stateAfter a) (rowsIn (a .numbers) (k ∷ []))
+removes-accepted a (buses ks) = elim (leb (length ks) limit) as (λ b. Accepted (stateAfter a) (cond b (carriedOut (stateAfter a) (rowsIn (a .numbers) ks)) []))
+    [ true ↦ taken-accepted (stateAfter a) (rowsIn (a .numbers) ks) | false ↦ tt ]
+
+-- ---- finite entries
+
+fresh-finite : (M : ReducerInput) → AcceptedMaking M → FiniteIn (stateAfter (fresh M))
+unfolding fresh stateAfter eliminate
+fresh-finite M made = finite-start (M .size) (M .given) (made-length M made) (made-has M made .numbers)
+
+step-finite : (a : Account) (c : Call) → FiniteIn (stateAfter a) → FiniteIn (stateAfter (step a c))
+step-finite a c fine = subst FiniteIn (sym (state-step a c)) (finite-eliminate (stateAfter a) (removes a c) fine (removes-accepted a c))
+
+account-finite : (a : Account) (calls : List Call) → FiniteIn (stateAfter a) → FiniteIn (stateAfter (accountFrom a calls))
+unfolding accountFrom
+account-finite a [] fine = fine
+account-finite a (c ∷ cs) fine = account-finite (step a c) cs (step-finite a c fine)
+
 -- ---- one call
 
 -- a list of l buses is within the limit, or too long
@@ -55,14 +77,14 @@ by-length l P f g = (elim (leb l limit) as (λ b. (T b → l ≤ limit) → (T (
 abbrev pub storedOf : Account → ReducerState
 storedOf a = stored (a .size) (a .numbers) (stateAfter a)
 
-module _ (a : Account) (small : a .size ≤ limit) (many : length (a .numbers) ≡ a .size) (distinct : repeats (a .numbers) ≡ false) where
+module _ (a : Account) (small : a .size ≤ limit) (many : length (a .numbers) ≡ a .size) (distinct : repeats (a .numbers) ≡ false) (fine : FiniteIn (stateAfter a)) where
   abbrev here : ReducerState
   here = storedOf a
 
   within : (ks : List ℕ) → length ks ≤ limit
       → leaves (here .rec) (here .slice) (removedRows (here .rec) (here .slice) ks) ≡ stored (a .size) (a .numbers) (eliminate (stateAfter a) (carriedOut (stateAfter a) (rowsIn (a .numbers) ks)))
   within ks l =
-      ap (leaves (here .rec) (here .slice)) (removed-stored (a .size) (a .numbers) (stateAfter a) small many distinct (regular-state a) ks l)
+      ap (leaves (here .rec) (here .slice)) (removed-stored (a .size) (a .numbers) (stateAfter a) small many distinct (regular-state a) fine ks l)
       ∙ leaves-stored (a .size) (a .numbers) (stateAfter a) small many distinct (regular-state a) (carriedOut (stateAfter a) (rowsIn (a .numbers) ks)) (taken-accepted (stateAfter a) (rowsIn (a .numbers) ks))
 
   one-call : (c : Call) → afterCall here c ≡ stored (a .size) (a .numbers) (eliminate (stateAfter a) (removes a c))
@@ -74,13 +96,13 @@ module _ (a : Account) (small : a .size ≤ limit) (many : length (a .numbers) �
 
 -- ---- all calls
 
-left-from : (a : Account) (calls : List Call) → a .size ≤ limit → length (a .numbers) ≡ a .size → repeats (a .numbers) ≡ false
+left-from : (a : Account) (calls : List Call) → a .size ≤ limit → length (a .numbers) ≡ a .size → repeats (a .numbers) ≡ false → FiniteIn (stateAfter a)
     → leftFrom (storedOf a) calls ≡ stored (a .size) (a .numbers) (stateAfter (accountFrom a calls))
 unfolding leftFrom accountFrom step
-left-from a [] small many distinct = refl
-left-from a (c ∷ cs) small many distinct =
-    ap (λ (h : ReducerState). leftFrom h cs) (one-call a small many distinct c ∙ ap (stored (a .size) (a .numbers)) (sym (state-step a c)))
-    ∙ left-from (step a c) cs small many distinct
+left-from a [] small many distinct fine = refl
+left-from a (c ∷ cs) small many distinct fine =
+    ap (λ (h : ReducerState). leftFrom h cs) (one-call a small many distinct fine c ∙ ap (stored (a .size) (a .numbers)) (sym (state-step a c)))
+    ∙ left-from (step a c) cs small many distinct (step-finite a c fine)
 
 fresh-is : (M : ReducerInput) → AcceptedMaking M → reducerStateOf (afterNew M .rec) (M .given) ≡ storedOf (fresh M)
 unfolding afterNew stored stateAfter fresh eliminate
@@ -90,15 +112,9 @@ pub left-is : (M : ReducerInput) (calls : List Call) → AcceptedMaking M → le
 unfolding left
 left-is M calls made =
     let h = made-has M made in
-    ap (λ (x : ReducerState). leftFrom x calls) (fresh-is M made) ∙ unfold fresh in left-from (fresh M) calls (h .size) (h .many) (h .distinct)
+    ap (λ (x : ReducerState). leftFrom x calls) (fresh-is M made) ∙ unfold fresh in left-from (fresh M) calls (h .size) (h .many) (h .distinct) (fresh-finite M made)
 
 -- ---- the buses removed
-
-removes-accepted : (a : Account) (c : Call) → Accepted (stateAfter a) (removes a c)
-unfolding removes
-removes-accepted a (bus k) = taken-accepted (stateAfter a) (rowsIn (a .numbers) (k ∷ []))
-removes-accepted a (buses ks) = elim (leb (length ks) limit) as (λ b. Accepted (stateAfter a) (cond b (carriedOut (stateAfter a) (rowsIn (a .numbers) ks)) []))
-    [ true ↦ taken-accepted (stateAfter a) (rowsIn (a .numbers) ks) | false ↦ tt ]
 
 -- each bus removed was accepted when its turn came
 abbrev AllAccepted : Account → Type 0
@@ -163,24 +179,27 @@ module _ (M : ReducerInput) (calls : List Call) (made : AcceptedMaking M) where
   regular-present : Regular (M .size) present
   regular-present = subst (λ (n : ℕ). Regular n present) (account-kept (fresh M) calls .0 ∙ unfold fresh in refl) (regular-state (account M calls))
 
-  -- the input refusals of record and slice, 1, 2 and 9, never come: a list within the limit is not refused from the input
+  finite-present : FiniteIn present
+  finite-present = account-finite (fresh M) calls (fresh-finite M made)
+
+  -- the input refusals of record and slice, 1, 2, 9 and 19, never come: a list within the limit is not refused from the input
   pub no-input-refusal : (l : ℕ) → l ≤ limit → inputRefusal rec slice l ≡ 0
   no-input-refusal l h = let m = made-has M made in
       by-layout (λ (g : ReducerState). inputRefusal (g .rec) (g .slice) l ≡ 0)
-      (input-stored (M .size) (M .numbers) present (m .size) (m .many) (m .distinct) regular-present l h)
+      (input-stored (M .size) (M .numbers) present (m .size) (m .many) (m .distinct) regular-present finite-present l h)
 
   -- so a call answers what the account's state tells
   pub refusal-is : (ks : List ℕ) → length ks ≤ limit → removalsRefusal rec slice ks ≡ stoppedBy present (rows ks)
   refusal-is ks h = let m = made-has M made in
       by-layout (λ (g : ReducerState). removalsRefusal (g .rec) (g .slice) ks ≡ stoppedBy present (rows ks))
-      (refusal-stored (M .size) (M .numbers) present (m .size) (m .many) (m .distinct) regular-present ks h)
+      (refusal-stored (M .size) (M .numbers) present (m .size) (m .many) (m .distinct) regular-present finite-present ks h)
 
   -- and it removes the buses that the account says
   pub removed-is : (ks : List ℕ) → removedRows rec slice ks ≡ removes (account M calls) (buses ks)
   unfolding removes
   removed-is ks = by-length (length ks) (λ (b : Bool). removedRows rec slice ks ≡ cond b (carriedOut present (rows ks)) [])
       (λ h. let m = made-has M made in by-layout (λ (g : ReducerState). removedRows (g .rec) (g .slice) ks ≡ carriedOut present (rows ks))
-      (removed-stored (M .size) (M .numbers) present (m .size) (m .many) (m .distinct) regular-present ks h))
+      (removed-stored (M .size) (M .numbers) present (m .size) (m .many) (m .distinct) regular-present finite-present ks h))
       (removable-long rec slice ks)
       ∙ ap (λ (ns : List ℕ). cond (leb (length ks) limit) (carriedOut present (rowsIn ns ks)) []) (sym same-numbers)
 
@@ -203,17 +222,3 @@ module _ (M : ReducerInput) (calls : List Call) (made : AcceptedMaking M) where
   unfolding afterCall afterBus afterBuses leaves removes
   nothing-removed (bus k) e = ap (leaves rec slice) (removed-is (k ∷ []) ∙ e)
   nothing-removed (buses ks) e = ap (leaves rec slice) (removed-is ks ∙ e)
-
--- a refusal told from the state is 11 or 12
-pub stop-cases : (s : State) (ks : List ℕ) → (stoppedBy s ks ≡ 0) ⊎ ((stoppedBy s ks ≡ notActive) ⊎ (stoppedBy s ks ≡ smallEntry))
-unfolding stoppedBy removalRefusal
-stop-cases s [] = inl refl
-stop-cases s (k ∷ ks) = go (mem k (s .active)) (tooSmall (s .entries k k)) (stop-cases (remove s k) ks)
-  where
-    go : (b c : Bool) → (stoppedBy (remove s k) ks ≡ 0) ⊎ ((stoppedBy (remove s k) ks ≡ notActive) ⊎ (stoppedBy (remove s k) ks ≡ smallEntry))
-        → let f = cond b (cond c smallEntry 0) notActive in
-        let r = cond (eqb f 0) (stoppedBy (remove s k) ks) f in
-        (r ≡ 0) ⊎ ((r ≡ notActive) ⊎ (r ≡ smallEntry))
-    go true true ih = inr (inr refl)
-    go true false ih = ih
-    go false c ih = inr (inl refl)

@@ -1,15 +1,16 @@
 -- Buses told by number: what is said of numbers is said of their rows. Where the numbers are the rows, calls remove what they name.
-use Rattle.prelude.proofs.Prelude.{_≡_, refl, sym, ap, _∙_, subst, true, false, cond, inl, inr, List, [], _∷_, _++_, ℕ, zero, suc, _<_, T, eqb, ltb, length, getD, replicate, ap₂, map, lt-irrefl, leb, ltb→lt, and-l, and-r}
+use Rattle.prelude.proofs.Prelude.{_≡_, refl, sym, ap, _∙_, subst, Bool, true, false, cond, inl, inr, List, [], _∷_, _++_, ℕ, zero, suc, _<_, T, eqb, ltb, length, getD, replicate, ap₂, map, lt-irrefl, leb, ltb→lt, and-l, and-r}
 use mathlib.Core.Path.{subst₂}
 use Rattle.lists.specs.Buses.{upTo, mem, _isOneOf_, place, allBelow, repeats, within, rowsIn}
+use Rattle.binary64.specs.Values.{allFinite}
 use Rattle.complex.specs.{_≈_, tooSmall}
 use Rattle.lists.proofs.Order.{length-upTo, getD-upTo}
-use Rattle.refusals.specs.Refusals.{limit, notActive, smallEntry}
-use Rattle.lists.proofs.Buses.{in-head, in-tail, in-cases, in-or-out, getD-in, below-all, all-below, all-below-others, place-none, getD-place, place-getD, below-upTo, in-upTo, rising-upTo, all-below-upTo}
+use Rattle.refusals.specs.Refusals.{limit}
+use Rattle.lists.proofs.Buses.{failed, in-head, in-tail, in-cases, in-or-out, getD-in, below-all, all-below, all-below-others, place-none, getD-place, place-getD, below-upTo, in-upTo, rising-upTo, all-below-upTo}
 use Rattle.lists.proofs.Naming.{place-number, below-within}
-use Rattle.kron_reduction.specs.Kron.{State, start, removalRefusal, accepts, remove, carriedOut}
+use Rattle.kron_reduction.specs.Kron.{State, start, ofRemoval, accepts, remove, carriedOut}
 use Rattle.kron_reduction.specs.Reducer.{ReducerInput, AcceptedMaking, stored}
-use Rattle.kron_reduction.proofs.States.{Accepted, accepted-active}
+use Rattle.kron_reduction.proofs.States.{refusalOf, refusal-is, Accepted, accepted-active}
 use Rattle.kron_reduction.specs.Reading.{activeNumbers}
 use Rattle.claims.specs.Accounts.{Call, bus, buses, left, Account, fresh, stateAfter, removes, account, kept, rowAt, busAt, numbersAt}
 use Rattle.claims.specs.ByNumber.{oldBetween, AlikeByNumber}
@@ -109,9 +110,8 @@ row-place : (n k : ℕ) → k < n → place k (upTo n) ≡ k
 row-place n k h = subst (λ (z : ℕ). place z (upTo n) ≡ k) (getD-upTo n k 0 h) (place-getD (upTo n) k (rising-upTo n) (rw length-upTo h))
 
 refused : (s : State) (k : ℕ) → (k isOneOf s .active → ⊥) → accepts s k ≡ false
-unfolding removalRefusal
-refused s k out = (elim (mem k (s .active)) as (λ b. (T b → ⊥) → eqb (cond b (cond (tooSmall (s .entries k k)) smallEntry 0) notActive) 0 ≡ false)
-    [ true ↦ λ f. absurd (f tt) | false ↦ λ f. refl ]) out
+refused s k out =
+    ap (λ (f : ℕ). eqb f 0) (refusal-is s k ∙ ap (λ (b : Bool). refusalOf b (tooSmall (s .entries k k)) (allFinite (ofRemoval s k))) (failed (mem k (s .active)) out))
 
 -- a list of buses told by row is carried out as it stands
 pub taken-by-row : (n : ℕ) (s : State) (ks : List ℕ) → T (allBelow n (s .active)) → carriedOut s (rowsIn (upTo n) ks) ≡ carriedOut s ks

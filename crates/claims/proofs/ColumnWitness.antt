@@ -6,7 +6,7 @@ use Rattle.lists.proofs.Buses.{in-upTo}
 use Rattle.kron_reduction.specs.Reducer.{ReducerInput, reducerInputOf}
 use Rattle.claims.specs.Accounts.{Call, bus, left, entryIn, fresh, step, accountFrom, Account, account, kept}
 use Rattle.claims.specs.Chains.{Linked, Steps, Within, Into, SameOutside}
-use Rattle.claims.specs.Finite.{Finite, ofBitPatterns}
+use Rattle.claims.specs.Finite.{ofBitPatterns}
 use Rattle.claims.specs.Removals.{Alike, NoOut}
 use Rattle.claims.proofs.Demand3.{demand3}
 use Rattle.claims.proofs.BitPatterns.{words-f64s}
@@ -26,10 +26,6 @@ there = reducerInputOf 2 (ofBitPatterns (one-way -L L)) (0 ∷ 4294967295 ∷ []
 
 abbrev there-calls : List Call
 there-calls = bus 4294967295 ∷ []
-
-both-finite : Finite here here-calls × Finite there there-calls
-unfolding opened
-both-finite = (record { made = search tt; given = search tt; computed = tt }, record { made = search tt; given = search tt; computed = tt })
 
 abbrev h : Account
 h = account here here-calls
@@ -76,5 +72,5 @@ an-into = (1, [], tt, tt, tt)
 column-same : entryIn (left here here-calls) 0 0 ≈ entryIn (left there there-calls) 0 0
 column-same =
     (rw here-kept at (demand3 .removals .independent here there here-calls there-calls (words-f64s (one-way L LL)) (words-f64s (one-way -L L))
-    (search (both-finite .0)) (search (both-finite .1)) (1 ∷ []) alike-away 0 0))
+    (unfold opened in search tt) (unfold opened in search tt) (1 ∷ []) alike-away 0 0))
     (lit< tt) (lit< tt) (inr none-out)

@@ -1,13 +1,14 @@
--- What the premise says of each removal: its product, its divisor and its new entries are finite.
-use Rattle.prelude.proofs.Prelude.{_≡_, sym, subst, true, false, cond, inl, inr, List, [], _∷_, ℕ, arith, T, lit<, finite}
+-- What finite numbers say of each removal: its product, its divisor and its new entries are finite. Removals that are accepted compute no others.
+use Rattle.prelude.proofs.Prelude.{_≡_, sym, _∙_, subst, Bool, true, false, inl, inr, List, [], _∷_, ℕ, arith, T, lit<, finite}
 use Rattle.complex.specs.{divisionLimit, cmul, sqmag, tooSmall, ofSqmag, Matrix}
 use Rattle.binary64.specs.Values.{allFinite}
-use Rattle.complex.proofs.Finite.{all-left, all-right, all-at}
+use Rattle.complex.proofs.Finite.{none, all-join, all-left, all-right, all-at}
 use Rattle.complex.proofs.SameValue.{Finite}
 use Rattle.complex.proofs.Squares.{sqmag-below}
-use Rattle.refusals.specs.Refusals.{notActive, smallEntry}
+use Rattle.refusals.specs.Refusals.{smallEntry}
 use Rattle.lists.specs.Buses.{mem, _isOneOf_}
-use Rattle.kron_reduction.specs.Kron.{kron, State, remove, removalRefusal, ofNewEntry, ofRow, ofRows, ofRemovals}
+use Rattle.kron_reduction.specs.Kron.{kron, State, remove, removalRefusal, ofNewEntry, ofRow, ofRows, ofRemoval, ofRemovals}
+use Rattle.kron_reduction.proofs.States.{refusalOf, refusal-is, Accepted, accepted-finite}
 use Rattle.lists.proofs.Buses.{in-cases}
 
 -- ---- a removal
@@ -59,11 +60,19 @@ of-removals s (k ∷ ks) h =
 
 -- ---- a refused removal
 
--- what a removal refused with 12 computes, its own entry's squared magnitude, is finite: that the premise leaves it out changes nothing
+-- what a removal refused with 12 computes, its own entry's squared magnitude, is finite: that lists of removals leave it out changes nothing
 pub refused-finite : (s : State) (k : ℕ) → removalRefusal s k ≡ smallEntry → T (allFinite (ofSqmag (s .entries k k)))
-unfolding removalRefusal
-refused-finite s k e = sqmag-below (s .entries k k) divisionLimit
-    ((elim (mem k (s .active)) as (λ b. cond b (cond (tooSmall (s .entries k k)) smallEntry 0) notActive ≡ smallEntry → T (tooSmall (s .entries k k))) [
-      | true ↦ elim (tooSmall (s .entries k k)) as (λ c. cond c smallEntry 0 ≡ smallEntry → T c) [ true ↦ λ e. tt | false ↦ λ e. absurd (omega arith) ]
-      | false ↦ λ e. absurd (omega arith)
-    ]) e)
+refused-finite s k e = sqmag-below (s .entries k k) divisionLimit (go (mem k (s .active)) (tooSmall (s .entries k k)) (allFinite (ofRemoval s k)) (sym (refusal-is s k) ∙ e))
+  where
+    go : (b c d : Bool) → refusalOf b c d ≡ smallEntry → T c
+    go true true d e = tt
+    go true false true e = let z : _≡_ {A = ℕ} 0 12 = e in absurd (omega arith)
+    go true false false e = let z : _≡_ {A = ℕ} 20 12 = e in absurd (omega arith)
+    go false c d e = let z : _≡_ {A = ℕ} 11 12 = e in absurd (omega arith)
+
+-- ---- removals that are accepted
+
+pub computed-finite : (s : State) (ks : List ℕ) → Accepted s ks → T (allFinite (ofRemovals s ks))
+unfolding ofRemovals
+computed-finite s [] ok = none
+computed-finite s (k ∷ ks) ok = all-join (ofRemoval s k) (ofRemovals (remove s k) ks) (accepted-finite s k (ok .0)) (computed-finite (remove s k) ks (ok .1))

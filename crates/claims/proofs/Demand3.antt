@@ -1,5 +1,5 @@
 -- Demand 3, whole; on lists of calls both claims and their positive forms.
-use Rattle.prelude.proofs.Prelude.{_≡_, sym, subst, _⊎_, inl, inr, List, ℕ, _+_, _*_, _<_, arith, T, length, getD, Float, ⊎-elim}
+use Rattle.prelude.proofs.Prelude.{_≡_, refl, sym, subst, _⊎_, inl, inr, List, ℕ, _+_, _*_, _<_, arith, T, length, getD, Float, ⊎-elim, is-true}
 use mathlib.Core.Path.{subst₂}
 use Rattle.complex.specs.{Complex, entry as entryOf, Matrix, entryAt, _≈_}
 use Rattle.lists.specs.Buses.{upTo, _isOneOf_, others}
@@ -8,19 +8,23 @@ use Rattle.complex.proofs.Matrices.{entry-within}
 use Rattle.complex.proofs.Finite.{all-at}
 use Rattle.complex.proofs.SameValue.{Number}
 use Rattle.kron_reduction.specs.Kron.{start}
-use Rattle.kron_reduction.specs.Reducer.{ReducerInput}
+use Rattle.kron_reduction.specs.Reducer.{ReducerInput, makingShapeRefusal, makingRefusal, AcceptedMaking}
+use Rattle.refusals.proofs.Numbers.{given-all}
 use Rattle.lists.proofs.Buses.{getD-in}
 use Rattle.kron_reduction.proofs.States.{eliminate-active}
 use Rattle.claims.specs.Accounts.{Call, left, entryIn, Account, fresh, stateAfter, account, kept, rowAt}
 use Rattle.claims.specs.Chains.{Chain, Into, Out}
 use Rattle.claims.specs.Finite.{ofAccount, Finite}
 use Rattle.claims.specs.Removals.{Unchanged, Alike, Independent, RemovalClaims}
+use Rattle.claims.specs.Untested.{untestedAccount}
 use Rattle.claims.specs.Demand3.{Demand3}
 use Rattle.claims.proofs.WardRows.{wardRows}
 use Rattle.claims.proofs.Locality.{Carried, after-all, old-or-chain, same-or-chains}
-use Rattle.claims.proofs.Bridge.{made-length, account-kept, all-accepted, entry-is}
+use Rattle.claims.proofs.Computed.{computed-finite}
+use Rattle.claims.proofs.Untested.{account-is}
+use Rattle.claims.proofs.Bridge.{made-has, made-length, account-kept, all-accepted, entry-is}
 
--- ---- what the premise gives
+-- ---- what finite numbers give
 
 number-at : (n : ℕ) (ys : List Float) → length ys ≡ 2 * (n * n) → F64s ys → T (allFinite ys) → (i j : ℕ) → i < n → j < n → Number (entryAt n ys i j)
 unfolding entryAt entryOf
@@ -28,14 +32,13 @@ number-at n ys e f h i j x y =
     let l = entry-within n n i j x y in
     ((all-at ys (2 * (i * n + j)) (omega arith) h, all-at ys (2 * (i * n + j) + 1) (omega arith) h), f (2 * (i * n + j)), f (2 * (i * n + j) + 1))
 
--- `search h` takes the part that is wanted: a premise that says more has it too
 carried : (M : ReducerInput) (calls : List Call) → F64s (M .given) → Finite M calls → Carried (account M calls .size) (account M calls .old) (account M calls .removed)
 unfolding ofAccount
 carried M calls f h = record {
   given = subst₂ (λ (n : ℕ) (Y : Matrix). (i j : ℕ) → i < n → j < n → Number (Y i j)) (sym (account-kept (fresh M) calls .0)) (sym (account-kept (fresh M) calls .1))
-      (unfold fresh in number-at (M .size) (M .given) (made-length M (search h)) f (search h));
+      (unfold fresh in number-at (M .size) (M .given) (made-length M (h .made)) f (h .given));
   accepted = all-accepted M calls;
-  computed = search h;
+  computed = h .computed;
 }
 
 -- the kept bus of row p is active at the end
@@ -53,7 +56,7 @@ module _ (M : ReducerInput) (calls : List Call) (f : F64s (M .given)) (h : Finit
       let a = account M calls in
       let i = rowAt a p in
       let j = rowAt a q in
-      subst (λ (c : Complex). (c ≈ a .old i j) ⊎ Chain (a .old) (a .removed) i j) (sym (entry-is M calls (search h) p q x y))
+      subst (λ (c : Complex). (c ≈ a .old i j) ⊎ Chain (a .old) (a .removed) i j) (sym (entry-is M calls (h .made) p q x y))
       (unfold stateAfter in old-or-chain (a .size) (a .old) (a .removed) (carried M calls f h) i j (active-at (a .size) (a .old) (a .removed) p x) (active-at (a .size) (a .old) (a .removed) q y))
 
   pub unchanged : Unchanged (account M calls) (left M calls)
@@ -84,8 +87,8 @@ module _ (M M' : ReducerInput) (calls calls' : List Call) (f : F64s (M .given)) 
       let there : entryIn (left M' calls') p q ≡ after-all (a .size) (a' .old) (a .removed) .entries i j =
       subst₂ (λ (n : ℕ) (R : List ℕ). let k = others R (upTo n) in p < length k → q < length k
       → entryIn (left M' calls') p q ≡ after-all n (a' .old) R .entries (getD k p 0) (getD k q 0))
-      (alike .size) (alike .removed) (entry-is M' calls' (search h') p q) x y in
-      rw (alike .removed, entry-is M calls (search h) p q x y, there)
+      (alike .size) (alike .removed) (entry-is M' calls' (h' .made) p q) x y in
+      rw (alike .removed, entry-is M calls (h .made) p q x y, there)
       (same-or-chains (a .size) (a .old) (a' .old) (a .removed) G (carried M calls f h) run (search alike) (search alike) i j on to)
 
 pub independent : (M M' : ReducerInput) (calls calls' : List Call) → F64s (M .given) → F64s (M' .given) → Finite M calls → Finite M' calls' → Independent (account M calls) (left M calls) (account M' calls') (left M' calls')
@@ -94,12 +97,30 @@ independent M M' calls calls' f f' h h' G alike p q x y apart = elim (same-or-jo
   | inr (u, v) ↦ absurd (elim apart [ inl (n, n') ↦ ⊎-elim n n' u | inr (n, n') ↦ ⊎-elim n n' v ])
 ]
 
+-- ---- what acceptance gives
+
+pub finite : (M : ReducerInput) (calls : List Call) → AcceptedMaking M → Finite M calls
+unfolding ofAccount
+finite M calls made = record {
+  made = made;
+  given = made-has M made .numbers;
+  computed = computed-finite (start (account M calls .size) (account M calls .old)) (account M calls .removed) (all-accepted M calls);
+}
+
+no-more-refused : (M : ReducerInput) (calls : List Call) → makingShapeRefusal M ≡ 0 → T (allFinite (M .given)) → T (allFinite (ofAccount (untestedAccount M calls)))
+    → AcceptedMaking M × (account M calls ≡ untestedAccount M calls)
+unfolding makingRefusal
+no-more-refused M calls shape given computed =
+    (rw (← given-all 0 (makingShapeRefusal M) (M .given) (sym shape) refl (is-true (allFinite (M .given)) given)) tt, account-is (fresh M) calls computed)
+
 -- ---- the demand
 
 pub removals : RemovalClaims
 removals = record {
-  unchanged = unchanged;
-  independent = λ M M' calls calls' f f' h h'. independent M M' calls calls' f f' (search h) (search h');
+  unchanged = λ M calls f made. unchanged M calls f (finite M calls (search made));
+  independent = λ M M' calls calls' f f' made made'. independent M M' calls calls' f f' (finite M calls (search made)) (finite M' calls' (search made'));
+  finite = finite;
+  no-more-refused = no-more-refused;
 }
 
 pub demand3 : Demand3

@@ -16,10 +16,11 @@ use Rattle.ward_equivalent.specs.Steps.{ofEach, ofRowTimes, ofEquivalentEntry, 
 use Rattle.ward_equivalent.proofs.Steps.{entries-computed, injections-computed}
 use Rattle.lists.proofs.Buses.{getD-in, in-append, below-all}
 use Rattle.ward_equivalent.specs.Numbers.{NumberedStudy, inRows, AcceptedStudy, afterCompute}
-use Rattle.ward_equivalent.proofs.Laws.{Sound, sound, left-accepted}
+use Rattle.ward_equivalent.proofs.Laws.{Sound, sound, left-accepted, given-finite, computed-finite}
+use Rattle.ward_equivalent.proofs.FiniteAnswers.{matrix-given}
 use Rattle.lists.proofs.Lookups.{getD-map}
 use Rattle.ward_equivalent.proofs.Sums.{Null, plus0-zero, products-null, each-at}
-use Rattle.claims.specs.WardRows.{givenOf, FiniteStudy, old, rowBuses, busOfRow, ZeroRow, KeepsValues, ZeroAt, KeepsRow}
+use Rattle.claims.specs.WardRows.{old, rowBuses, busOfRow, ZeroRow, KeepsValues, ZeroAt, KeepsRow}
 
 -- ---- rows and places
 
@@ -139,11 +140,10 @@ module _ (S : Study) (s : Sound S) (f64s : F64s (S .given)) (given : T (allFinit
         reactive = λ t l e. rw (getD-map (injectionQ S) 0 nan (S .boundary) t l) (F.zero-eq (injectionQ S (getD (S .boundary) t 0)) (zero-injections t l e .1));
       }
 
--- `search f` takes the part of the premise that is wanted: one that says more has it too
-pub zero-row : (N : NumberedStudy) (a : Allowance) (o : Outputs) → F64s (N .study .given) → AcceptedStudy N a o → FiniteStudy (inRows N)
+pub zero-row : (N : NumberedStudy) (a : Allowance) (o : Outputs) → F64s (N .study .given) → AcceptedStudy N a o
     → (p : ℕ) → p < length (rowBuses (inRows N)) → ZeroRow (inRows N) p → KeepsRow (inRows N) (afterCompute N a o .outputs) p
-unfolding givenOf inRows
-zero-row N a o f64s h f p at none =
+unfolding inRows
+zero-row N a o f64s h p at none =
     let S = inRows N in
     subst (λ (room : Outputs). KeepsRow S room p) (sym (left-accepted N a o h))
-    (keeps-row S (sound N a o h) f64s (search all-left) (search f) p at none (zeros (length (o .work))))
+    (keeps-row S (sound N a o h) f64s (matrix-given S (given-finite N a o h)) (computed-finite N a o h) p at none (zeros (length (o .work))))

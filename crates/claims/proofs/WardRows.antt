@@ -6,15 +6,16 @@ use Rattle.binary64.specs.Values.{allFinite, F64s}
 use Rattle.binary64.proofs.Floats as F
 use Rattle.complex.proofs.Finite.{all-left, all-right, all-at, zero-times}
 use Rattle.lists.specs.Buses.{_isOneOf_}
-use Rattle.ward_equivalent.specs.Ward.{Outputs, retained, externals, admittance}
+use Rattle.ward_equivalent.specs.Ward.{Outputs, givenOf, retained, externals, admittance}
 use Rattle.ward_equivalent.specs.Extended.{ExtendedStudy, ExtendedOutputs, deviation, boundaryTie, weight, weightSum, voltageCorrection, reactive, qCompensation}
 use Rattle.refusals.specs.declared.Allowance.{Allowance}
 use Rattle.ward_equivalent.specs.Steps.{ofStudy, ofTies, ofCorrection, ofExtended}
-use Rattle.ward_equivalent.proofs.Laws.{soundX, left-acceptedX, correction-accepted, compensation-accepted}
+use Rattle.ward_equivalent.proofs.Laws.{soundX, left-acceptedX, correction-accepted, compensation-accepted, given-finite, computed-finite, given-finiteX, computed-finiteX}
+use Rattle.ward_equivalent.proofs.FiniteAnswers.{matrix-given, finite-studies}
 use Rattle.lists.proofs.Lookups.{getD-map}
 use Rattle.ward_equivalent.proofs.Sums.{Null, plus0-zero, sum-zero, magnitude-zero, none-above, each-at}
 use Rattle.ward_equivalent.specs.Numbers.{NumberedExtended, inRows, extendedInRows, AcceptedExtended, afterComputeExtended}
-use Rattle.claims.specs.WardRows.{givenOf, FiniteExtended, old, rowBuses, busOfRow, ZeroRow, ZeroAt, KeepsRow, KeepsExtendedRow, WardRows}
+use Rattle.claims.specs.WardRows.{old, rowBuses, busOfRow, ZeroRow, ZeroAt, KeepsRow, KeepsExtendedRow, WardRows}
 use Rattle.ward_equivalent.proofs.Steps.{study-computed, corrections-computed}
 use Rattle.claims.proofs.WardKeeps.{row-null, bus-at, keeps-row, zero-row}
 
@@ -85,15 +86,14 @@ module _ (S : ExtendedStudy) (computed : T (allFinite (ofExtended S))) (p : ℕ)
       rw (getD-map (qCompensation S) 0 nan (S .study .boundary) t l)
       (F.zero-eq (qCompensation S (getD (S .study .boundary) t 0)) (no-compensation S (getD (S .study .boundary) t 0) (none-at t q) (ties-computed S t l computed)))
 
--- `search f` takes the part of the premise that is wanted: one that says more has it too
-pub zero-rowX : (X : NumberedExtended) (a : Allowance) (o : ExtendedOutputs) → F64s (X .study .study .given) → AcceptedExtended X a o → FiniteExtended (extendedInRows X)
+pub zero-rowX : (X : NumberedExtended) (a : Allowance) (o : ExtendedOutputs) → F64s (X .study .study .given) → AcceptedExtended X a o
     → (p : ℕ) → p < length (rowBuses (inRows (X .study))) → ZeroRow (inRows (X .study)) p → KeepsExtendedRow (extendedInRows X) (afterComputeExtended X a o .outputs) p
-unfolding givenOf inRows extendedInRows
-zero-rowX X a o f64s h f p at none =
+unfolding inRows extendedInRows
+zero-rowX X a o f64s h p at none =
     let S = inRows (X .study) in
     let E = extendedInRows X in
-    let given : T (allFinite (S .given)) = search all-left in
-    let computed : T (allFinite (ofExtended E)) = search f in
+    let given : T (allFinite (S .given)) = matrix-given S (all-left (givenOf S) (X .v-ext) (given-finiteX X a o h)) in
+    let computed : T (allFinite (ofExtended E)) = computed-finiteX X a o h in
     let study : T (allFinite (ofStudy S)) = study-computed E computed in
     record {
       row = subst (λ (room : Outputs). KeepsRow S room p) (sym (left-acceptedX X a o h)) (keeps-row S (soundX X a o h) f64s given study p at none (zeros (length (o .outputs .work))));
@@ -101,8 +101,14 @@ zero-rowX X a o f64s h f p at none =
       compensation = subst (ZeroAt S p) (sym (compensation-accepted X a o h)) (compensation-zero E computed p none);
     }
 
+-- `search h` takes the part of the premise that is wanted: one that says more has it too
 pub wardRows : WardRows
+unfolding extendedInRows
 wardRows = record {
   study = λ N a o f64s h. zero-row N a o f64s (search h);
   extended = λ N a o f64s h. zero-rowX N a o f64s (search h);
+  finite = λ N a o h. record { given = given-finite N a o h; computed = computed-finite N a o h };
+  finite-extended = λ N a o h. record { given = given-finiteX N a o h; computed = computed-finiteX N a o h };
+  accepts = λ N a o shape f. finite-studies .accepted N a o shape (f .given) (f .computed);
+  accepts-extended = λ N a o shape f. finite-studies .accepted-extended N a o shape (f .given) (f .computed);
 }

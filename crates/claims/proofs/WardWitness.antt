@@ -5,20 +5,18 @@ use Rattle.complex.specs.{cadd, csub, cmul, cdiv, complexInv, one, entry, magni
 use Rattle.binary64.specs.Root.{root}
 use Rattle.lists.specs.Buses.{upTo, allBelow}
 use Rattle.binary64.specs.Values.{isZero, allFinite}
-use Rattle.complex.proofs.Finite.{all-left}
 use Rattle.solver.specs.GaussJordan.{solution, singularSystem}
 use Rattle.solver.specs.Solving.{skipped}
 use Rattle.refusals.specs.declared.Allowance.{Allowance}
 use Rattle.refusals.specs.declared.Allowance.the-variants.{Rows}
 use Rattle.refusals.specs.Work.{numbersIn, thenWork}
 use Rattle.solver.specs.Steps.{ofSearch, ofScaling, ofReducing, stepsOfRow, stepsOfRows, stepsFrom, stepsOfRun, stepsOfSolve}
-use Rattle.ward_equivalent.specs.Ward.{Study, Outputs}
-use Rattle.ward_equivalent.specs.Steps.{ofStudy, ofExtended}
+use Rattle.ward_equivalent.specs.Ward.{Study, Outputs, givenOf}
+use Rattle.ward_equivalent.specs.Steps.{ofExtended}
 use Rattle.ward_equivalent.specs.Extended.{ExtendedStudy, ExtendedOutputs}
 use Rattle.ward_equivalent.specs.Numbers.{NumberedStudy, NumberedExtended, numberedExtendedOf, inRows, extendedInRows, AcceptedStudy, AcceptedExtended, afterCompute, afterComputeExtended}
-use Rattle.ward_equivalent.proofs.Steps.{study-computed}
 use Rattle.claims.specs.Finite.{ofBitPatterns}
-use Rattle.claims.specs.WardRows.{givenOf, FiniteStudy, FiniteExtended, old, rowBuses, ZeroRow, KeepsRow, KeepsExtendedRow}
+use Rattle.claims.specs.WardRows.{FiniteStudy, FiniteExtended, old, rowBuses, ZeroRow, KeepsRow, KeepsExtendedRow}
 use Rattle.claims.proofs.Demand3.{demand3}
 use Rattle.claims.proofs.BitPatterns.{words-f64s, study}
 use Rattle.claims.proofs.Witnesses.{of-each}
@@ -82,27 +80,6 @@ NX = numberedExtendedOf N (ofBitPatterns (II ∷ II ∷ []))
 abbrev X : ExtendedStudy
 X = extendedInRows NX
 
-given-x : T (allFinite (givenOf S ++ X .v-ext))
-unfolding studied
-given-x = tt
-
-computed-x : T (allFinite (ofExtended X))
-unfolding studied
-computed-x = tt
-
--- its numbers begin with those of the study itself
-given : T (allFinite (givenOf S))
-unfolding extendedInRows
-given = let h = given-x in search all-left
-
-computed : T (allFinite (ofStudy S))
-unfolding extendedInRows
-computed = study-computed X computed-x
-
-finite-study : FiniteStudy S
-unfolding inRows ofBitPatterns ofBits lt
-finite-study = record { given = search given; computed = search computed }
-
 -- row 1, of bus 3, is the boundary's first; row 0, of bus 4, is internal
 zero-rows : ZeroRow S 1 × ZeroRow S 0
 unfolding studied
@@ -111,8 +88,8 @@ zero-rows = (of-each (λ (e : ℕ). Zero (old S 3 e)) (S .external) (tt, (tt, tt
 keeps : KeepsRow S (afterCompute N eight o .outputs) 1 × KeepsRow S (afterCompute N eight o .outputs) 0
 unfolding inRows rowBuses
 keeps = (
-  demand3 .ward .study N eight o (words-f64s line) (search accepted) finite-study 1 (lit< tt) (zero-rows .0),
-  demand3 .ward .study N eight o (words-f64s line) (search accepted) finite-study 0 (lit< tt) (zero-rows .1),
+  demand3 .ward .study N eight o (words-f64s line) (search accepted) 1 (lit< tt) (zero-rows .0),
+  demand3 .ward .study N eight o (words-f64s line) (search accepted) 0 (lit< tt) (zero-rows .1),
 )
 
 -- row 2, of bus 2: its own entry was 2^501 and is about two thirds of it, and P was 0 and is 1
@@ -129,13 +106,16 @@ accepted-x : AcceptedExtended NX eight wide
 unfolding studied
 accepted-x = tt
 
+-- and so every number is finite
+finite-study : FiniteStudy S
+finite-study = demand3 .ward .finite N eight o accepted
+
 finite-extended : FiniteExtended X
-unfolding extendedInRows ofBitPatterns one ofBits lt eq
-finite-extended = record { given = search given-x; computed = search computed-x }
+finite-extended = demand3 .ward .finite-extended NX eight wide accepted-x
 
 keeps-x : KeepsExtendedRow X (afterComputeExtended NX eight wide .outputs) 1
 unfolding extendedInRows rowBuses
-keeps-x = demand3 .ward .extended NX eight wide (words-f64s line) (search accepted-x) finite-extended 1 (lit< tt) (zero-rows .0)
+keeps-x = demand3 .ward .extended NX eight wide (words-f64s line) (search accepted-x) 1 (lit< tt) (zero-rows .0)
 
 -- row 2, of bus 2, gets a correction
 changes-x : T (not (isZero (getD (afterComputeExtended NX eight wide .outputs .correction) 1 nan)))

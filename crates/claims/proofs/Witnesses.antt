@@ -1,16 +1,17 @@
 -- The premises of demand 3 can be met, with calls that are refused, several buses removed and large numbers, and its conclusions say something: entries that stay and entries that do not.
 use Rattle.prelude.proofs.Prelude.{_≡_, refl, sym, _∙_, inl, inr, List, [], _∷_, ℕ, _+_, _<_, arith, replicate, lit<, sub, mul, div, lt, eq, ofBits}
 use Rattle.complex.specs.{csub, cmul, cdiv, entry as entryOf, Matrix, entryAt, _≈_}
-use Rattle.lists.specs.Buses.{upTo, _isOneOf_, others, place, rising, allBelow, allZero, rowsIn}
+use Rattle.lists.specs.Buses.{upTo, _isOneOf_, others, place, rising, allBelow, allZero, repeats, rowsIn}
 use Rattle.binary64.specs.Values.{allFinite}
-use Rattle.refusals.specs.Refusals.{limit}
+use Rattle.refusals.specs.Refusals.{limit, thenGiven}
 use Rattle.lists.proofs.Buses.{in-cases, in-upTo}
 use Rattle.kron_reduction.specs.Kron.{kron, removalRefusal, eliminate, carriedOut, ofRow, ofRows, ofRemovals}
-use Rattle.kron_reduction.specs.Reducer.{ReducerInput, reducerInputOf, makingRefusal, AcceptedMaking, afterNew, soundRows, soundNumbers, inputRefusal, stateOf, stored, leaves, removedRows, afterBus, afterBuses}
+use Rattle.kron_reduction.specs.Reducer.{ReducerInput, reducerInputOf, makingShapeRefusal, makingRefusal, AcceptedMaking, afterNew, soundRows, soundNumbers, inputShapeRefusal, inputRefusal, stateOf, stored, leaves, removedRows, afterBus, afterBuses}
 use Rattle.claims.specs.Accounts.{Call, bus, buses, afterCall, leftFrom, left, entryIn, fresh, stateAfter, removes, step, accountFrom, Account, account, kept}
 use Rattle.claims.specs.Chains.{Linked, Steps, Within, Chain, Into, Out, SameOutside}
 use Rattle.claims.specs.Finite.{ofAccount, Finite, ofBitPatterns}
 use Rattle.claims.specs.Removals.{Alike, NoInto}
+use Rattle.claims.specs.Untested.{admitted, untestedRemoves, untestedStep, untestedFrom, untestedAccount}
 use Rattle.claims.specs.ByNumber.{oldBetween, AlikeByNumber}
 use Rattle.claims.proofs.Demand3.{demand3}
 use Rattle.claims.proofs.BitPatterns.{words-f64s}
@@ -23,7 +24,8 @@ book-words = 0x3ff0000000000000 ∷ 0 ∷ 0xbff0000000000000 ∷ 0 ∷ 0xbff0000
 -- to open this is to open all that lists of calls compute with
 unfoldable pub opened : Unit {0}
 unfolding book-words ofBitPatterns csub cmul cdiv upTo others place entryOf entryAt kron removalRefusal eliminate carriedOut fresh stateAfter
-    removes step accountFrom sub mul div lt ofBits eq stored makingRefusal afterNew rising allBelow allZero soundRows soundNumbers inputRefusal
+    removes step accountFrom sub mul div lt ofBits eq stored makingShapeRefusal makingRefusal afterNew rising allBelow allZero soundRows soundNumbers
+    inputShapeRefusal inputRefusal thenGiven
     stateOf leaves removedRows afterBus afterBuses afterCall leftFrom left allFinite ofAccount ofRemovals ofRow ofRows
 opened = tt
 
@@ -132,7 +134,7 @@ first-rows = ((only-to-1 (a .old) 0 (λ n. n) (λ n. n), only-to-1 (a .old) 1 (�
 
 -- so the entry from bus 0 to bus 4 stays, though bus 0 has an entry to a removed bus, and another removed bus has one to bus 4
 stays : entryIn (left first first-calls) 0 1 ≈ a .old 0 4
-stays = (rw first-kept at (demand3 .removals .unchanged first first-calls (words-f64s first-words) first-finite 0 1))
+stays = (rw first-kept at (demand3 .removals .unchanged first first-calls (words-f64s first-words) (unfold opened in search tt) 0 1))
     (lit< tt) (lit< tt) (no-chain (a .old) (a .removed) (rw first-removed (first-rows .0)) 4 (first-rows .1))
 
 -- the chain from bus 4 to bus 0 meets all removed buses, and the entry there, which was 0, is not
@@ -226,7 +228,7 @@ an-out = (2, [], tt, tt, tt)
 -- so row 0 is the same in both, while the entry at bus 4, which has chains into the group and out of it, is not
 row-same : (q : ℕ) → q < 2 → entryIn (left first first-calls) 0 q ≈ entryIn (left second second-calls) 0 q
 row-same q h =
-    (rw first-kept at (demand3 .removals .independent first second first-calls second-calls (words-f64s first-words) (words-f64s second-words) (search first-finite) (search second-finite) G alike 0 q))
+    (rw first-kept at (demand3 .removals .independent first second first-calls second-calls (words-f64s first-words) (words-f64s second-words) (unfold opened in search tt) (unfold opened in search tt) G alike 0 q))
     (lit< tt) h (inl none-into)
 
 entries-differ : entryIn (left first first-calls) 1 1 ≈ entryIn (left second second-calls) 1 1 → ⊥
@@ -275,3 +277,12 @@ unfolding fresh step accountFrom rowsIn place
 twin-alike =
     let (size, removed, among, outside) = alike-by-number first twin first-calls twin-calls (both-made .0) (both-made .1) GN by-number in
     record { size = size; removed = removed; group = search among; outside = search outside }
+
+-- ---- nothing finite is refused: the same removals by 11 and 12 alone
+
+untested-same : untestedAccount book book-calls .removed ≡ 1 ∷ []
+unfolding opened admitted untestedRemoves untestedStep untestedFrom
+untested-same = refl
+
+all-let-through : account book book-calls ≡ untestedAccount book book-calls
+all-let-through = demand3 .removals .no-more-refused book book-calls (unfold opened repeats in refl) (unfold opened in tt) (unfold opened admitted untestedRemoves untestedStep untestedFrom in tt) .1

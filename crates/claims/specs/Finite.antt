@@ -1,4 +1,5 @@
--- The premise of demand 3 on lists of calls: all numbers given, and all computed in the removals carried out, are finite.
+-- What 01 says of demand 3's lists of calls, and what now holds of every accepted making: all numbers given, and all computed in the
+-- removals carried out, are finite.
 use Prim.Native.Nat.{ℕ}
 use mathlib.Core.List.{List, map}
 use lib.Dec.{T}
@@ -12,7 +13,7 @@ use Rattle.claims.specs.Accounts.{Call, Account, account}
 unfoldable pub ofAccount : Account → List Float
 ofAccount a = ofRemovals (start (a .size) (a .old)) (a .removed)
 
--- an accepted making and a list of calls, with the premise
+-- an accepted making and a list of calls, with finite numbers alone
 pub record Finite (M : ReducerInput) (calls : List Call) : Type 0 where
   pub made : AcceptedMaking M
   pub given : T (allFinite (M .given))

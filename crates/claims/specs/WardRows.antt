@@ -2,7 +2,7 @@
 -- A study's lists name buses by number; here each is told by its row in the given matrix (`inRows`).
 use Prim.Native.Nat.{ℕ, _+_, _<_}
 use mathlib.Core.Path.{_≡_}
-use mathlib.Core.List.{List, _∷_, _++_}
+use mathlib.Core.List.{List, _++_}
 use lib.Dec.{T}
 use lib.ListN.{length, getD}
 use lib.Ieee.{Float, nan}
@@ -11,17 +11,16 @@ use Rattle.complex.specs.Values.{_≈_, Zero}
 use Rattle.binary64.specs.Values.{isZero, allFinite, F64s}
 use Rattle.lists.specs.Buses.{_isOneOf_}
 use Rattle.refusals.specs.declared.Allowance.{Allowance}
-use Rattle.ward_equivalent.specs.Ward.{Study, Outputs}
+use Rattle.refusals.specs.declared.Allowance.the-variants.{Rows}
+use Rattle.refusals.specs.Work.{reductions, _noMoreThan_}
+use Rattle.ward_equivalent.specs.Ward.{Study, Outputs, givenOf}
 use Rattle.ward_equivalent.specs.Extended.{ExtendedStudy, ExtendedOutputs}
 use Rattle.ward_equivalent.specs.Numbers.{NumberedStudy, NumberedExtended, inRows, extendedInRows, AcceptedStudy, AcceptedExtended}
-use Rattle.ward_equivalent.specs.Numbers.{afterCompute, afterComputeExtended}
-use Rattle.ward_equivalent.specs.Steps.{ofStudy, ofExtended}
+use Rattle.ward_equivalent.specs.Numbers.{wardShapeRefusal, extendedShapeRefusal, afterCompute, afterComputeExtended}
+use Rattle.ward_equivalent.specs.Steps.{stepsOf, ofStudy, ofExtended}
+use Rattle.ward_equivalent.specs.FiniteAnswers.{Regular}
 
--- ---- the premise
-
--- all numbers of a study that are given
-unfoldable pub givenOf : Study → List Float
-givenOf S = S .given ++ (S .base ∷ (S .p-ext ++ S .q-ext))
+-- ---- 01's premise
 
 -- all given and all computed in the study are finite
 pub record FiniteStudy (S : Study) : Type 0 where
@@ -78,10 +77,20 @@ pub record KeepsExtendedRow (S : ExtendedStudy) (o : ExtendedOutputs) (p : ℕ) 
 
 -- for every accepted study, of either kind and under any allowance; the matrix is a slice of f64 (F64s), which is no restriction
 pub record WardRows : Type 0 where
-  pub study : (N : NumberedStudy) (a : Allowance) (o : Outputs) → F64s (N .study .given) → AcceptedStudy N a o → FiniteStudy (inRows N)
+  pub study : (N : NumberedStudy) (a : Allowance) (o : Outputs) → F64s (N .study .given) → AcceptedStudy N a o
       → (p : ℕ) → p < length (rowBuses (inRows N))
       → ZeroRow (inRows N) p → KeepsRow (inRows N) (afterCompute N a o .outputs) p
-  pub extended : (N : NumberedExtended) (a : Allowance) (o : ExtendedOutputs) → F64s (N .study .study .given)
-      → AcceptedExtended N a o → FiniteExtended (extendedInRows N)
+  pub extended : (N : NumberedExtended) (a : Allowance) (o : ExtendedOutputs) → F64s (N .study .study .given) → AcceptedExtended N a o
       → (p : ℕ) → p < length (rowBuses (inRows (N .study)))
       → ZeroRow (inRows (N .study)) p → KeepsExtendedRow (extendedInRows N) (afterComputeExtended N a o .outputs) p
+  -- 01's premise follows: every number given, and every one computed on the way, is finite
+  pub finite : (N : NumberedStudy) (a : Allowance) (o : Outputs) → AcceptedStudy N a o → FiniteStudy (inRows N)
+  pub finite-extended : (N : NumberedExtended) (a : Allowance) (o : ExtendedOutputs) → AcceptedExtended N a o
+      → FiniteExtended (extendedInRows N)
+  -- and nothing finite is refused: where 1, 2, 3, 7 and 8 are not told, every number is finite, no pivot of Y_ee is too small and the
+  -- allowance is enough for all solves, the study is accepted
+  pub accepts : (N : NumberedStudy) (a : Allowance) (o : Outputs) → wardShapeRefusal N o ≡ 0 → FiniteStudy (inRows N)
+      → Regular (inRows N) → Rows (reductions (stepsOf (inRows N))) noMoreThan a → AcceptedStudy N a o
+  pub accepts-extended : (N : NumberedExtended) (a : Allowance) (o : ExtendedOutputs) → extendedShapeRefusal N o ≡ 0
+      → FiniteExtended (extendedInRows N) → Regular (inRows (N .study))
+      → Rows (reductions (stepsOf (inRows (N .study)))) noMoreThan a → AcceptedExtended N a o

@@ -5,6 +5,8 @@ pub mod Matrices
 pub mod Values
 pub mod Computed
 pub mod Magnitude
+pub mod Leaves
+pub mod Inner
 -- what proofs of other crates name, as names of this crate
 pub use declared.Complex.{Complex}
 unfoldable pub use Constants.{plus0, one, divisionLimit, smallMagnitude, tieThreshold}
@@ -14,5 +16,5 @@ unfoldable pub use Entries.{entry, put}
 pub use Matrices.{Matrix}
 unfoldable pub use Matrices.{entryAt, row, rows, grid, zeros}
 pub use Values.{_≈_, Zero, NonZero}
-pub use Computed.{ofSum, ofDifference, ofProduct, ofSqmag}
+pub use Computed.{ofParts, ofSum, ofDifference, ofProduct, ofSqmag, ofQuotient}
 unfoldable pub use Magnitude.{abs, magnitude}

@@ -93,14 +93,13 @@ pub fn lodf_matrix(
 ) -> Outcome
     ensures answer { λ r. ⌜
         r ≡ refusals.outcome
-        (spec.lodfRefusal n (length (now (ptdf .entry))) (now («branch_from» .entry)) (now («branch_to» .entry))
-        (length (now (lodf .entry))))
+        (spec.lodfRefusal n (now (ptdf .entry)) (now («branch_from» .entry)) (now («branch_to» .entry)) (length (now (lodf .entry))))
         ⌝ }
     ensures output { λ _. ⌜
         now (lodf .exit) ≡ spec.lodfOutput n (now (ptdf .entry)) (now («branch_from» .entry)) (now («branch_to» .entry)) (now (lodf .entry))
         ⌝ }
 {
-    let f = lodf_refusal(n, ptdf.len(), branch_from, branch_to, lodf.len());
+    let f = lodf_refusal(n, ptdf, branch_from, branch_to, lodf.len());
     if f != 0 {
         return Outcome::Refused(f);
     }

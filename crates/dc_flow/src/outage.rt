@@ -1,11 +1,14 @@
 // The line outage factors, from the PTDF: one row for each branch, one column for each bus.
+use binary64::finite::all_finite;
+use binary64::finite::finite;
 use complex::constants::SMALL_MAGNITUDE;
-use complex::magnitude::abs;
+use complex::raw::abs;
 use refusals::LIMIT;
 ghost use mathlib.Core.Path.{_≡_};
 ghost use Prim.Native.Nat.{_<_, _≤_, _*_};
 ghost use lib.ListN.{length};
 ghost use lib.Dec.{T, eqb};
+ghost use Rattle.binary64.specs.Values.{allFinite};
 ghost use Rattle.refusals.specs.Refusals as refusals;
 ghost use Rattle.lists.specs.Buses as buses;
 ghost use Rattle.dc_flow.specs.Dc as spec;
@@ -171,4 +174,99 @@ fn outage_factor(l: usize, k: usize, taken: f64, d: f64) -> f64
         return 0.0;
     }
     taken / d
+}
+
+// Whether every number that the outage factors take is finite. A number that is not finite stays, but as a divisor: so the
+// denominators and the factors tell it. One branch alone takes none.
+pub fn outages_finite(n: usize, ptdf: &[f64], froms: &[usize], tos: &[usize]) -> bool
+    requires { ⌜
+        (length (now froms) ≤ refusals.limit)
+        × (length (now tos) ≡ length (now froms))
+        ⌝ }
+    requires { ⌜
+        (T (buses.allBelow n (now froms)))
+        × (T (buses.allBelow n (now tos)))
+        ⌝ }
+    requires { ⌜ length (now ptdf) ≡ length (now froms) * n ⌝ }
+    ensures { λ r. ⌜ r ≡ allFinite (spec.ofLodf n (now (ptdf .entry)) (now (froms .entry)) (now (tos .entry))) ⌝ }
+{
+    let m = froms.len();
+    if m < 2 {
+        return true;
+    }
+    let mut ds = [0.0; LIMIT];
+    finite_by(n, ptdf, froms, tos, &mut ds[0..m])
+}
+
+// With room for the denominators, of two branches or more.
+fn finite_by(n: usize, ptdf: &[f64], froms: &[usize], tos: &[usize], ds: &mut [f64]) -> bool
+    requires { ⌜
+        (length (now ds) ≡ length (now froms))
+        × (length (now tos) ≡ length (now froms))
+        × (2 ≤ length (now froms))
+        ⌝ }
+    requires { ⌜
+        (T (buses.allBelow n (now froms)))
+        × (T (buses.allBelow n (now tos)))
+        ⌝ }
+    requires { ⌜ length (now ptdf) ≡ length (now froms) * n ⌝ }
+    ensures { λ r. ⌜ r ≡ allFinite (spec.ofLodf n (now (ptdf .entry)) (now (froms .entry)) (now (tos .entry))) ⌝ }
+{
+    denominators(n, ptdf, froms, tos, ds);
+    if !all_finite(ds) {
+        return false;
+    }
+    rows_finite(n, ptdf, froms, tos, ds)
+}
+
+// Whether the factors of all rows are finite.
+fn rows_finite(n: usize, ptdf: &[f64], froms: &[usize], tos: &[usize], ds: &[f64]) -> bool
+    requires { ⌜ length (now tos) ≡ length (now froms) ⌝ }
+    requires { ⌜
+        (T (buses.allBelow n (now froms)))
+        × (T (buses.allBelow n (now tos)))
+        ⌝ }
+    requires { ⌜ length (now ptdf) ≡ length (now froms) * n ⌝ }
+    requires { ⌜ now ds ≡ spec.realRow (spec.denominator n (now ptdf) (now froms) (now tos)) (length (now froms)) ⌝ }
+    ensures { λ r. ⌜
+        r ≡ allFinite (spec.realGrid (spec.outage n (now (ptdf .entry)) (now (froms .entry)) (now (tos .entry)))
+        (length (now (froms .entry))) (length (now (froms .entry))))
+        ⌝ }
+{
+    let mut l = 0;
+    let mut a = 0;
+    while l < froms.len() {
+        let ae = a + n;
+        if !row_finite(l, &ptdf[a..ae], froms, tos, ds) {
+            return false;
+        }
+        a = ae;
+        l += 1;
+    }
+    true
+}
+
+// Whether the factors of row l are finite, from that row of the PTDF.
+fn row_finite(l: usize, t: &[f64], froms: &[usize], tos: &[usize], ds: &[f64]) -> bool
+    requires { ⌜
+        (T (buses.allBelow (length (now t)) (now froms)))
+        × (T (buses.allBelow (length (now t)) (now tos)))
+        ⌝ }
+    requires { ⌜
+        (length (now tos) ≡ length (now froms))
+        × (length (now ds) ≡ length (now froms))
+        ⌝ }
+    ensures { λ r. ⌜
+        r ≡ allFinite (spec.realRow (rows.rowOutage l (now (t .entry)) (now (froms .entry)) (now (tos .entry)) (now (ds .entry)))
+        (length (now (froms .entry))))
+        ⌝ }
+{
+    let mut k = 0;
+    while k < froms.len() {
+        if !finite(outage_factor(l, k, row_transfer(t, froms[k], tos[k]), ds[k])) {
+            return false;
+        }
+        k += 1;
+    }
+    true
 }

@@ -1,6 +1,6 @@
 // The susceptance matrix, branch after branch; reactances and susceptances in per unit.
 use complex::constants::SMALL_MAGNITUDE;
-use complex::magnitude::abs;
+use complex::raw::abs;
 ghost use mathlib.Core.Path.{_≡_};
 ghost use Prim.Native.Nat.{_<_, _*_, _+_};
 ghost use lib.ListN.{length};

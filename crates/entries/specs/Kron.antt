@@ -7,7 +7,7 @@ use mathlib.Core.List.{List}
 use lib.Dec.{eqb, ltb}
 use lib.ListN.{length}
 use lib.Ieee.{Float}
-use Rattle.refusals.specs.Refusals.{limit, tooMany, wrongLength, notActive, smallEntry, refuse, number}
+use Rattle.refusals.specs.Refusals.{limit, tooMany, wrongLength, notActive, smallEntry, computedNotFinite, refuse, number}
 use Rattle.complex.specs.declared.Complex.{Complex}
 use Rattle.kron_reduction.specs.Reducer.{AfterBus, AfterBuses, reducerInputOf, afterNew, afterBus, afterBuses}
 use Rattle.kron_reduction.specs.Reading as reading
@@ -43,9 +43,9 @@ BusRemoved rec ys bus = BusRemovedBy (afterBus (recordIn rec) ys bus) rec ys
 
 -- ---- a list of buses
 
--- the refusal where it is told from the input; 0 for a list that is carried out or stopped, by 11 or 12
+-- the refusal where it is told from the input; 0 for a list that is carried out or stopped, by 11, 12 or 20
 unfoldable pub fromInput : ℕ → ℕ
-fromInput f = cond (eqb f notActive || eqb f smallEntry) 0 f
+fromInput f = cond (eqb f notActive || eqb f smallEntry || eqb f computedNotFinite) 0 f
 
 -- the refusal of a list that removed no bus; 0 of one that removed some, stopped or not
 unfoldable pub noneRemoved : ℕ → ℕ → ℕ

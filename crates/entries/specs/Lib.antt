@@ -4,3 +4,4 @@ pub mod Answers
 pub mod Kron
 pub mod Numbers
 pub mod Studies
+pub mod Singles

@@ -53,7 +53,7 @@ pub extern "C" fn jeturipe_lodf_matrix(
     lodf: &mut [f64],
 ) -> u32
     ensures { λ f. ⌜ (f ≡ refusals.number (refusals.outcome
-        (spec.lodfRefusal n (length (now (ptdf .entry))) (now («branch_from» .entry)) (now («branch_to» .entry))
+        (spec.lodfRefusal n (now (ptdf .entry)) (now («branch_from» .entry)) (now («branch_to» .entry))
         (length (now (lodf .entry))))))
         × (now (lodf .exit)
         ≡ spec.lodfOutput n (now (ptdf .entry)) (now («branch_from» .entry)) (now («branch_to» .entry)) (now (lodf .entry))) ⌝ }

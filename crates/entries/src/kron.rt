@@ -9,6 +9,7 @@ use equivalents::kron::KronReducer;
 use equivalents::kron::eliminated_bus;
 use equivalents::kron::eliminated_buses;
 use equivalents::kron::number_of;
+use refusals::COMPUTED_NOT_FINITE;
 use refusals::LIMIT;
 use refusals::NOT_ACTIVE;
 use refusals::SMALL_ENTRY;
@@ -64,14 +65,21 @@ pub extern "C" fn jeturipe_eliminate_bus(rec: &mut [u8], y: &mut [f64], bus: u32
     refusal
 }
 
-// The refusal where it is told from the input; 0 where a list is carried out or stopped, by 11 or 12.
+// The refusal where it is told from the input; 0 where a list is carried out or stopped, by 11, 12 or 20.
 fn from_input(refusal: u32) -> u32
     ensures { λ r. ⌜ r ≡ spec.fromInput refusal ⌝ }
 {
     if refusal == NOT_ACTIVE {
         return 0;
     }
-    if refusal == SMALL_ENTRY { 0 } else { refusal }
+    if refusal == SMALL_ENTRY {
+        return 0;
+    }
+    if refusal == COMPUTED_NOT_FINITE {
+        0
+    } else {
+        refusal
+    }
 }
 
 // The refusal of a list that removed no bus, else 0.
@@ -81,7 +89,8 @@ fn none_removed(refusal: u32, count: usize) -> u32
     if count == 0 { refusal } else { 0 }
 }
 
-// Removes the buses of a list, in order, up to the first refused one; removed is how many it removed, also where 11 or 12 stops it.
+// Removes the buses of a list, in order, up to the first refused one; removed is how many it removed, also where 11, 12 or 20 stops
+// it.
 #[no_mangle]
 pub extern "C" fn jeturipe_eliminate_buses(
     rec: &mut [u8],

@@ -1,16 +1,18 @@
 -- What the calls on a record answer and leave, from the tests that the code makes and from what a list of removals leaves.
-use Rattle.prelude.proofs.Prelude.{_≡_, refl, sym, ap, _∙_, not, _||_, _⊎_, inl, inr, List, [], _∷_, _++_, ℕ, zero, suc, _+_, _-_, _*_, _≤_, _<_, arith, T, eqb, ltb, length, take, drop, Float, ap₂, append-nil, zero-add, sub-zero, le-trans, mul-le-mul, mul-le-mul-left, ne-eqb, ltb-false, length-drop, drop-of-length-le, length-take-le}
+use Rattle.prelude.proofs.Prelude.{_≡_, refl, sym, ap, _∙_, true, false, not, _||_, _⊎_, inl, inr, List, [], _∷_, _++_, ℕ, zero, suc, _+_, _-_, _*_, _≤_, _<_, arith, T, eqb, ltb, length, take, drop, Float, ap₂, append-nil, zero-add, sub-zero, le-trans, mul-le-mul, mul-le-mul-left, ne-eqb, ltb-false, length-drop, drop-of-length-le, length-take-le}
 use Rattle.complex.specs.{entryAt, zeros, rows}
 use Rattle.lists.proofs.Parts.{back}
 use Rattle.complex.proofs.Entries.{entry-take}
 use Rattle.complex.proofs.Matrices.{rows-ext, entry-within}
 use Rattle.refusals.proofs.Answering.{passed, accepting}
-use Rattle.refusals.specs.Refusals.{limit}
+use Rattle.refusals.proofs.Numbers.{given-none, given-before, given-not, given-all}
+use Rattle.refusals.specs.Refusals.{limit, givenNotFinite}
+use Rattle.binary64.specs.Values.{allFinite}
 use Rattle.kron_reduction.specs.declared.KronReducer.{KronReducer}
 use Rattle.kron_reduction.specs.declared.AfterRemovals.{AfterRemovals}
 use Rattle.kron_reduction.specs.declared.removal.Ran.{Ran}
 use Rattle.kron_reduction.specs.Kron.{State, eliminate, carriedOut, stoppedBy}
-use Rattle.kron_reduction.specs.Reducer.{reducerOf, recordOf, activeOf, numbersOf, sound, inputRefusal, stateIn, stateOf, reducerStateOf, rowMajor, stored, leaves, rowsOf, removedRows, removalsRefusal, removalsOf, ReducerState, AfterBuses, afterBuses, padded}
+use Rattle.kron_reduction.specs.Reducer.{reducerOf, recordOf, activeOf, numbersOf, sound, inputShapeRefusal, present, inputRefusal, stateIn, stateOf, reducerStateOf, rowMajor, stored, leaves, rowsOf, removedRows, removalsRefusal, removalsOf, ReducerState, AfterBuses, afterBuses, padded}
 use Rattle.kron_reduction.specs.Inner.Removal.{StandsIn, Holds, RemovedAll}
 use Rattle.lists.proofs.Buses.{neither, rising-length}
 use Rattle.kron_reduction.proofs.States.{Accepted, taken-accepted}
@@ -26,17 +28,44 @@ pub record Accepts (r : KronReducer) (ys : List Float) (l : ℕ) : Type 0 where
   pub slice : length ys ≡ 2 * (r .made * r .made)
   pub record' : T (sound r)
 
-pub accepts-has : (r : KronReducer) (ys : List Float) (l : ℕ) → inputRefusal r ys l ≡ 0 → Accepts r ys l
-unfolding inputRefusal
-accepts-has r ys l e =
+-- what the shapes of an input tell
+pub shaped-has : (r : KronReducer) (ys : List Float) (l : ℕ) → inputShapeRefusal r ys l ≡ 0 → Accepts r ys l
+unfolding inputShapeRefusal
+shaped-has r ys l e =
     let (many, e2) = passed (ltb limit (r .made) || ltb limit l) 0 _ e in
     let (given, e9) = passed (not (eqb (length ys) (2 * (r .made * r .made)))) 1 _ e2 in
     let (whole, _) = passed (not (sound r)) 8 _ e9 in
     let (size, count) = neither (ltb limit (r .made)) _ many in
     search (accepting, ltb-false)
 
-pub accepted-holds : (r : KronReducer) (ys : List Float) (l : ℕ) → length (r .«active_buses») ≡ limit → inputRefusal r ys l ≡ 0 → Holds (r .«n_buses») (r .«active_buses») ys
-accepted-holds r ys l long e = record {
+-- what is told: by the shapes, where they tell something, else by the numbers
+module _ (r : KronReducer) (ys : List Float) (l f : ℕ) (e : f ≡ inputShapeRefusal r ys l) where
+  pub told-shape : (f ≡ 0 → ⊥) → inputRefusal r ys l ≡ f
+  unfolding inputRefusal
+  told-shape h = sym (given-before f _ (present r ys) e h)
+
+  pub told-not : f ≡ 0 → allFinite (present r ys) ≡ false → inputRefusal r ys l ≡ givenNotFinite
+  unfolding inputRefusal
+  told-not z h = sym (given-not f _ (present r ys) e z h)
+
+  pub told-none : f ≡ 0 → allFinite (present r ys) ≡ true → inputRefusal r ys l ≡ 0
+  unfolding inputRefusal
+  told-none z h = sym (given-all f _ (present r ys) e z h)
+
+pub input-shaped : (r : KronReducer) (ys : List Float) (l : ℕ) → inputRefusal r ys l ≡ 0 → inputShapeRefusal r ys l ≡ 0
+unfolding inputRefusal
+input-shaped r ys l e = given-none (inputShapeRefusal r ys l) (present r ys) e .0
+
+pub accepts-has : (r : KronReducer) (ys : List Float) (l : ℕ) → inputRefusal r ys l ≡ 0 → Accepts r ys l
+accepts-has r ys l e = shaped-has r ys l (input-shaped r ys l e)
+
+-- and the numbers of the present rows are finite
+pub accepts-finite : (r : KronReducer) (ys : List Float) (l : ℕ) → inputRefusal r ys l ≡ 0 → T (allFinite (present r ys))
+unfolding inputRefusal
+accepts-finite r ys l e = given-none (inputShapeRefusal r ys l) (present r ys) e .1
+
+pub shaped-holds : (r : KronReducer) (ys : List Float) (l : ℕ) → length (r .«active_buses») ≡ limit → inputShapeRefusal r ys l ≡ 0 → Holds (r .«n_buses») (r .«active_buses») ys
+shaped-holds r ys l long e = record {
   room = has .room;
   places = filled-places (r .«n_buses») (r .«active_buses») (has .room) long (has .behind);
   rises = has .rises;
@@ -44,7 +73,7 @@ accepted-holds r ys l long e = record {
 }
   where
     ok : Accepts r ys l
-    ok = accepts-has r ys l e
+    ok = shaped-has r ys l e
 
     has : Sound r
     has = sound-has r (ok .record')
@@ -54,6 +83,9 @@ accepted-holds r ys l long e = record {
         let a = rising-length (r .made) (activeOf r) (has .rises) (has .below) in
         let b : length (activeOf r) ≡ r .«n_buses» = length-take-le (r .«n_buses») (r .«active_buses») (rw long (has .room)) in
         omega arith
+
+pub accepted-holds : (r : KronReducer) (ys : List Float) (l : ℕ) → length (r .«active_buses») ≡ limit → inputRefusal r ys l ≡ 0 → Holds (r .«n_buses») (r .«active_buses») ys
+accepted-holds r ys l long e = shaped-holds r ys l long (input-shaped r ys l e)
 
 -- ---- rows at the front, +0 behind
 

@@ -1,11 +1,20 @@
 pub mod Positions
+pub mod Sizes
+pub mod Numbers
 pub mod Showing
 pub mod States
+pub mod Rows
+pub mod Told
 pub mod Taking
 pub mod Reducer
 pub mod Making
 pub mod Calls
 pub mod Reading
+pub mod FiniteAnswers
 pub mod Active
 pub mod Across
 pub mod ActiveCases
+pub mod RemovalCases
+pub mod InOrder
+mod ImpedanceCases
+pub mod PassedOn

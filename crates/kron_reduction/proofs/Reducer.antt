@@ -1,5 +1,5 @@
 -- Laws about records and slices: the record and layout of a state are sound, are read back as that state, and a call on them does what Kron's formula says.
-use Rattle.prelude.proofs.Prelude.{_≡_, refl, sym, ap, _∙_, Bool, true, false, not, _&&_, _||_, List, [], _∷_, _++_, ℕ, zero, suc, _+_, _-_, _*_, _≤_, _<_, arith, T, eqb, ltb, length, getD, take, drop, replicate, Float, ap₂, append-nil, mul-le-mul, mul-le-mul-left, le-trans, leb, eqb→eq, leb→le, length-append, length-drop, take-append-drop, length-take-le, take-append-seam, and-i, and-l, and-r, is-true, le-ltb, lt-ltb, eq-eqb}
+use Rattle.prelude.proofs.Prelude.{_≡_, refl, sym, ap, _∙_, Bool, true, false, not, _&&_, _||_, List, [], _∷_, _++_, ℕ, zero, suc, _+_, _-_, _*_, _≤_, _<_, arith, T, eqb, ltb, length, getD, take, drop, replicate, Float, ap₂, append-nil, mul-le-mul, mul-le-mul-left, le-trans, leb, eqb→eq, leb→le, length-append, length-drop, take-append-drop, length-take-le, take-append-seam, take-at, and-i, and-l, and-r, is-true, le-ltb, lt-ltb, eq-eqb}
 use native.Mathlib.Nat.{sub-self}
 use lib.Dec.{le→leb}
 use lib.Seq.{drop-append-seam}
@@ -8,12 +8,14 @@ use Rattle.lists.specs.Buses.{upTo, rising, allBelow, allZero, place, repeats, 
 use Rattle.complex.proofs.Entries.{entry-append-left}
 use Rattle.complex.proofs.Matrices.{length-zeros, length-rows, entry-rows, grid-ext, entry-within}
 use Rattle.lists.proofs.Order.{length-upTo}
+use Rattle.binary64.specs.Values.{allFinite}
 use Rattle.refusals.specs.Refusals.{limit, tooMany}
+use Rattle.refusals.proofs.Numbers.{given-all, given-before}
 use Rattle.kron_reduction.specs.declared.KronReducer.{KronReducer}
 use Rattle.kron_reduction.specs.Kron.{State, eliminate, carriedOut, stoppedBy}
-use Rattle.kron_reduction.specs.Reducer.{padded, recordOf, activeOf, numbersOf, soundRows, soundNumbers, sound, inputRefusal, stateOf, rowMajor, stored, leaves, rowsOf, removedRows, removalsRefusal}
+use Rattle.kron_reduction.specs.Reducer.{padded, recordOf, activeOf, numbersOf, soundRows, soundNumbers, sound, inputShapeRefusal, present, inputRefusal, stateOf, rowMajor, stored, leaves, rowsOf, removedRows, removalsRefusal}
 use Rattle.lists.proofs.Buses.{getD-place, place-lt, rising-length}
-use Rattle.kron_reduction.proofs.States.{Accepted, Regular, Agree, agree-taken, agree-stop, agree-eliminate, rows-same}
+use Rattle.kron_reduction.proofs.States.{Accepted, Regular, FiniteIn, rows-finite, Agree, agree-taken, agree-stop, agree-eliminate, rows-same}
 
 -- ---- the record of rows with the numbers ns, the rows xs active
 
@@ -136,11 +138,21 @@ module _ (n : ℕ) (ns : List ℕ) (s : State) (small : n ≤ limit) (many : len
   unfolding stored
   numbers-stored = numbers-recordOf n ns (s .active) many
 
-  -- no input refusal comes, with a list within the limit
-  pub input-stored : (l : ℕ) → l ≤ limit → inputRefusal (stored n ns s .rec) (stored n ns s .slice) l ≡ 0
-  unfolding inputRefusal stored
-  input-stored l h =
+  -- no input refusal comes, with a list within the limit, where the entries are finite
+  shape-stored : (l : ℕ) → l ≤ limit → inputShapeRefusal (stored n ns s .rec) (stored n ns s .slice) l ≡ 0
+  unfolding inputShapeRefusal stored
+  shape-stored l h =
       rw (le-ltb limit n small, le-ltb limit l h, eq-eqb (length (stored n ns s .slice)) (2 * (n * n)) length-stored, is-true (sound (recordOf n ns (s .active))) (sound-recordOf n ns (s .active) (le-trans active-room small) (regular .rises) (regular .below) many distinct))
+
+  -- the present rows are the state's
+  pub present-stored : present (stored n ns s .rec) (stored n ns s .slice) ≡ rows (s .entries) (s .active) (s .active)
+  unfolding stored rowMajor
+  present-stored = take-at (rows (s .entries) (s .active) (s .active)) _ _ (length-rows (s .entries) (s .active) (s .active))
+
+  pub input-stored : FiniteIn s → (l : ℕ) → l ≤ limit → inputRefusal (stored n ns s .rec) (stored n ns s .slice) l ≡ 0
+  unfolding inputRefusal
+  input-stored fine l h =
+      sym (given-all 0 _ (present (stored n ns s .rec) (stored n ns s .slice)) (sym (shape-stored l h)) refl (ap allFinite present-stored ∙ is-true (allFinite (rows (s .entries) (s .active) (s .active))) (rows-finite s fine)))
 
   -- it is read back as that state, as far as its buses are active
   pub state-stored : Agree s (stateOf (stored n ns s .rec) (stored n ns s .slice))
@@ -153,16 +165,16 @@ module _ (n : ℕ) (ns : List ℕ) (s : State) (small : n ≤ limit) (many : len
         ∙ ap₂ (s .entries) (getD-place i (s .active) x) (getD-place j (s .active) y)));
   }
 
-  pub removed-stored : (ks : List ℕ) → length ks ≤ limit → removedRows (stored n ns s .rec) (stored n ns s .slice) ks ≡ carriedOut s (rowsIn ns ks)
+  pub removed-stored : FiniteIn s → (ks : List ℕ) → length ks ≤ limit → removedRows (stored n ns s .rec) (stored n ns s .slice) ks ≡ carriedOut s (rowsIn ns ks)
   unfolding removedRows
-  removed-stored ks h =
-      rw (input-stored (length ks) h)
+  removed-stored fine ks h =
+      rw (input-stored fine (length ks) h)
       (sym (agree-taken s (stateOf (stored n ns s .rec) (stored n ns s .slice)) (rowsOf (stored n ns s .rec) ks) state-stored) ∙ ap (λ (ms : List ℕ). carriedOut s (rowsIn ms ks)) numbers-stored)
 
-  pub refusal-stored : (ks : List ℕ) → length ks ≤ limit → removalsRefusal (stored n ns s .rec) (stored n ns s .slice) ks ≡ stoppedBy s (rowsIn ns ks)
+  pub refusal-stored : FiniteIn s → (ks : List ℕ) → length ks ≤ limit → removalsRefusal (stored n ns s .rec) (stored n ns s .slice) ks ≡ stoppedBy s (rowsIn ns ks)
   unfolding removalsRefusal
-  refusal-stored ks h =
-      rw (input-stored (length ks) h)
+  refusal-stored fine ks h =
+      rw (input-stored fine (length ks) h)
       (sym (agree-stop s (stateOf (stored n ns s .rec) (stored n ns s .slice)) (rowsOf (stored n ns s .rec) ks) state-stored) ∙ ap (λ (ms : List ℕ). stoppedBy s (rowsIn ms ks)) numbers-stored)
 
   pub leaves-stored : (ks : List ℕ) → Accepted s ks → leaves (stored n ns s .rec) (stored n ns s .slice) ks ≡ stored n ns (eliminate s ks)
@@ -177,9 +189,13 @@ or-true true = refl
 or-true false = refl
 
 -- a list longer than the limit is refused for its length, whatever the record and the slice, and removes nothing
+shape-long : (r : KronReducer) (ys : List Float) (l : ℕ) → limit < l → inputShapeRefusal r ys l ≡ tooMany
+unfolding inputShapeRefusal
+shape-long r ys l h = rw (lt-ltb limit l h, or-true (ltb limit (r .made)))
+
 pub input-long : (r : KronReducer) (ys : List Float) (l : ℕ) → limit < l → inputRefusal r ys l ≡ tooMany
 unfolding inputRefusal
-input-long r ys l h = rw (lt-ltb limit l h, or-true (ltb limit (r .made)))
+input-long r ys l h = sym (given-before tooMany _ (present r ys) (sym (shape-long r ys l h)) (λ (z : _≡_ {A = ℕ} 1 0). absurd (omega arith)))
 
 pub removable-long : (r : KronReducer) (ys : List Float) (ks : List ℕ) → limit < length ks → removedRows r ys ks ≡ []
 unfolding removedRows

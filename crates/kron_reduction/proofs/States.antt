@@ -1,27 +1,58 @@
 -- Laws about the removal of buses by Kron's formula: only the entries between active buses matter, and the active buses stay rising.
-use Rattle.prelude.proofs.Prelude.{_≡_, refl, sym, ap, _∙_, Bool, true, false, not, cond, List, [], _∷_, _++_, ℕ, T, eqb}
-use Rattle.complex.specs.{Complex, Matrix, row, rows, tooSmall}
-use Rattle.refusals.specs.Refusals.{notActive, smallEntry}
+use Rattle.prelude.proofs.Prelude.{_≡_, refl, sym, ap, _∙_, subst, _⊎_, inl, inr, Bool, true, false, not, cond, List, [], _∷_, _++_, ℕ, T, eqb, Float, ap₂}
+use Rattle.binary64.specs.Values.{allFinite}
+use Rattle.complex.specs.{Complex, Matrix, row, rows, tooSmall, ofSqmag}
+use Rattle.refusals.specs.Refusals.{notActive, smallEntry, computedNotFinite, refuse}
 use Rattle.lists.specs.Buses.{mem, _isOneOf_, others, rising, allBelow}
-use Rattle.kron_reduction.specs.Kron.{kron, State, start, remove, removalRefusal, accepts, eliminate, carriedOut, stoppedBy}
+use Rattle.kron_reduction.specs.Kron.{kron, State, start, remove, ofRows, ofRemoval, removalRefusal, accepts, eliminate, carriedOut, stoppedBy}
 use Rattle.lists.proofs.Buses.{in-head, in-tail, stays, others-nil, others-append, all-below-others, rising-others, rising-upTo, all-below-upTo}
+use Rattle.complex.proofs.Finite.{none, all-more, all-join}
+use Rattle.complex.proofs.Sticky.{Finite}
+use Rattle.kron_reduction.proofs.Numbers as numbers
 
 -- ---- a bus that is accepted
 
-accepted-has : (s : State) (k : ℕ) → T (accepts s k) → (k isOneOf s .active) × T (not (tooSmall (s .entries k k)))
+-- the refusal of a bus from three tests: it is active, its own entry is too small, every number is finite
+abbrev pub refusalOf : Bool → Bool → Bool → ℕ
+refusalOf active small fine = cond active (refuse small smallEntry (refuse (not fine) computedNotFinite 0)) notActive
+
+pub refusal-is : (s : State) (k : ℕ) → removalRefusal s k ≡ refusalOf (mem k (s .active)) (tooSmall (s .entries k k)) (allFinite (ofRemoval s k))
 unfolding removalRefusal
-accepted-has s k h = go (mem k (s .active)) (tooSmall (s .entries k k)) h
+refusal-is s k = refl
+
+accepted-has : (s : State) (k : ℕ) → T (accepts s k) → (k isOneOf s .active) × T (not (tooSmall (s .entries k k))) × T (allFinite (ofRemoval s k))
+accepted-has s k h = go (mem k (s .active)) (tooSmall (s .entries k k)) (allFinite (ofRemoval s k)) (rw (← refusal-is s k) h)
   where
-    go : (b c : Bool) → T (eqb (cond b (cond c smallEntry 0) notActive) 0) → T b × T (not c)
-    go true true h = absurd h
-    go true false h = (tt, tt)
-    go false c h = absurd h
+    go : (b c d : Bool) → T (eqb (refusalOf b c d) 0) → T b × T (not c) × T d
+    go true true d h = absurd h
+    go true false true h = (tt, tt, tt)
+    go true false false h = absurd h
+    go false c d h = absurd h
 
 pub accepted-active : (s : State) (k : ℕ) → T (accepts s k) → k isOneOf s .active
 accepted-active s k h = accepted-has s k h .0
 
 pub accepted-big : (s : State) (k : ℕ) → T (accepts s k) → T (not (tooSmall (s .entries k k)))
 accepted-big s k h = accepted-has s k h .1
+
+pub accepted-finite : (s : State) (k : ℕ) → T (accepts s k) → T (allFinite (ofRemoval s k))
+accepted-finite s k h = accepted-has s k h .2
+
+-- a refusal told from the state is 11, 12 or 20
+abbrev pub FromState : ℕ → Type 0
+FromState f = (f ≡ 0) ⊎ ((f ≡ notActive) ⊎ ((f ≡ smallEntry) ⊎ (f ≡ computedNotFinite)))
+
+pub stop-cases : (s : State) (ks : List ℕ) → FromState (stoppedBy s ks)
+unfolding stoppedBy
+stop-cases s [] = inl refl
+stop-cases s (k ∷ ks) =
+    subst (λ (f : ℕ). FromState (cond (eqb f 0) (stoppedBy (remove s k) ks) f)) (sym (refusal-is s k)) (go (mem k (s .active)) (tooSmall (s .entries k k)) (allFinite (ofRemoval s k)) (stop-cases (remove s k) ks))
+  where
+    go : (b c d : Bool) → FromState (stoppedBy (remove s k) ks) → FromState (cond (eqb (refusalOf b c d) 0) (stoppedBy (remove s k) ks) (refusalOf b c d))
+    go true true d ih = inr (inr (inl refl))
+    go true false true ih = ih
+    go true false false ih = inr (inr (inr refl))
+    go false c d ih = inr (inl refl)
 
 -- each is accepted when its turn comes
 abbrev pub Accepted : State → List ℕ → Type 0
@@ -52,6 +83,37 @@ pub eliminate-active : (s : State) (ks : List ℕ) → eliminate s ks .active �
 unfolding eliminate
 eliminate-active s [] = sym (others-nil (s .active))
 eliminate-active s (k ∷ ks) = eliminate-active (remove s k) ks ∙ others-append (k ∷ []) ks (s .active)
+
+-- ---- finite entries between active buses
+
+abbrev pub FiniteIn : State → Type 0
+FiniteIn s = (i j : ℕ) → i isOneOf s .active → j isOneOf s .active → Finite (s .entries i j)
+
+-- a removal that is accepted leaves them, whatever was there
+pub finite-remove : (s : State) (k : ℕ) → T (accepts s k) → FiniteIn (remove s k)
+finite-remove s k a = numbers.removal-leaves s k (accepted-finite s k a)
+
+pub finite-eliminate : (s : State) (ks : List ℕ) → FiniteIn s → Accepted s ks → FiniteIn (eliminate s ks)
+unfolding eliminate
+finite-eliminate s [] h ok = h
+finite-eliminate s (k ∷ ks) h ok = finite-eliminate (remove s k) ks (finite-remove s k (ok .0)) (ok .1)
+
+row-finite : (Y : Matrix) (i : ℕ) (js : List ℕ) → ((j : ℕ) → j isOneOf js → Finite (Y i j)) → T (allFinite (row Y i js))
+unfolding row
+row-finite Y i [] h = none
+row-finite Y i (j ∷ js) h =
+    let (r, m) = h j (in-head j js) in
+    all-more _ _ r (all-more _ _ m (row-finite Y i js (λ (q : ℕ) (l : q isOneOf js). h q (in-tail q j js l))))
+
+all-rows-finite : (Y : Matrix) (is js : List ℕ) → ((i j : ℕ) → i isOneOf is → j isOneOf js → Finite (Y i j)) → T (allFinite (rows Y is js))
+unfolding rows
+all-rows-finite Y [] js h = none
+all-rows-finite Y (i ∷ is) js h =
+    all-join (row Y i js) (rows Y is js) (row-finite Y i js (λ (j : ℕ) (m : j isOneOf js). h i j (in-head i is) m))
+    (all-rows-finite Y is js (λ (p j : ℕ) (l : p isOneOf is) (m : j isOneOf js). h p j (in-tail p i is l) m))
+
+pub rows-finite : (s : State) → FiniteIn s → T (allFinite (rows (s .entries) (s .active) (s .active)))
+rows-finite s h = all-rows-finite (s .entries) (s .active) (s .active) h
 
 -- ---- rising active buses below n
 
@@ -89,11 +151,24 @@ same-where : {A : Type 0} (b : Bool) (x y z : A) → (T b → x ≡ y) → cond 
 same-where true x y z f = f tt
 same-where false x y z f = refl
 
+agree-numbers : (s t : State) (k : ℕ) → Agree s t → k isOneOf s .active → ofRemoval s k ≡ ofRemoval t k
+agree-numbers s t k h m =
+    let rest = others (k ∷ []) (s .active) in
+    ap₂ (λ (a b : List Float). a ++ b) (ap ofSqmag (h .entries k k m m))
+    (numbers.rows-same k (s .entries) (t .entries) rest rest
+    (λ (i j : ℕ) (x : i isOneOf rest) (y : j isOneOf rest).
+    let x' = stays i (k ∷ []) (s .active) x .0 in
+    let y' = stays j (k ∷ []) (s .active) y .0 in
+    (h .entries i j x' y', h .entries i k x' m, h .entries k j m y', h .entries k k m m))
+    ∙ ap (λ (xs : List ℕ). ofRows k (t .entries) (others (k ∷ []) xs) (others (k ∷ []) xs)) (h .active))
+
 pub agree-refusal : (s t : State) (k : ℕ) → Agree s t → removalRefusal s k ≡ removalRefusal t k
-unfolding removalRefusal
 agree-refusal s t k h =
-    same-where (mem k (s .active)) _ _ notActive (λ m. ap (λ (x : Complex). cond (tooSmall x) smallEntry 0) (h .entries k k m m))
-    ∙ ap (λ (xs : List ℕ). cond (mem k xs) (cond (tooSmall (t .entries k k)) smallEntry 0) notActive) (h .active)
+    refusal-is s k
+    ∙ same-where (mem k (s .active)) _ _ notActive
+    (λ m. ap₂ (λ (x : Complex) (xs : List Float). refuse (tooSmall x) smallEntry (refuse (not (allFinite xs)) computedNotFinite 0)) (h .entries k k m m) (agree-numbers s t k h m))
+    ∙ ap (λ (xs : List ℕ). refusalOf (mem k xs) (tooSmall (t .entries k k)) (allFinite (ofRemoval t k))) (h .active)
+    ∙ sym (refusal-is t k)
 
 pub agree-taken : (s t : State) (ks : List ℕ) → Agree s t → carriedOut s ks ≡ carriedOut t ks
 unfolding carriedOut

@@ -1,15 +1,17 @@
 -- What one removal, and a list of them, answers and leaves, from what the code finds: the row of the bus, its own entry, the places and the rows closed up.
-use Rattle.prelude.proofs.Prelude.{_≡_, refl, sym, ap, _∙_, true, false, List, [], _∷_, _++_, ℕ, suc, _+_, _-_, _*_, _≤_, _<_, add-one, arith, T, eqb, length, getD, take, drop, replicate, Float, ap₂, append-nil, append-assoc, le-trans, add-zero, mul-le-mul, mul-le-mul-left, eq-eqb, ne-eqb, length-take, drop-of-length-le, length-take-le, take-suc, drop-cons, take-append-seam, is-true}
-use Rattle.complex.specs.{entryAt, tooSmall}
-use Rattle.refusals.specs.Refusals.{limit, notActive, smallEntry}
+use Rattle.prelude.proofs.Prelude.{_≡_, refl, sym, ap, _∙_, true, false, List, [], _∷_, _++_, ℕ, suc, _+_, _-_, _*_, _≤_, _<_, add-one, arith, T, eqb, length, getD, take, drop, replicate, Float, ap₂, append-nil, append-assoc, le-trans, add-zero, sub-zero, mul-le-mul, mul-le-mul-left, eq-eqb, ne-eqb, length-take, drop-of-length-le, length-take-le, take-suc, drop-cons, take-append-seam, is-true}
+use Rattle.complex.specs.{entryAt}
+use Rattle.complex.specs.Inner.Ordinary.{allOrdinary}
+use Rattle.refusals.specs.Refusals.{limit, notActive}
 use Rattle.lists.specs.declared.Found.the-variants.{At, Nothing}
 use Rattle.lists.specs.Buses.{mem, _isOneOf_, rising, foundIn}
-use Rattle.kron_reduction.specs.Kron.{kron, State, remove, removalRefusal, accepts, eliminate, carriedOut, stoppedBy}
+use Rattle.kron_reduction.specs.Kron.{kron, State, start, remove, removalRefusal, accepts, eliminate, carriedOut, stoppedBy}
 use Rattle.kron_reduction.specs.Inner.Removal.{oldRow, StandsIn, Holds, RemovedOne, RemovedAll}
 use Rattle.kron_reduction.specs.Reducer.{padded, stateIn}
 use Rattle.lists.proofs.Buses.{place-lt, rising-others}
 use Rattle.lists.proofs.Lookups.{found-at, found-not}
 use Rattle.kron_reduction.proofs.States.{Accepted, accepted-active, eliminate-append, eliminate-active, Agree, agree-remove, agree-refusal}
+use Rattle.kron_reduction.proofs.Rows.{refusal-by-row}
 use Rattle.kron_reduction.proofs.Showing.{length-padded, length-others-one, places-closed, shows-removed, shown-shows, shows-agree, agree-shows}
 
 -- ---- one removal
@@ -40,28 +42,30 @@ module _ (n : ℕ) (bs : List ℕ) (ys : List Float) (h : Holds n bs ys) where
         let l = place-lt k (take n bs) (f .0) in
         omega (arith, f .1, l, holds-long)
 
-    pub took-small : tooSmall (entryAt n ys p p) ≡ true → RemovedOne n bs ys k smallEntry bs ys
-    unfolding removalRefusal
-    took-small small = record {
-      says =
-          let f = found-at k (take n bs) p e in
-          rw (is-true (mem k (take n bs)) (f .0), f .1, small);
+    row-says : removalRefusal (start n (entryAt n ys)) p ≡ removalRefusal (stateIn n (take n bs) ys) k
+    row-says =
+        let f = found-at k (take n bs) p e in
+        ap (removalRefusal (start n (entryAt n ys))) (sym (f .1)) ∙ sym (refusal-by-row n (take n bs) ys (h .rises) holds-long k (f .0))
+
+    -- a refusal of the removal of row p: nothing is changed
+    pub took-refused : (f : ℕ) → f ≡ removalRefusal (start n (entryAt n ys)) p → (f ≡ 0 → ⊥) → RemovedOne n bs ys k f bs ys
+    took-refused f told some = record {
+      says = told ∙ row-says;
       refused = λ _. (refl, refl);
-      places = λ z. absurd (omega arith);
-      shows = λ z. absurd (omega arith);
+      places = λ z. absurd (some z);
+      shows = λ z. absurd (some z);
     }
 
-    pub took : tooSmall (entryAt n ys p p) ≡ false → (cs : List ℕ) (zs : List Float) → length cs ≡ length bs
+    pub took : 0 ≡ removalRefusal (start n (entryAt n ys)) p → (cs : List ℕ) (zs : List Float) → length cs ≡ length bs
         → ((i : ℕ) → i < n - 1 → getD cs i 0 ≡ getD bs (oldRow p i) 0) × (getD cs (n - 1) 0 ≡ 0) × ((i : ℕ) → n ≤ i → getD cs i 0 ≡ getD bs i 0)
         → ((i j : ℕ) → i < n - 1 → j < n - 1 → entryAt (n - 1) zs i j ≡ kron p (entryAt n ys) (oldRow p i) (oldRow p j))
         → RemovedOne n bs ys k 0 cs zs
-    unfolding removalRefusal
-    took big cs zs long closed rows =
+    took none cs zs long closed rows =
         let f = found-at k (take n bs) p e in
         let xs = take n bs in
         let more : length xs ≡ n = holds-long in
         record {
-          says = rw (is-true (mem k xs) (f .0), f .1, big);
+          says = none ∙ row-says;
           refused = λ f. absurd (f refl);
           places = λ _.
               places-closed k xs (h .rises) (f .0) bs cs (rw more (h .room)) (h .places) long
@@ -74,6 +78,10 @@ module _ (n : ℕ) (bs : List ℕ) (ys : List Float) (h : Holds n bs ys) where
         }
 
 -- ---- a list of removals
+
+-- rows of ordinary size, before the first removal
+pub first-ordinary : (n done : ℕ) (ys zs : List Float) → done ≡ 0 → zs ≡ ys → T (allOrdinary (take (2 * (n * n)) ys)) → T (allOrdinary (take (2 * ((n - done) * (n - done))) zs))
+first-ordinary n done ys zs z e h = rw (z, e, sub-zero n) h
 
 length-remove : (s : State) (k : ℕ) → T (rising (s .active)) → k isOneOf s .active → length (remove s k .active) + 1 ≡ length (s .active)
 length-remove s k r m =

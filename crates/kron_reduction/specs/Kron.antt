@@ -1,15 +1,20 @@
 -- Kron's formula, and the removal of buses by it. A bus is its row in the matrix at making, here and below every call.
 use Prim.Native.Nat.{ℕ}
-use mathlib.Core.Bool.{Bool, cond}
+use mathlib.Core.Path.{_≡_}
+use mathlib.Core.Bool.{Bool, not, cond}
 use mathlib.Core.List.{List, [], _∷_, _++_}
 use lib.Dec.{eqb}
 use lib.Ieee.{Float}
+use Rattle.binary64.specs.Values.{allFinite}
 use Rattle.complex.specs.declared.Complex.{Complex}
 use Rattle.complex.specs.Arithmetic.{csub, cmul, cdiv, tooSmall}
 use Rattle.complex.specs.Computed.{ofParts, ofProduct, ofSqmag, ofQuotient}
+use Rattle.complex.specs.Leaves.{pair, product, quotient, difference, passing}
 use Rattle.complex.specs.Matrices.{Matrix}
 use Rattle.lists.specs.Buses.{upTo, mem, others}
-use Rattle.refusals.specs.Refusals.{notActive, smallEntry}
+use Rattle.refusals.specs.Refusals.{notActive, smallEntry, computedNotFinite, refuse}
+use Rattle.refusals.specs.declared.Allowance.the-variants.{Unlimited}
+use Rattle.refusals.specs.Work.{Step, entryTooSmall, computing, workRefusal}
 
 -- the new entry, of y_ij, y_ik, y_kj and y_kk as they were
 unfoldable pub newEntry : Complex → Complex → Complex → Complex → Complex
@@ -30,9 +35,31 @@ start n Y = record { active = upTo n; entries = Y }
 abbrev pub remove : State → ℕ → State
 remove s k = record { active = others (k ∷ []) (s .active); entries = kron k (s .entries) }
 
--- 11, 12, or 0 where bus k can be removed
+-- ---- the numbers that a removal computes, in the order of the work: the squared magnitude of y_kk, then the new entries row by row
+
+abbrev pub ofNewEntry : ℕ → Matrix → ℕ → ℕ → List Float
+ofNewEntry k Y i j = ofProduct (Y i k) (Y k j) ++ ofQuotient (cmul (Y i k) (Y k j)) (Y k k) ++ ofParts (kron k Y i j)
+
+unfoldable pub ofRow : ℕ → Matrix → ℕ → List ℕ → List Float
+ofRow k Y i [] = []
+ofRow k Y i (j ∷ js) = ofNewEntry k Y i j ++ ofRow k Y i js
+
+unfoldable pub ofRows : ℕ → Matrix → List ℕ → List ℕ → List Float
+ofRows k Y [] js = []
+ofRows k Y (i ∷ is) js = ofRow k Y i js ++ ofRows k Y is js
+
+abbrev pub ofRemoval : State → ℕ → List Float
+ofRemoval s k = ofSqmag (s .entries k k) ++ ofRows k (s .entries) (remove s k .active) (remove s k .active)
+
+-- ---- removals
+
+-- 11, 12, 20 where a number that the removal computes is not finite, or 0 where bus k can be removed
 unfoldable pub removalRefusal : State → ℕ → ℕ
-removalRefusal s k = cond (mem k (s .active)) (cond (tooSmall (s .entries k k)) smallEntry 0) notActive
+removalRefusal s k =
+    cond (mem k (s .active))
+    (refuse (tooSmall (s .entries k k)) smallEntry
+    (refuse (not (allFinite (ofRemoval s k))) computedNotFinite 0))
+    notActive
 
 abbrev pub accepts : State → ℕ → Bool
 accepts s k = eqb (removalRefusal s k) 0
@@ -52,22 +79,27 @@ unfoldable pub stoppedBy : State → List ℕ → ℕ
 stoppedBy s [] = 0
 stoppedBy s (k ∷ ks) = cond (accepts s k) (stoppedBy (remove s k) ks) (removalRefusal s k)
 
--- ---- the numbers that removals compute, in the order of the work
-
-abbrev pub ofNewEntry : ℕ → Matrix → ℕ → ℕ → List Float
-ofNewEntry k Y i j = ofProduct (Y i k) (Y k j) ++ ofQuotient (cmul (Y i k) (Y k j)) (Y k k) ++ ofParts (kron k Y i j)
-
-unfoldable pub ofRow : ℕ → Matrix → ℕ → List ℕ → List Float
-ofRow k Y i [] = []
-ofRow k Y i (j ∷ js) = ofNewEntry k Y i j ++ ofRow k Y i js
-
-unfoldable pub ofRows : ℕ → Matrix → List ℕ → List ℕ → List Float
-ofRows k Y [] js = []
-ofRows k Y (i ∷ is) js = ofRow k Y i js ++ ofRows k Y is js
-
-abbrev pub ofRemoval : State → ℕ → List Float
-ofRemoval s k = ofSqmag (s .entries k k) ++ ofRows k (s .entries) (remove s k .active) (remove s k .active)
-
+-- and the numbers that the removals of ks compute
 unfoldable pub ofRemovals : State → List ℕ → List Float
 ofRemovals s [] = []
 ofRemovals s (k ∷ ks) = ofRemoval s k ++ ofRemovals (remove s k) ks
+
+-- ---- the work of a removal as steps, in the order of the Rust: y_kk's squared magnitude, its test, then the new entries
+
+unfoldable pub stepsOfRemoval : State → ℕ → List Step
+unfolding computing ofRows
+stepsOfRemoval s k =
+    computing (ofSqmag (s .entries k k))
+    ++ cond (tooSmall (s .entries k k)) (entryTooSmall ∷ [])
+    (computing (ofRows k (s .entries) (remove s k .active) (remove s k .active)))
+
+-- the refusal is what these steps meet first
+abbrev pub MetInOrder : Type 0
+MetInOrder = (s : State) (k : ℕ) → removalRefusal s k ≡ cond (mem k (s .active)) (workRefusal Unlimited (stepsOfRemoval s k)) notActive
+
+-- the new entry by the operations that answer a finite number or none, each behind the one before: all answer a number exactly where every
+-- number in the entry's list is finite
+abbrev pub PassedOn : Type 0
+PassedOn = (ij ik kj kk : Complex)
+    → passing (product ik kj) (λ (p : Complex). passing (quotient p kk) (λ (q : Complex). difference ij q))
+    ≡ pair (ofProduct ik kj ++ ofQuotient (cmul ik kj) kk ++ ofParts (newEntry ij ik kj kk)) (newEntry ij ik kj kk)

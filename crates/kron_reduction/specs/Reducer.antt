@@ -7,7 +7,7 @@ use lib.ListN.{length, take, drop, replicate}
 use lib.Ieee.{Float}
 use Rattle.complex.specs.Matrices.{Matrix, entryAt, rows, zeros}
 use Rattle.lists.specs.Buses.{upTo, rising, allBelow, allZero, place, repeats, rowsIn}
-use Rattle.refusals.specs.Refusals.{limit, tooMany, wrongLength, busTwice, badRecord, refuse, outcome}
+use Rattle.refusals.specs.Refusals.{limit, tooMany, wrongLength, busTwice, badRecord, refuse, thenGiven, outcome}
 use Rattle.kron_reduction.specs.declared.KronReducer.{KronReducer}
 use Rattle.kron_reduction.specs.declared.NewReducer.{NewReducer}
 use Rattle.kron_reduction.specs.declared.AfterRemoval.{AfterRemoval}
@@ -25,13 +25,17 @@ pub record ReducerInput : Type 0 where
 abbrev pub reducerInputOf : ℕ → List Float → List ℕ → ReducerInput
 reducerInputOf n ys ns = record { size = n; given = ys; numbers = ns }
 
--- 1, 2, 8 or 0
-unfoldable pub makingRefusal : ReducerInput → ℕ
+-- what size, lengths and numbers tell: 1, 2, 8 or 0
+unfoldable pub makingShapeRefusal : ReducerInput → ℕ
 unfolding repeats
-makingRefusal M =
+makingShapeRefusal M =
     refuse (ltb limit (M .size) || ltb limit (length (M .numbers))) tooMany
     (refuse (not (eqb (length (M .given)) (2 * (M .size * M .size))) || not (eqb (length (M .numbers)) (M .size))) wrongLength
     (refuse (repeats (M .numbers)) busTwice 0))
+
+-- 1, 2, 8, 19 of all the numbers given, or 0
+unfoldable pub makingRefusal : ReducerInput → ℕ
+makingRefusal M = thenGiven (makingShapeRefusal M) (M .given)
 
 -- an accepted making
 abbrev pub AcceptedMaking : ReducerInput → Type 0
@@ -80,12 +84,20 @@ soundNumbers r = not (repeats (numbersOf r)) && allZero (drop (r .made) (r .numb
 abbrev pub sound : KronReducer → Bool
 sound r = soundRows r && soundNumbers r
 
--- the input refusals of a call with a list of l buses: 1, 2, 9 or 0
-unfoldable pub inputRefusal : KronReducer → List Float → ℕ → ℕ
-inputRefusal r ys l =
+-- what the record, the slice's length and a list of l buses tell: 1, 2, 9 or 0
+unfoldable pub inputShapeRefusal : KronReducer → List Float → ℕ → ℕ
+inputShapeRefusal r ys l =
     refuse (ltb limit (r .made) || ltb limit l) tooMany
     (refuse (not (eqb (length ys) (2 * (r .made * r .made)))) wrongLength
     (refuse (not (sound r)) badRecord 0))
+
+-- the numbers of the present rows, which stand at the front of the slice
+abbrev pub present : KronReducer → List Float → List Float
+present r ys = take (2 * (r .«n_buses» * r .«n_buses»)) ys
+
+-- the input refusals of a call with a list of l buses: 1, 2, 9, 19 of the present rows alone, or 0
+unfoldable pub inputRefusal : KronReducer → List Float → ℕ → ℕ
+inputRefusal r ys l = thenGiven (inputShapeRefusal r ys l) (present r ys)
 
 -- the active buses xs, each by its row at making, and the matrix between them, whose rows of n entries stand at the front of ys
 abbrev pub stateIn : ℕ → List ℕ → List Float → State

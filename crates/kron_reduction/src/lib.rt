@@ -1,10 +1,13 @@
 // Kron reduction of a bus matrix that stands in a lent slice.
+use crate::careful::front_finite;
+use crate::careful::front_ordinary;
 use crate::removal::Ran;
 use crate::removal::all_zero;
 use crate::removal::find_bus;
 use crate::removal::in_order;
 use crate::removal::remove_list;
 use crate::thevenin::impedance_between;
+use binary64::finite::all_finite;
 use complex::Complex;
 use complex::slices::clear;
 use lists::Found;
@@ -14,6 +17,7 @@ use lists::numbers::repeats;
 use lists::numbers::rows_of;
 use refusals::BAD_RECORD;
 use refusals::BUS_TWICE;
+use refusals::GIVEN_NOT_FINITE;
 use refusals::LIMIT;
 use refusals::NOT_ACTIVE;
 use refusals::Outcome;
@@ -26,16 +30,20 @@ ghost use Prim.Native.Nat.{_*_, _-_, _≤_, _<_};
 ghost use lib.Dec.{T};
 ghost use lib.ListN.{length, take};
 ghost use lib.Ieee.{Float};
-ghost use Rattle.binary64.specs.Values.{F64s};
+ghost use Rattle.binary64.specs.Values.{allFinite, F64s};
 ghost use Rattle.complex.specs.Entries.{entry};
+ghost use Rattle.complex.specs.Inner.Ordinary.{allOrdinary};
 ghost use Rattle.complex.specs.Matrices.{zeros};
 ghost use Rattle.lists.specs.Buses.{upTo, foundIn};
 ghost use Rattle.refusals.specs.Refusals.{limit, outcome};
-ghost use Rattle.kron_reduction.specs.Reducer.{padded, reducerInputOf, makingRefusal, recordOf, afterNew, reducerOf, activeOf};
-ghost use Rattle.kron_reduction.specs.Reducer.{soundRows, soundNumbers, sound, inputRefusal, rowOf, removalsOf, afterBus, afterBuses};
-ghost use Rattle.kron_reduction.specs.Reading.{impedanceNumber, readingRefusal, afterMatrix, activeNumbers, activeRefusal};
+ghost use Rattle.kron_reduction.specs.Reducer.{padded, reducerInputOf, makingShapeRefusal, makingRefusal, recordOf, afterNew};
+ghost use Rattle.kron_reduction.specs.Reducer.{reducerOf, activeOf, soundRows, soundNumbers, sound, inputShapeRefusal, inputRefusal};
+ghost use Rattle.kron_reduction.specs.Reducer.{rowOf, removalsOf, afterBus, afterBuses};
+ghost use Rattle.kron_reduction.specs.Reading.{impedanceNumber, readingShapeRefusal, readingRefusal, afterMatrix};
+ghost use Rattle.kron_reduction.specs.Reading.{activeNumbers, activeRefusal};
 ghost use Rattle.kron_reduction.specs.Reading.{afterActive, afterImpedance};
 
+mod careful;
 pub mod removal;
 mod thevenin;
 
@@ -132,9 +140,9 @@ fn record_of(numbers: &[u32]) -> KronReducer
     }
 }
 
-// The refusals of a making from a slice of `len` numbers: 1, 2 or 8, or 0.
-fn making_refusal(n: usize, len: usize, numbers: &[u32]) -> u32
-    ensures { λ f. ⌜ ((ys : List Float) → length ys ≡ len → f ≡ makingRefusal (reducerInputOf n ys (now (numbers .entry)))) ⌝ }
+// What size, lengths and numbers tell of a making from a slice of `len` numbers: 1, 2 or 8, or 0.
+fn making_shape_refusal(n: usize, len: usize, numbers: &[u32]) -> u32
+    ensures { λ f. ⌜ ((ys : List Float) → length ys ≡ len → f ≡ makingShapeRefusal (reducerInputOf n ys (now (numbers .entry)))) ⌝ }
 {
     if n > LIMIT {
         return TOO_MANY;
@@ -154,12 +162,26 @@ fn making_refusal(n: usize, len: usize, numbers: &[u32]) -> u32
     0
 }
 
+// The refusals of a making: 1, 2, 8 or 19, or 0.
+fn making_refusal(n: usize, y: &[f64], numbers: &[u32]) -> u32
+    ensures { λ f. ⌜ f ≡ makingRefusal (reducerInputOf n (now (y .entry)) (now (numbers .entry))) ⌝ }
+{
+    let f = making_shape_refusal(n, y.len(), numbers);
+    if f != 0 {
+        return f;
+    }
+    if all_finite(y) {
+        return 0;
+    }
+    GIVEN_NOT_FINITE
+}
+
 impl KronReducer {
-    // y holds n rows of n entries, real then imaginary, and `numbers` the number of each row's bus. Refusals: 1, 2, 8.
+    // y holds n rows of n entries, real then imaginary, and `numbers` the number of each row's bus. Refusals: 1, 2, 8, 19.
     pub fn new(n: usize, y: &[f64], numbers: &[u32]) -> NewReducer
         ensures { λ o. ⌜ (o ≡ afterNew (reducerInputOf n (now (y .entry)) (now (numbers .entry)))) × F64s (now (y .entry)) ⌝ }
     {
-        let f = making_refusal(n, y.len(), numbers);
+        let f = making_refusal(n, y, numbers);
         if f != 0 {
             return NewReducer {
                 answer: Outcome::Refused(f),
@@ -221,8 +243,8 @@ fn is_sound(made: usize, n: usize, active: &[u8], numbers: &[u32]) -> bool
     numbers_sound(made, numbers)
 }
 
-// The input refusals of a call with a slice of `len` numbers and a list of `count` buses: 1, 2 or 9, or 0.
-fn input_refusal(
+// What the record, a slice of `len` numbers and a list of `count` buses tell: 1, 2 or 9, or 0.
+fn input_shape_refusal(
     made: usize,
     n: usize,
     active: &[u8],
@@ -232,7 +254,8 @@ fn input_refusal(
 ) -> u32
     requires { ⌜ (length (now active) ≡ limit) × (length (now numbers) ≡ limit) ⌝ }
     ensures { λ f. ⌜
-        ((ys : List Float) → length ys ≡ len → f ≡ inputRefusal (reducerOf made n (now (active .entry)) (now (numbers .entry))) ys count)
+        ((ys : List Float) → length ys ≡ len
+        → f ≡ inputShapeRefusal (reducerOf made n (now (active .entry)) (now (numbers .entry))) ys count)
         ⌝ }
 {
     if made > LIMIT {
@@ -250,7 +273,18 @@ fn input_refusal(
     0
 }
 
-// A list of removals whose input is accepted, on the record's parts.
+// Whether the numbers of the n rows at the front are finite, as those of ordinary size are.
+fn given_finite(n: usize, y: &[f64], ordinary: bool) -> bool
+    requires { ⌜ (n ≤ limit) × (2 * (n * n) ≤ length (now y)) × (T ordinary → T (allOrdinary (take (2 * (n * n)) (now y)))) ⌝ }
+    ensures { λ r. ⌜ r ≡ allFinite (take (2 * (n * n)) (now (y .entry))) ⌝ }
+{
+    if ordinary {
+        return true;
+    }
+    front_finite(n, y)
+}
+
+// A list of removals whose input is accepted, on the record's parts. `ordinary` says that the present rows are of ordinary size.
 fn remove_accepted(
     made: usize,
     n: usize,
@@ -258,9 +292,11 @@ fn remove_accepted(
     numbers: &[u32],
     y: &mut [f64],
     buses: &[u32],
+    ordinary: bool,
 ) -> Ran
     requires { ⌜ (length (now active) ≡ limit) × (length (now numbers) ≡ limit)
-        × (inputRefusal (reducerOf made n (now active) (now numbers)) (now y) (length (now buses)) ≡ 0) ⌝ }
+        × (inputRefusal (reducerOf made n (now active) (now numbers)) (now y) (length (now buses)) ≡ 0)
+        × (T ordinary → T (allOrdinary (take (2 * (n * n)) (now y)))) ⌝ }
     ensures { λ o. ⌜
         (o .done ≤ n)
         × (removalsOf (o .stopped) (o .done) (reducerOf made (n - o .done) (now (active .exit)) (now (numbers .entry)))
@@ -273,7 +309,7 @@ fn remove_accepted(
     let mut rows = [0; LIMIT];
     rows_of(&numbers[0..made], buses, &mut rows[0..count]);
     let mut row = [0.0; ROW];
-    let ran = remove_list(n, active, y, &mut row, &rows[0..count]);
+    let ran = remove_list(n, active, y, &mut row, &rows[0..count], ordinary);
     let done = ran.done;
     if done == 0 {
         return ran;
@@ -285,7 +321,22 @@ fn remove_accepted(
     ran
 }
 
-// The buses of a list are removed in order, up to the first that is refused. Refusals: 1, 2, 9; then 11 or 12 as the list meets them.
+// What a list of removals answers on an input refusal.
+fn none_removed(r: KronReducer, f: u32) -> AfterRemovals
+    ensures { λ o. ⌜ o ≡ removalsOf f 0 r ⌝ }
+{
+    let removals = Removals {
+        answer: answer_of(f),
+        removed: 0,
+    };
+    AfterRemovals {
+        removals: removals,
+        rec: r,
+    }
+}
+
+// The buses of a list are removed in order, up to the first that is refused. Refusals: 1, 2, 9, 19; then 11, 12 or 20 as the list meets
+// them.
 pub fn remove_buses(r: KronReducer, y: &mut [f64], buses: &[u32]) -> AfterRemovals
     ensures { λ o. ⌜ (o ≡ afterBuses r (now (y .entry)) (now (buses .entry)) .out)
         × (now (y .exit) ≡ afterBuses r (now (y .entry)) (now (buses .entry)) .slice) ⌝ }
@@ -294,18 +345,15 @@ pub fn remove_buses(r: KronReducer, y: &mut [f64], buses: &[u32]) -> AfterRemova
     let n = r.n_buses;
     let mut active = r.active_buses;
     let numbers = r.numbers;
-    let f = input_refusal(made, n, &active, &numbers, y.len(), buses.len());
+    let f = input_shape_refusal(made, n, &active, &numbers, y.len(), buses.len());
     if f != 0 {
-        let removals = Removals {
-            answer: answer_of(f),
-            removed: 0,
-        };
-        return AfterRemovals {
-            removals: removals,
-            rec: r,
-        };
+        return none_removed(r, f);
     }
-    let ran = remove_accepted(made, n, &mut active, &numbers, y, buses);
+    let ordinary = front_ordinary(n, y);
+    if !given_finite(n, y, ordinary) {
+        return none_removed(r, GIVEN_NOT_FINITE);
+    }
+    let ran = remove_accepted(made, n, &mut active, &numbers, y, buses, ordinary);
     let done = ran.done;
     let removals = Removals {
         answer: answer_of(ran.stopped),
@@ -323,7 +371,7 @@ pub fn remove_buses(r: KronReducer, y: &mut [f64], buses: &[u32]) -> AfterRemova
     }
 }
 
-// One bus is removed. Refusals: 1, 2, 9; 11; 12.
+// One bus is removed. Refusals: 1, 2, 9, 19; 11; 12 or 20.
 pub fn remove_bus(r: KronReducer, y: &mut [f64], bus: u32) -> AfterRemoval
     ensures { λ o. ⌜ (o ≡ afterBus r (now (y .entry)) bus .out) × (now (y .exit) ≡ afterBus r (now (y .entry)) bus .slice) ⌝ }
 {
@@ -355,10 +403,10 @@ fn find_number(r: KronReducer, bus: u32) -> Found
     find_bus(&active[0..n], row)
 }
 
-// The input refusals of a call with a slice of `len` numbers and a second of m, which must have `per` for each entry at making.
-fn reading_refusal(r: KronReducer, len: usize, m: usize, per: usize) -> u32
+// What the record, a slice of `len` numbers and a second of m, which must have `per` for each entry at making, tell: 1, 2 or 9, or 0.
+fn reading_shape_refusal(r: KronReducer, len: usize, m: usize, per: usize) -> u32
     requires { ⌜ per ≤ 4 ⌝ }
-    ensures { λ f. ⌜ ((ys : List Float) → length ys ≡ len → f ≡ readingRefusal per r ys m) ⌝ }
+    ensures { λ f. ⌜ ((ys : List Float) → length ys ≡ len → f ≡ readingShapeRefusal per r ys m) ⌝ }
 {
     let made = r.made;
     if made > LIMIT {
@@ -370,7 +418,22 @@ fn reading_refusal(r: KronReducer, len: usize, m: usize, per: usize) -> u32
     let n = r.n_buses;
     let active = r.active_buses;
     let numbers = r.numbers;
-    input_refusal(made, n, &active, &numbers, len, 0)
+    input_shape_refusal(made, n, &active, &numbers, len, 0)
+}
+
+// The input refusals of a call with a second slice of m numbers, which must have `per` for each entry at making: 1, 2, 9 or 19, or 0.
+fn reading_refusal(r: KronReducer, y: &[f64], m: usize, per: usize) -> u32
+    requires { ⌜ per ≤ 4 ⌝ }
+    ensures { λ f. ⌜ f ≡ readingRefusal per r (now (y .entry)) m ⌝ }
+{
+    let f = reading_shape_refusal(r, y.len(), m, per);
+    if f != 0 {
+        return f;
+    }
+    if front_finite(r.n_buses, y) {
+        return 0;
+    }
+    GIVEN_NOT_FINITE
 }
 
 // n rows of n entries of y, and +0 behind them.
@@ -384,12 +447,12 @@ fn copy_rows(n: usize, y: &[f64], out: &mut [f64])
     clear(&mut out[a..e]);
 }
 
-// The present rows of y are copied to `out`, +0 behind. Refusals: 1, 2, 9.
+// The present rows of y are copied to `out`, +0 behind. Refusals: 1, 2, 9, 19.
 pub fn reduced_matrix(r: KronReducer, y: &[f64], out: &mut [f64]) -> Outcome
     ensures { λ o. ⌜ (o ≡ afterMatrix r (now (y .entry)) (now (out .entry)) .answer)
         × (now (out .exit) ≡ afterMatrix r (now (y .entry)) (now (out .entry)) .out) ⌝ }
 {
-    let f = reading_refusal(r, y.len(), out.len(), 2);
+    let f = reading_refusal(r, y, out.len(), 2);
     if f != 0 {
         return answer_of(f);
     }
@@ -462,8 +525,9 @@ pub fn active_buses(r: KronReducer, out: &mut [u32]) -> Outcome
     Outcome::Done
 }
 
-// The impedance seen between two buses. Refusals: 1, 2, 9; 11, of the first bus or of the second; 13.
-// The work slice has four numbers for each entry at making; it is +0 after an answer or 13.
+// The impedance seen between two buses, in per unit. Refusals: 1, 2, 9, 19; 11, of the first bus or of the second; 13 or 20 as the work
+// meets them.
+// The work slice has four numbers for each entry at making; it is +0 after an answer, 13 or 20.
 pub fn thevenin_impedance(
     r: KronReducer,
     y: &[f64],
@@ -474,7 +538,7 @@ pub fn thevenin_impedance(
     ensures { λ o. ⌜ (o ≡ afterImpedance r (now (y .entry)) «bus_i» «bus_j» (now (work .entry)) .answer)
         × (now (work .exit) ≡ afterImpedance r (now (y .entry)) «bus_i» «bus_j» (now (work .entry)) .work) ⌝ }
 {
-    let f = reading_refusal(r, y.len(), work.len(), 4);
+    let f = reading_refusal(r, y, work.len(), 4);
     if f != 0 {
         return Impedance::Refused(f);
     }

@@ -1,26 +1,26 @@
 // The removal of buses from a matrix in a lent slice. What each function requires, the calls above have tested.
+use crate::careful::front_ordinary;
+use crate::careful::row_refusal;
 use complex::Complex;
-use complex::cdiv;
-use complex::cmul;
-use complex::constants::DIVISION_LIMIT;
-use complex::csub;
 use complex::entry::get;
 use complex::entry::put;
-use complex::sqmag;
+use complex::raw::cdiv;
+use complex::raw::cmul;
+use complex::raw::csub;
 use lists::Found;
 use refusals::NOT_ACTIVE;
-use refusals::SMALL_ENTRY;
 use solver::rows::copy;
 ghost use mathlib.Core.Path.{_≡_};
 ghost use mathlib.Core.Bool.{_&&_};
 ghost use Prim.Native.Nat.{ℕ, _+_, _*_, _-_, _≤_, _<_};
-ghost use lib.ListN.{length, getD};
+ghost use lib.Dec.{T};
+ghost use lib.ListN.{length, getD, take};
 ghost use Rattle.complex.specs.Entries.{entry};
 ghost use Rattle.complex.specs.Matrices.{entryAt};
 ghost use Rattle.refusals.specs.Refusals.{limit};
 ghost use Rattle.lists.specs.Buses.{foundIn, rising, allBelow, allZero};
 ghost use Rattle.kron_reduction.specs.Kron.{newEntry, kron};
-ghost use Rattle.complex.specs.Arithmetic.{tooSmall};
+ghost use Rattle.complex.specs.Inner.Ordinary.{allOrdinary};
 ghost use Rattle.kron_reduction.specs.Inner.Removal.{oldRow, Holds, RemovedOne, RemovedAll};
 
 // How a list of removals ended: the refusal that stopped it, or 0, and how many were carried out.
@@ -250,44 +250,62 @@ fn remove_row(n: usize, k: usize, y: &mut [f64], row: &mut [f64])
     other_rows(n, k, y, &row[0..w]);
 }
 
-// Whether row k's own entry is too small to divide by.
-fn too_small(n: usize, k: usize, y: &[f64]) -> bool
-    requires { ⌜ (n ≤ limit) × (k < n) × (2 * (n * n) ≤ length (now y)) ⌝ }
-    ensures { λ r. ⌜ r ≡ tooSmall (entryAt n (now (y .entry)) k k) ⌝ }
-{
-    sqmag(get(y, k * n + k)) < DIVISION_LIMIT
-}
-
-// One bus is removed from the n that `active` and the slice's front hold: 0, or 11 or 12 with both as they were.
-fn remove_one(n: usize, active: &mut [u8], y: &mut [f64], row: &mut [f64], bus: usize) -> u32
-    requires { ⌜ Holds n (now active) (now y) × (length (now row) ≡ 2 * limit) ⌝ }
+// One bus is removed from the n that `active` and the slice's front hold: 0, or 11, 12 or 20 with both as they were. `ordinary` says that
+// the front is of ordinary size.
+fn remove_one(
+    n: usize,
+    active: &mut [u8],
+    y: &mut [f64],
+    row: &mut [f64],
+    bus: usize,
+    ordinary: bool,
+) -> u32
+    requires { ⌜ Holds n (now active) (now y) × (length (now row) ≡ 2 * limit)
+        × (T ordinary → T (allOrdinary (take (2 * (n * n)) (now y)))) ⌝ }
     ensures { λ f. ⌜ RemovedOne n (now (active .entry)) (now (y .entry)) bus f (now (active .exit)) (now (y .exit)) ⌝ }
 {
     let Found::At(k) = find_bus(&active[0..n], bus) else {
         return NOT_ACTIVE;
     };
-    if too_small(n, k, y) {
-        return SMALL_ENTRY;
+    let f = row_refusal(n, k, y, ordinary);
+    if f != 0 {
+        return f;
     }
     remove_row(n, k, y, row);
     close_places(active, n, k);
     0
 }
 
-// The buses of a list are removed in order, up to the first that is refused.
+// Whether the m rows after `done` removals are of ordinary size: the caller has told it of the first ones.
+fn still_ordinary(done: usize, m: usize, y: &[f64], ordinary: bool) -> bool
+    requires { ⌜ (m ≤ limit) × (2 * (m * m) ≤ length (now y))
+        × (done ≡ 0 → T ordinary → T (allOrdinary (take (2 * (m * m)) (now y)))) ⌝ }
+    ensures { λ r. ⌜ (T r → T (allOrdinary (take (2 * (m * m)) (now (y .entry))))) ⌝ }
+{
+    if done == 0 {
+        return ordinary;
+    }
+    front_ordinary(m, y)
+}
+
+// The buses of a list are removed in order, up to the first that is refused. `ordinary` says that the front is of ordinary size.
 pub fn remove_list(
     n: usize,
     active: &mut [u8],
     y: &mut [f64],
     row: &mut [f64],
     buses: &[usize],
+    ordinary: bool,
 ) -> Ran
-    requires { ⌜ Holds n (now active) (now y) × (length (now row) ≡ 2 * limit) ⌝ }
+    requires { ⌜ Holds n (now active) (now y) × (length (now row) ≡ 2 * limit)
+        × (T ordinary → T (allOrdinary (take (2 * (n * n)) (now y)))) ⌝ }
     ensures { λ r. ⌜ RemovedAll n (now (active .entry)) (now (y .entry)) (now (buses .entry)) r (now (active .exit)) (now (y .exit)) ⌝ }
 {
     let mut done = 0;
     while done < buses.len() {
-        let f = remove_one(n - done, active, y, row, buses[done]);
+        let m = n - done;
+        let still = still_ordinary(done, m, y, ordinary);
+        let f = remove_one(m, active, y, row, buses[done], still);
         if f != 0 {
             return Ran {
                 stopped: f,

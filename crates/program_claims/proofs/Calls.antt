@@ -2,7 +2,8 @@
 use Rattle.prelude.proofs.Prelude.{_≡_, refl, sym, ap, subst, Bool, true, false, cond, List, [], _∷_, _++_, ℕ, zero, suc, _+_, _*_, _≤_, _<_, arith, T, length, take, drop, Float, _^_, map, append-assoc, append-nil, leb, leb→le, binary64}
 use lib.Ieee.Fits.{nan-fits}
 use lib.Ieee.Bits.{ofBits-fits}
-use Rattle.binary64.specs.Values.{F64s}
+use Rattle.binary64.specs.Values.{allFinite, F64s}
+use Rattle.complex.proofs.Finite.{none, all-more}
 use Rattle.refusals.specs.declared.Outcome.{Outcome}
 use Rattle.refusals.specs.declared.Outcome.the-variants.{Done, Refused}
 use Rattle.lists.specs.Buses.{mem}
@@ -19,6 +20,7 @@ use Rattle.text_numbers.specs.Bytes.{Bytes}
 use Rattle.text_numbers.proofs.WordSizes.{decimal-below}
 use Rattle.reduce_text.specs.Lines.{busesOf, numberOf, dropOf, entryOf}
 use Rattle.reduce_text.specs.Reading.{most, Run, ended, noReducer, ofWord, onNumber, onOutcome, onEntry, afterDrop, drops, finish, entries, badAt, named, first}
+use Rattle.reduce_text.proofs.LineLaws.{entry-finite}
 use Rattle.reduce_text.proofs.Fit.{Names, names-none, names-more}
 use Rattle.program_claims.specs.Inputs.{entryParts, entriesOf, busIn, namesOf, dropped, callsOf, orNone}
 
@@ -164,6 +166,18 @@ f64s (l ∷ ls) i = entry-fits (entryOf l) (f64s ls) i
     entry-fits (Words a b) f (suc zero) = ofBits-fits binary64 b
     entry-fits (Words a b) f (suc (suc i)) = f i
     entry-fits NoEntry f i = f i
+
+-- and they are finite
+pub all-finite : (ls : List Bytes) → T (allFinite (entriesOf ls))
+unfolding entriesOf
+all-finite [] = none
+all-finite (l ∷ ls) = entry-all (entryOf l) refl (all-finite ls)
+  where
+    entry-all : (w : Entry) → entryOf l ≡ w → T (allFinite (entriesOf ls)) → T (allFinite (entryParts w ++ entriesOf ls))
+    entry-all (Words a b) e h =
+        let (x, y) = entry-finite l a b e in
+        all-more (ofWord a) (ofWord b ∷ entriesOf ls) x (all-more (ofWord b) (entriesOf ls) y h)
+    entry-all NoEntry e h = h
 
 -- a first line with so many buses, numbers, entries and drops behind it
 pub record AsInput (l : Bytes) (ls : List Bytes) (R : Run) (n : ℕ) : Type 0 where

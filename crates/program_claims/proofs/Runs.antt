@@ -23,7 +23,7 @@ use Rattle.reduce_text.specs.Reduce.{printed}
 use Rattle.reduce_text.proofs.Fit.{Names, making-accepted}
 use Rattle.program_claims.specs.Inputs.{orNone, dropped, callsOf, firstLine, sizeOf, behindFirst, behindNumbers, busNumbers, entryCount, entryPart, dropPart, makingIn, calls, accountOf, IsKept, stateLeft}
 use Rattle.program_claims.specs.Runs.{DropsAreCalls, ProgramClaims}
-use Rattle.program_claims.proofs.Calls.{at-end, endOf, heldOf, drops-calls, first-buses, f64s}
+use Rattle.program_claims.proofs.Calls.{at-end, endOf, heldOf, drops-calls, first-buses, f64s, all-finite}
 use Rattle.program_claims.proofs.Dropped.{drops-removed}
 
 -- ---- one input
@@ -67,7 +67,7 @@ module _ (input : Bytes) (h : IsKept input) where
 
   is-made : AcceptedMaking (makingIn input)
   unfolding makingIn
-  is-made = rw (making-accepted (sizeOf input) (busNumbers input) (makingIn input .given) (given .small) (given .names) (given .numbers)) tt
+  is-made = rw (making-accepted (sizeOf input) (busNumbers input) (makingIn input .given) (given .small) (given .names) (given .numbers) (all-finite (entryPart input))) tt
 
   ends : stateLeft input ≡ left (makingIn input) (calls input)
   unfolding stateLeft left calls
@@ -125,20 +125,25 @@ given-f64s : (input : Bytes) → F64s (makingIn input .given)
 unfolding makingIn
 given-f64s input = f64s (entryPart input)
 
-pub unchanged : (input : Bytes) → IsKept input → Finite (makingIn input) (calls input) → Unchanged (accountOf input) (stateLeft input)
-unchanged input h f =
+pub unchanged : (input : Bytes) → IsKept input → Unchanged (accountOf input) (stateLeft input)
+unchanged input h =
     subst (λ (x : ReducerState). Unchanged (accountOf input) x) (sym (drops-are input h .ends))
-    (demand3 .removals .unchanged (makingIn input) (calls input) (given-f64s input) f)
+    (demand3 .removals .unchanged (makingIn input) (calls input) (given-f64s input) (is-made input h))
 
 -- ---- two inputs
 
-pub independent : (input input' : Bytes) → IsKept input → IsKept input' → Finite (makingIn input) (calls input) → Finite (makingIn input') (calls input')
+pub independent : (input input' : Bytes) → IsKept input → IsKept input'
     → Independent (accountOf input) (stateLeft input) (accountOf input') (stateLeft input')
-independent input input' h h' f f' =
+independent input input' h h' =
     subst₂ (λ (x x' : ReducerState). Independent (accountOf input) x (accountOf input') x') (sym (drops-are input h .ends)) (sym (drops-are input' h' .ends))
-    (demand3 .removals .independent (makingIn input) (makingIn input') (calls input) (calls input') (given-f64s input) (given-f64s input') f f')
+    (demand3 .removals .independent (makingIn input) (makingIn input') (calls input) (calls input') (given-f64s input) (given-f64s input') (is-made input h) (is-made input' h'))
+
+-- ---- the numbers are finite
+
+pub finite : (input : Bytes) → IsKept input → Finite (makingIn input) (calls input)
+finite input h = demand3 .removals .finite (makingIn input) (calls input) (is-made input h)
 
 -- ---- all of them
 
 pub program-claims : ProgramClaims
-program-claims = record { drops = drops-are; removed = removed-are; numbers = numbers-are; kept-numbers = kept-numbers-are; buses = buses-are; prints = prints; unchanged = unchanged; independent = independent }
+program-claims = record { drops = drops-are; removed = removed-are; numbers = numbers-are; kept-numbers = kept-numbers-are; buses = buses-are; prints = prints; unchanged = unchanged; independent = independent; finite = finite }

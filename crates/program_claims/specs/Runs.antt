@@ -39,10 +39,11 @@ pub record ProgramClaims : Type 0 where
       → runOf input .reading .rec ≡ recordOf (sizeOf input) (busNumbers input) (kept (accountOf input))
   pub prints : (input : Bytes) → IsKept input
       → printed input ≡ keptText (recordOf (sizeOf input) (busNumbers input) (kept (accountOf input))) (runOf input .numbers)
-  -- with finite numbers, an entry has its old value unless a chain joins its buses through dropped ones
-  pub unchanged : (input : Bytes) → IsKept input → Finite (makingIn input) (calls input) → Unchanged (accountOf input) (stateLeft input)
+  -- an entry has its old value unless a chain joins its buses through dropped ones
+  pub unchanged : (input : Bytes) → IsKept input → Unchanged (accountOf input) (stateLeft input)
   -- two inputs that differ in the rows and columns of a group of dropped buses: no entry differs without a chain into the group and one out
   -- of it
   pub independent : (input input' : Bytes) → IsKept input → IsKept input'
-      → Finite (makingIn input) (calls input) → Finite (makingIn input') (calls input')
       → Independent (accountOf input) (stateLeft input) (accountOf input') (stateLeft input')
+  -- every number of the entry lines, and every one computed in the drops, is finite
+  pub finite : (input : Bytes) → IsKept input → Finite (makingIn input) (calls input)

@@ -1,11 +1,13 @@
 -- Laws of lines: where the first line ends, what is behind it, and a keyword compared byte by byte.
-use Rattle.prelude.proofs.Prelude.{_≡_, refl, ap, _∙_, Bool, true, false, _&&_, cond, [], _∷_, ℕ, suc, _+_, _-_, _≤_, _<_, add-one, arith, eqb, length, getD, take, drop, length-drop, drop-of-length-le, drop-cons, eq-eqb, ne-eqb}
+use Rattle.prelude.proofs.Prelude.{_≡_, refl, ap, _∙_, subst, Bool, true, false, _&&_, cond, [], _∷_, ℕ, suc, _+_, _-_, _≤_, _<_, add-one, arith, T, eqb, length, getD, take, drop, length-drop, drop-of-length-le, drop-cons, eq-eqb, ne-eqb}
 use mathlib.Core.Bool.{false≢true}
-use Rattle.text_numbers.specs.declared.Number.the-variants.{Not}
-use Rattle.reduce_text.specs.declared.text.Entry.the-variants.{NoEntry}
+use Rattle.text_numbers.specs.declared.Number.{Number}
+use Rattle.text_numbers.specs.declared.Number.the-variants.{Is, Not}
+use Rattle.reduce_text.specs.declared.text.Entry.{Entry}
+use Rattle.reduce_text.specs.declared.text.Entry.the-variants.{Words, NoEntry}
 use Rattle.text_numbers.specs.Bytes.{Bytes, lineFeed, space}
 use Rattle.text_numbers.specs.Words.{decimalOf, hexOf}
-use Rattle.reduce_text.specs.Lines.{inFront, lines, span, startsWith, numberAfter, both, entryOf}
+use Rattle.reduce_text.specs.Lines.{inFront, lines, span, startsWith, numberAfter, finiteWord, both, entryOf}
 
 -- ---- the span of a line
 
@@ -111,3 +113,42 @@ entry-space l e n = simp (eq-eqb _ _ e, ne-eqb _ _ n)
 pub entry-both : (l : Bytes) → length l ≡ 33 → getD l 16 0 ≡ space → entryOf l ≡ both (hexOf (take 16 l)) (hexOf (drop 17 l))
 unfolding entryOf
 entry-both l e s = simp (eq-eqb _ _ e, eq-eqb _ _ s)
+
+-- ---- two words
+
+pub both-first : (a b : ℕ) → finiteWord a ≡ false → both (Is a) (Is b) ≡ NoEntry
+both-first a b e = rw e
+
+pub both-second : (a b : ℕ) → finiteWord a ≡ true → finiteWord b ≡ false → both (Is a) (Is b) ≡ NoEntry
+both-second a b e f = rw (e, f)
+
+pub both-finite : (a b : ℕ) → finiteWord a ≡ true → finiteWord b ≡ true → both (Is a) (Is b) ≡ Words a b
+both-finite a b e f = rw (e, f)
+
+-- an entry that is read has finite numbers
+FiniteWords : Entry → Type 0
+FiniteWords (Words a b) = T (finiteWord a) × T (finiteWord b)
+FiniteWords NoEntry = Unit {0}
+
+words-finite : (v w : Number) → FiniteWords (both v w)
+unfolding FiniteWords
+words-finite (Is a) (Is b) = go (finiteWord a) (finiteWord b) (λ (t : T (finiteWord a)). t) (λ (t : T (finiteWord b)). t)
+  where
+    go : (x y : Bool) → (T x → T (finiteWord a)) → (T y → T (finiteWord b)) → FiniteWords (cond (x && y) (Words a b) NoEntry)
+    go true true f g = (f tt, g tt)
+    go true false f g = tt
+    go false y f g = tt
+words-finite (Is a) Not = tt
+words-finite Not w = tt
+
+line-finite : (l : Bytes) → FiniteWords (entryOf l)
+unfolding entryOf FiniteWords
+line-finite l = go (eqb (length l) 33 && eqb (getD l 16 0) space)
+  where
+    go : (t : Bool) → FiniteWords (cond t (both (hexOf (take 16 l)) (hexOf (drop 17 l))) NoEntry)
+    go true = words-finite (hexOf (take 16 l)) (hexOf (drop 17 l))
+    go false = tt
+
+pub entry-finite : (l : Bytes) (a b : ℕ) → entryOf l ≡ Words a b → T (finiteWord a) × T (finiteWord b)
+unfolding FiniteWords
+entry-finite l a b e = subst FiniteWords e (line-finite l)

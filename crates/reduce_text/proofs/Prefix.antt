@@ -3,6 +3,8 @@ use Rattle.prelude.proofs.Prelude.{_≡_, refl, sym, ap, _∙_, subst, Bool, tr
 use native.Mathlib.Decide.{decLt, ℕ-discrete}
 use lib.Seq.{take-nil}
 use Rattle.lists.proofs.Order.{length-upTo}
+use Rattle.binary64.specs.Values.{allFinite}
+use Rattle.complex.proofs.Finite.{none}
 use Rattle.refusals.specs.declared.Outcome.{Outcome}
 use Rattle.refusals.specs.declared.Outcome.the-variants.{Done, Refused}
 use Rattle.refusals.specs.Refusals.{outcome}
@@ -28,7 +30,7 @@ use Rattle.reduce_text.proofs.LineLaws.{span-le, entry-length}
 use Rattle.reduce_text.proofs.ReadLaws.{first-and-rest, entry-33}
 use Rattle.reduce_text.proofs.NumberSizes.{number-size, number-below, number-long, word-size, word-long}
 use Rattle.reduce_text.proofs.Cutting.{firstLine, behind, cut-same, cut-long}
-use Rattle.reduce_text.proofs.Fit.{Names, names-none, names-more, StoredRun, stored-new, fresh, within, left-is, stored-bus}
+use Rattle.reduce_text.proofs.Fit.{Names, names-none, names-more, finite-more, StoredRun, stored-new, fresh, within, left-is, stored-bus}
 
 -- ---- a drop that is carried out: one bus fewer is left
 
@@ -69,7 +71,7 @@ module _ (n : ℕ) (ns : List ℕ) (r : KronReducer) (ys : List Float) (k : ℕ)
   unfolding rowsIn
   accepted =
       stop-accepts (h .state) (place k ns)
-      (sym (refusal-stored n ns (h .state) (within n ns r ys k h) (h .names .many) (h .names .distinct) (h .regular) (k ∷ []) (lit≤ tt))
+      (sym (refusal-stored n ns (h .state) (within n ns r ys k h) (h .names .many) (h .names .distinct) (h .regular) (h .fine) (k ∷ []) (lit≤ tt))
       ∙ sym (ap (λ (x : ReducerState). removalsRefusal (x .rec) (x .slice) (k ∷ [])) (h .stored-is))
       ∙ no-refusal)
 
@@ -150,7 +152,7 @@ abbrev SameEntries : ℕ → List ℕ → ℕ → ℕ → List Float → Bytes �
 SameEntries n ns k p ys d m = entries (drops finish) n ns k p ys (lines d) ≡ entries (drops finish) n ns k p ys (lines (take m d))
 
 module _ (n : ℕ) (ns : List ℕ) (k p : ℕ) (ys : List Float)
-    (rest : (zs : List Float) (d : Bytes) (m : ℕ) → length zs + 2 * k ≡ 2 * (n * n) → 34 * k + 16 * n + 34 ≤ m → SameEntries n ns k (p + 1) zs d m) where
+    (fine : T (allFinite ys)) (rest : (zs : List Float) (d : Bytes) (m : ℕ) → length zs + 2 * k ≡ 2 * (n * n) → T (allFinite zs) → 34 * k + 16 * n + 34 ≤ m → SameEntries n ns k (p + 1) zs d m) where
   entry-short : (d : Bytes) (m : ℕ) → 0 < length d → span d < 34 → length ys + 2 * suc k ≡ 2 * (n * n) → 34 * suc k + 16 * n + 34 ≤ m → SameEntries n ns (suc k) p ys d m
   unfolding entries
   entry-short d m nonempty l e room =
@@ -163,7 +165,7 @@ module _ (n : ℕ) (ns : List ℕ) (k p : ℕ) (ys : List Float)
           ≡ onEntry (entryOf (firstLine d)) (λ a b. entries (drops finish) n ns k (p + 1) (ys ++ (ofWord a ∷ ofWord b ∷ [])) (lines (take (m - suc (span d)) (behind d)))) (ended (BadLine p) noReducer ys)
       found (Words a b) f =
           rw f
-          (rest (ys ++ (ofWord a ∷ ofWord b ∷ [])) (behind d) (m - suc (span d)) (omega (arith, length-append ys (ofWord a ∷ ofWord b ∷ [])))
+          (rest (ys ++ (ofWord a ∷ ofWord b ∷ [])) (behind d) (m - suc (span d)) (omega (arith, length-append ys (ofWord a ∷ ofWord b ∷ []))) (finite-more ys (firstLine d) a b fine f)
           (omega (arith, entry-33 (firstLine d) a b f, length-take (span d) d, span-le d, room)))
       found NoEntry f = rw f
 
@@ -183,16 +185,17 @@ module _ (n : ℕ) (ns : List ℕ) (k p : ℕ) (ys : List Float)
       go (yes l) = entry-short (b ∷ bs) m (omega arith) l e room
       go (no l) = entry-long (b ∷ bs) m (omega arith) (omega arith)
 
-made-buses : (n : ℕ) (ns : List ℕ) (ys : List Float) → n ≤ most → Names n ns → length ys ≡ 2 * (n * n) → afterNew (reducerInputOf n ys ns) .rec .«n_buses» ≡ n
+made-buses : (n : ℕ) (ns : List ℕ) (ys : List Float) → n ≤ most → Names n ns → length ys ≡ 2 * (n * n) → T (allFinite ys) → afterNew (reducerInputOf n ys ns) .rec .«n_buses» ≡ n
 unfolding stored
-made-buses n ns ys h g e = ap (λ (x : ReducerState). x .rec .«n_buses») (fresh n ns ys h g e) ∙ length-upTo n
+made-buses n ns ys h g e f = ap (λ (x : ReducerState). x .rec .«n_buses») (fresh n ns ys h g e f) ∙ length-upTo n
 
-pub entries-cut : (n : ℕ) (ns : List ℕ) (k p : ℕ) (ys : List Float) (d : Bytes) (m : ℕ) → n ≤ most → Names n ns → length ys + 2 * k ≡ 2 * (n * n) → 34 * k + 16 * n + 34 ≤ m → SameEntries n ns k p ys d m
+pub entries-cut : (n : ℕ) (ns : List ℕ) (k p : ℕ) (ys : List Float) (d : Bytes) (m : ℕ) → n ≤ most → Names n ns → length ys + 2 * k ≡ 2 * (n * n) → T (allFinite ys) → 34 * k + 16 * n + 34 ≤ m → SameEntries n ns k p ys d m
 unfolding entries
-entries-cut n ns zero p ys d m h g e room =
-    let b : afterNew (reducerInputOf n ys ns) .rec .«n_buses» ≡ n = made-buses n ns ys h g (omega arith) in
-    drops-cut n n ns p (afterNew (reducerInputOf n ys ns) .rec) ys d m (stored-new n ns ys h g (omega arith)) (omega arith) (omega arith)
-entries-cut n ns (suc k) p ys d m h g e room = one-entry n ns k p ys (λ zs d′ m′ e′ room′. entries-cut n ns k (p + 1) zs d′ m′ h g e′ room′) d m e room
+entries-cut n ns zero p ys d m h g e fine room =
+    let b : afterNew (reducerInputOf n ys ns) .rec .«n_buses» ≡ n = made-buses n ns ys h g (omega arith) fine in
+    drops-cut n n ns p (afterNew (reducerInputOf n ys ns) .rec) ys d m (stored-new n ns ys h g (omega arith) fine) (omega arith) (omega arith)
+entries-cut n ns (suc k) p ys d m h g e fine room =
+    one-entry n ns k p ys fine (λ zs d′ m′ e′ fine′ room′. entries-cut n ns k (p + 1) zs d′ m′ h g e′ fine′ room′) d m e room
 
 -- ---- the number lines
 
@@ -245,7 +248,7 @@ module _ (n k j p : ℕ) (ns : List ℕ) (g : Names j ns)
 pub named-cut : (n k j p : ℕ) (ns : List ℕ) (d : Bytes) (m : ℕ) → n ≤ most → Names j ns → j + k ≡ n → enoughNames n k m → SameNames n k p ns d m
 unfolding named
 named-cut n zero j p ns d m h g e room =
-    entries-cut n ns (n * n) p [] d m h (subst (λ (i : ℕ). Names i ns) (let z : j ≡ n = omega arith in z) g) (omega arith) (omega arith)
+    entries-cut n ns (n * n) p [] d m h (subst (λ (i : ℕ). Names i ns) (let z : j ≡ n = omega arith in z) g) (omega arith) none (omega arith)
 named-cut n (suc k) j p ns d m h g e room =
     one-name n k j p ns g (λ ms d′ m′ g′ room′. named-cut n k (j + 1) (p + 1) ms d′ m′ h g′ (omega arith) room′) d m room
 

@@ -42,7 +42,7 @@ module _ (input : Bytes) (before left : List Float) (o : Reading) (w : RanIn bef
   pub whole-is : Whole (o .rec) left
   whole-is =
       let R = runOf input in
-      let f = run-fit input in
+      let f = run-fit input .fit in
       let e : length left ≡ length (R .numbers) + length (drop (length (R .numbers)) before) =
       ap length (w .leaves) ∙ length-append (R .numbers) (drop (length (R .numbers)) before) in
       rw (w .says) (le-trans (f .size) most-limit, f .is-sound, omega (arith, f .entries, e))
@@ -53,7 +53,7 @@ module _ (input : Bytes) (before left : List Float) (o : Reading) (w : RanIn bef
       let R = runOf input in
       ap (λ (q : Reading). textOf (q .end) (q .rec) left) (w .says)
       ∙ ap (textOf (R .reading .end) (R .reading .rec)) (w .leaves)
-      ∙ text-front (R .reading .end) (R .reading .rec) (R .numbers) (drop (length (R .numbers)) before) (run-fit input .entries)
+      ∙ text-front (R .reading .end) (R .reading .rec) (R .numbers) (drop (length (R .numbers)) before) (run-fit input .fit .entries)
 
 pub printed-room : (input : Bytes) → length (printed input) ≤ outputLength
 unfolding printed

@@ -91,4 +91,4 @@ text-of-room (BadLine p) r ys f = omega (arith, length-number-line (ascii "bad l
 
 pub text-room : (R : Run) → FitRun R → length (text R) ≤ outputLength
 unfolding text
-text-room R f = text-of-room (R .reading .end) (R .reading .rec) (R .numbers) f
+text-room R f = text-of-room (R .reading .end) (R .reading .rec) (R .numbers) (f .fit)

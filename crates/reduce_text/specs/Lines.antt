@@ -4,6 +4,8 @@ use mathlib.Core.Bool.{Bool, true, false, _&&_, cond}
 use mathlib.Core.List.{List, [], _∷_}
 use lib.Dec.{eqb}
 use lib.ListN.{length, getD, take, drop}
+use lib.Ieee.{binary64, ofBits}
+use lib.Ieee.Scale.{finite}
 use Rattle.text_numbers.specs.declared.Number.{Number}
 use Rattle.text_numbers.specs.declared.Number.the-variants.{Is, Not}
 use Rattle.reduce_text.specs.declared.text.Entry.{Entry}
@@ -56,13 +58,17 @@ numberOf l = decimalOf l
 abbrev pub dropOf : Bytes → Number
 dropOf l = numberAfter (ascii "drop ") l
 
--- two words, or none
+-- the 64 bits of a finite number: no infinity's and no NaN's
+abbrev pub finiteWord : ℕ → Bool
+finiteWord w = finite (ofBits binary64 w)
+
+-- two words of finite numbers, or none
 abbrev pub both : Number → Number → Entry
-both (Is a) (Is b) = Words a b
+both (Is a) (Is b) = cond (finiteWord a && finiteWord b) (Words a b) NoEntry
 both (Is a) Not = NoEntry
 both Not w = NoEntry
 
--- two words of 16 hexadecimal digits with one space between them: 33 bytes
+-- two words of 16 hexadecimal digits, each a finite number's, with one space between them: 33 bytes
 unfoldable pub entryOf : Bytes → Entry
 entryOf l =
     cond (eqb (length l) 33 && eqb (getD l 16 0) space) (both (hexOf (take 16 l)) (hexOf (drop 17 l))) NoEntry

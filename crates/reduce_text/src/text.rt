@@ -1,10 +1,13 @@
 // Lines of a text, and the forms of a line.
+use binary64::finite::finite;
+use binary64::words::of_word;
 use text_numbers::Number;
 use text_numbers::decimal;
 use text_numbers::hexadecimal;
 ghost use mathlib.Core.Path.{_≡_};
 ghost use Prim.Native.Nat.{_+_, _≤_};
 ghost use lib.ListN.{length, drop};
+ghost use Rattle.text_numbers.specs.declared.Number.the-variants as numbers;
 ghost use Rattle.reduce_text.specs.Lines as spec;
 
 // What an entry line says: the bits of the real and of the imaginary part, or no entry.
@@ -55,6 +58,19 @@ pub fn number_after(key: &[u8], line: &[u8]) -> Number
     decimal(&line[k..])
 }
 
+// The entry of these two words, or none where one of them is no finite number.
+fn entry_of(re: u64, im: u64) -> Entry
+    ensures { λ r. ⌜ r ≡ spec.both (numbers.Is re) (numbers.Is im) ⌝ }
+{
+    if !finite(of_word(re)) {
+        return Entry::NoEntry;
+    }
+    if !finite(of_word(im)) {
+        return Entry::NoEntry;
+    }
+    Entry::Words(re, im)
+}
+
 // The entry that a line gives in two words of 16 hexadecimal digits, or none.
 pub fn entry_line(line: &[u8]) -> Entry
     ensures { λ r. ⌜ r ≡ spec.entryOf (now (line .entry)) ⌝ }
@@ -71,5 +87,5 @@ pub fn entry_line(line: &[u8]) -> Entry
     let Number::Is(im) = hexadecimal(&line[17..33]) else {
         return Entry::NoEntry;
     };
-    Entry::Words(re, im)
+    entry_of(re, im)
 }

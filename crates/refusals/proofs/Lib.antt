@@ -1,3 +1,4 @@
 pub mod Refusing
 pub mod Answering
 pub mod Work
+pub mod Numbers

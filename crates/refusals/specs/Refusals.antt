@@ -1,6 +1,10 @@
 -- The refusals by number, and the answers that carry them. 0 is no refusal.
 use Prim.Native.Nat.{ℕ, zero, suc}
-use mathlib.Core.Bool.{Bool, cond}
+use mathlib.Core.Bool.{Bool, not, cond}
+use mathlib.Core.List.{List}
+use lib.Dec.{eqb}
+use lib.Ieee.{Float}
+use Rattle.binary64.specs.Values.{allFinite}
 use Rattle.refusals.specs.declared.Outcome.{Outcome}
 use Rattle.refusals.specs.declared.Outcome.the-variants.{Done, Refused}
 use Rattle.refusals.specs.declared.Counted.{Counted}
@@ -48,6 +52,10 @@ busTwice = 8
 abbrev pub badRecord : ℕ
 badRecord = 9
 
+-- a given number is not finite, told last
+abbrev pub givenNotFinite : ℕ
+givenNotFinite = 19
+
 -- ---- told from the state
 
 -- the bus is not active
@@ -66,11 +74,25 @@ singular = 13
 abbrev pub beyondAllowance : ℕ
 beyondAllowance = 18
 
+-- a computed number is not finite
+abbrev pub computedNotFinite : ℕ
+computedNotFinite = 20
+
 -- ---- the answers
 
 -- number k where the test holds, else what comes after
 abbrev pub refuse : Bool → ℕ → ℕ → ℕ
 refuse test k next = cond test k next
+
+-- the refusal of an input: the one told from lengths, lists and record, else 19 where a number given is not finite
+unfoldable pub thenGiven : ℕ → List Float → ℕ
+unfolding allFinite
+thenGiven told given = cond (eqb told 0) (refuse (not (allFinite given)) givenNotFinite 0) told
+
+-- the refusal of a call that computes these numbers and meets nothing else: the input's, else 20 where one is not finite
+unfoldable pub thenComputed : ℕ → List Float → ℕ
+unfolding allFinite
+thenComputed told computed = cond (eqb told 0) (refuse (not (allFinite computed)) computedNotFinite 0) told
 
 -- the answer of a call with this refusal
 unfoldable pub outcome : ℕ → Outcome

@@ -4,16 +4,17 @@ use mathlib.Core.Bool.{cond}
 use mathlib.Core.List.{List, [], _∷_}
 use lib.Dec.{eqb}
 use lib.Ieee.{Float}
+use lib.Ieee.Scale.{finite}
 use Rattle.refusals.specs.declared.Allowance.{Allowance}
 use Rattle.refusals.specs.declared.Allowance.the-variants.{Unlimited, Rows}
-use Rattle.refusals.specs.Refusals.{smallEntry, singular, beyondAllowance}
+use Rattle.refusals.specs.Refusals.{smallEntry, singular, beyondAllowance, computedNotFinite}
 
 pub data Step : Type 0 where
   -- a number is computed
   computes : Float → Step
   -- the reduction of a row begins
   reduces : Step
-  -- a bus's own entry is found too small to divide by; Kron's removal tells 12 by this test alone, and has no list of steps
+  -- a bus's own entry is found too small to divide by
   entryTooSmall : Step
   -- a chosen pivot is found too small to divide by
   pivotTooSmall : Step
@@ -39,10 +40,10 @@ reductions (reduces ∷ steps) = suc (reductions steps)
 reductions (entryTooSmall ∷ steps) = reductions steps
 reductions (pivotTooSmall ∷ steps) = reductions steps
 
--- The first refusal that the steps meet with this many row reductions allowed, 0 where they meet none. A number computed meets none.
+-- The first refusal that the steps meet with this many row reductions allowed, 0 where they meet none.
 unfoldable pub meets : ℕ → List Step → ℕ
 meets allowed [] = 0
-meets allowed (computes x ∷ steps) = meets allowed steps
+meets allowed (computes x ∷ steps) = cond (finite x) (meets allowed steps) computedNotFinite
 meets zero (reduces ∷ steps) = beyondAllowance
 meets (suc allowed) (reduces ∷ steps) = meets allowed steps
 meets allowed (entryTooSmall ∷ steps) = smallEntry

@@ -33,6 +33,10 @@ pub const SINGULAR: u32 = 13;
 
 pub const BEYOND_ALLOWANCE: u32 = 18;
 
+pub const GIVEN_NOT_FINITE: u32 = 19;
+
+pub const COMPUTED_NOT_FINITE: u32 = 20;
+
 // The answer of a call that returns no value: carried out, or refused with its number.
 pub enum Outcome {
     Done,

@@ -1,3 +1,5 @@
 pub mod ReiAnswers
 pub mod ReiCases
 pub mod TieLaws
+pub mod ReiNumbers
+pub mod ReiFinite

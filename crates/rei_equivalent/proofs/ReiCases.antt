@@ -1,12 +1,12 @@
 -- The REI definitions computed by the checker on a study of three buses.
-use Rattle.prelude.proofs.Prelude.{_≡_, refl, List, [], _∷_, _+_, replicate, Float, nan, binary64, ofInt, ofBits, ofFields, neg, add, mul, div, sum, round, units, odd, lt, size, span, climb}
+use Rattle.prelude.proofs.Prelude.{_≡_, refl, List, [], _∷_, _+_, replicate, Float, nan, inf, false, binary64, ofInt, ofBits, ofFields, neg, add, mul, div, sum, round, units, odd, lt, size, span, climb}
 use lib.Count.{trailingZeros}
 use Rattle.complex.specs.{plus0, one, smallMagnitude, tieThreshold, cneg, sqmag, entry, abs, magnitude, entryAt}
 use Rattle.lists.specs.Buses.{upTo}
 use Rattle.binary64.specs.Root.{root, rootOf, radicand, half, wholeRoot, movedBack}
-use Rattle.refusals.specs.Refusals.{limit}
-use Rattle.rei_equivalent.specs.Rei.{ReiInput, total, spoke, spokeParts, isTie, rowTies, upperTies, allTies, tieEnds, tieParts, tieRoom, reiBuses, reiSize, spokesOf, tiesOf, sized, reiLengthRefusal, reiRefusal, equivalentOf}
-use Rattle.dc_flow.proofs.DcCases.{zero′, one′, minus-one, two, minus-two}
+use Rattle.refusals.specs.Refusals.{limit, thenGiven, thenComputed}
+use Rattle.rei_equivalent.specs.Rei.{ReiInput, total, partialSums, spoke, ofSpoke, spokeParts, ofSpokes, isTie, rowTies, upperTies, allTies, tieEnds, tieParts, tieRoom, reiBuses, reiSize, spokesOf, tiesOf, sized, reiLengthRefusal, reiShapeRefusal, ofRei, reiRefusal, equivalentOf}
+use Rattle.dc_flow.proofs.DcCases.{zero′, one′, minus-one, two, minus-two, largest}
 
 abbrev minus-zero : Float
 minus-zero = ofBits binary64 0x8000000000000000
@@ -29,8 +29,8 @@ limit-tie = ofBits binary64 0x3d06849b86a12b9b
 matrix : List Float
 matrix =
     three ∷ minus-six ∷ minus-one ∷ two ∷ limit-tie ∷ zero′
-    ∷ nan ∷ nan ∷ limit-spoke ∷ zero′ ∷ zero′ ∷ minus-two
-    ∷ nan ∷ nan ∷ nan ∷ nan ∷ nan ∷ one′ ∷ []
+    ∷ three ∷ three ∷ limit-spoke ∷ zero′ ∷ zero′ ∷ minus-two
+    ∷ three ∷ three ∷ three ∷ three ∷ zero′ ∷ minus-zero ∷ []
 
 study : ReiInput
 unfolding matrix
@@ -49,7 +49,7 @@ study =
     }
 
 accepted : (reiRefusal study ≡ 0) × (reiBuses study ≡ 5 ∷ 9 ∷ 2 ∷ [])
-unfolding study matrix reiRefusal reiLengthRefusal sized reiSize reiBuses tieRoom
+unfolding study matrix reiRefusal reiShapeRefusal reiLengthRefusal sized reiSize reiBuses tieRoom thenGiven thenComputed ofRei partialSums ofSpokes ofSpoke magnitude root rootOf radicand half wholeRoot movedBack sqmag entryAt entry upTo plus0 smallMagnitude lt add mul div ofInt sum round units odd size span climb trailingZeros ofBits ofFields
 accepted = (refl, refl)
 
 -- the sum of a list of -0 is +0
@@ -57,7 +57,7 @@ answer : equivalentOf study ≡ record { «rei_bus_id» = 17; «rei_voltage_pu»
 unfolding study matrix equivalentOf tiesOf allTies upperTies rowTies isTie total reiSize reiBuses entryAt entry upTo plus0 one tieThreshold abs lt add neg sum round units odd size span climb trailingZeros ofBits ofFields cneg
 answer = refl
 
--- a third of the diagonal; none where its magnitude is just 1e-12, or NaN
+-- a third of the diagonal; none where its magnitude is just 1e-12, or 0
 spokes : spokesOf study ≡ one′ ∷ minus-two ∷ zero′ ∷ zero′ ∷ zero′ ∷ zero′ ∷ []
 unfolding study matrix spokesOf reiSize spokeParts spoke magnitude root rootOf radicand half wholeRoot movedBack sqmag entryAt entry upTo plus0 smallMagnitude lt add mul div ofInt sum round units odd size span climb trailingZeros ofBits ofFields
 spokes = refl
@@ -83,3 +83,48 @@ refused : (reiLengthRefusal 1 0 1 (sized 1 2 1 2 0 1) ≡ 2)
     × (reiLengthRefusal 0 0 0 (sized 0 0 0 0 0 0) ≡ 4)
 unfolding reiLengthRefusal sized tieRoom
 refused = (refl, refl, refl, refl, refl)
+
+-- ---- numbers that are not finite
+
+-- generator 5 alone, with this diagonal entry and these injections
+alone : Float → List Float → List Float → ReiInput
+alone y p q =
+    record {
+      generators = 5 ∷ [];
+      loads = [];
+      entries = y ∷ zero′ ∷ [];
+      p = p;
+      q = q;
+      busId = 17;
+      spokeBuses = replicate 1 8;
+      spokes = replicate 2 nan;
+      tieBuses = [];
+      ties = [];
+    }
+
+-- an entry, P or Q given; after unlike injections
+given-refused : (reiRefusal (alone nan (one′ ∷ []) (one′ ∷ [])) ≡ 19)
+    × (reiRefusal (alone one′ (inf false ∷ []) (one′ ∷ [])) ≡ 19)
+    × (reiRefusal (alone one′ (one′ ∷ []) (nan ∷ [])) ≡ 19)
+    × (reiRefusal (alone nan (one′ ∷ one′ ∷ []) (one′ ∷ [])) ≡ 3)
+unfolding alone reiRefusal reiShapeRefusal reiLengthRefusal sized reiSize tieRoom thenGiven thenComputed ofBits ofFields odd trailingZeros
+given-refused = (refl, refl, refl, refl)
+
+-- 2 ^ 512, whose square is not finite though it is given, and 2 ^ 511
+abbrev square-overflows : Float
+square-overflows = ofBits binary64 0x5ff0000000000000
+
+abbrev square-fits : Float
+square-fits = ofBits binary64 0x5fe0000000000000
+
+computed-refused : (reiRefusal (alone square-overflows (one′ ∷ []) (one′ ∷ [])) ≡ 20)
+    × (reiRefusal (alone square-fits (one′ ∷ []) (one′ ∷ [])) ≡ 0)
+unfolding alone reiRefusal reiShapeRefusal reiLengthRefusal sized reiSize tieRoom thenGiven thenComputed ofRei partialSums ofSpokes ofSpoke magnitude root rootOf radicand half wholeRoot movedBack sqmag entryAt entry upTo plus0 smallMagnitude lt add mul div ofInt sum round units odd size span climb trailingZeros ofBits ofFields
+computed-refused = (refl, refl)
+
+-- a sum of P that is not finite on the way or at its end, and one of Q
+sums-refused : (thenComputed 0 (ofRei 0 [] (largest ∷ largest ∷ []) []) ≡ 20)
+    × (thenComputed 0 (ofRei 0 [] [] (largest ∷ largest ∷ [])) ≡ 20)
+    × (thenComputed 0 (ofRei 0 [] (largest ∷ []) (largest ∷ [])) ≡ 0)
+unfolding thenComputed ofRei partialSums ofSpokes upTo plus0 add sum round units odd size span climb trailingZeros ofBits ofFields
+sums-refused = (refl, refl, refl)

@@ -4,7 +4,7 @@ use Prim.Native.Nat.{ℕ, zero, suc, _+_, _*_, _-_}
 use mathlib.Core.Path.{_≡_}
 use mathlib.Core.Bool.{Bool, not, _&&_, _||_, cond}
 use mathlib.Core.List.{List, [], _∷_, _++_, foldl}
-use lib.Dec.{eqb}
+use lib.Dec.{T, eqb}
 use lib.IntN.{pos}
 use lib.ListN.{length, getD, replicate}
 use lib.Ieee.{Float, binary64, ofInt, lt}
@@ -12,9 +12,11 @@ use Rattle.complex.specs.declared.Complex.{Complex}
 use Rattle.complex.specs.Constants.{plus0, one, smallMagnitude, tieThreshold}
 use Rattle.complex.specs.Arithmetic.{_⊕_, _⊘_, cneg}
 use Rattle.complex.specs.Magnitude.{abs, magnitude}
+use Rattle.complex.specs.Leaves.{ofMagnitude}
 use Rattle.complex.specs.Matrices.{Matrix, entryAt, zeros}
 use Rattle.lists.specs.Buses.{upTo}
-use Rattle.refusals.specs.Refusals.{tooMany, wrongLength, listsDiffer, noBus, refuse}
+use Rattle.binary64.specs.Values.{allFinite}
+use Rattle.refusals.specs.Refusals.{tooMany, wrongLength, listsDiffer, noBus, refuse, thenGiven, thenComputed}
 use Rattle.rei_equivalent.specs.declared.ReiEquivalent.{ReiEquivalent}
 use Rattle.rei_equivalent.specs.declared.ReiAnswer.{ReiAnswer}
 use Rattle.rei_equivalent.specs.declared.ReiAnswer.the-variants.{Done, Refused}
@@ -26,6 +28,11 @@ use Rattle.lists.specs.Limits.{over}
 unfoldable pub total : List Float → Float
 total xs = foldl _⊕_ plus0 xs
 
+-- the numbers that a sum from s on computes, one for each number added
+unfoldable pub partialSums : Float → List Float → List Float
+partialSums s [] = []
+partialSums s (x ∷ xs) = (s ⊕ x) ∷ partialSums (s ⊕ x) xs
+
 -- ---- spokes
 
 -- the diagonal over the number of buses, in per unit, none where its magnitude is not above 1e-12
@@ -35,10 +42,19 @@ spoke n y =
     (record { re = y .re ⊘ n; im = y .im ⊘ n })
     (record { re = plus0; im = plus0 })
 
+-- the numbers that it computes: those of the magnitude, and where that is above 1e-12 the number of buses and both quotients
+unfoldable pub ofSpoke : Float → Complex → List Float
+ofSpoke n y = ofMagnitude y ++ cond (lt smallMagnitude (magnitude y)) (n ∷ y .re ⊘ n ∷ y .im ⊘ n ∷ []) []
+
 -- of the buses is, real then imaginary
 unfoldable pub spokeParts : Float → Matrix → List ℕ → List Float
 spokeParts n Y [] = []
 spokeParts n Y (i ∷ is) = spoke n (Y i i) .re ∷ spoke n (Y i i) .im ∷ spokeParts n Y is
+
+-- the numbers that these compute
+unfoldable pub ofSpokes : Float → Matrix → List ℕ → List Float
+ofSpokes n Y [] = []
+ofSpokes n Y (i ∷ is) = ofSpoke n (Y i i) ++ ofSpokes n Y is
 
 -- ---- ties
 
@@ -125,11 +141,22 @@ reiLengthRefusal n p q exact =
     (refuse (not (eqb p n && eqb q n)) listsDiffer
     (refuse (eqb n 0) noBus 0)))
 
--- the refusal of a call
-unfoldable pub reiRefusal : ReiInput → ℕ
-reiRefusal g =
+-- the same of a call
+unfoldable pub reiShapeRefusal : ReiInput → ℕ
+reiShapeRefusal g =
     reiLengthRefusal (reiSize g) (length (g .p)) (length (g .q))
     (sized (reiSize g) (length (g .entries)) (length (g .spokeBuses)) (length (g .spokes)) (length (g .tieBuses)) (length (g .ties)))
+
+-- the numbers computed of n buses, in the order of the work: the sums of P and of Q, then the spokes. A tie computes none: a turned
+-- sign is no number of its own.
+unfoldable pub ofRei : ℕ → List Float → List Float → List Float → List Float
+ofRei n entries p q =
+    partialSums plus0 p ++ (partialSums plus0 q ++ ofSpokes (ofInt binary64 (pos n)) (entryAt n entries) (upTo n))
+
+-- the refusal of a call: by lengths, then 19, of a number given, and 20, of one computed, that is not finite
+unfoldable pub reiRefusal : ReiInput → ℕ
+reiRefusal g =
+    thenComputed (thenGiven (reiShapeRefusal g) (g .entries ++ (g .p ++ g .q))) (ofRei (reiSize g) (g .entries) (g .p) (g .q))
 
 -- the equivalent of a call that is not refused: voltage in per unit, injections in MW and MVAr
 unfoldable pub equivalentOf : ReiInput → ReiEquivalent
@@ -168,3 +195,14 @@ pub record AfterRei (g : ReiInput) (r : ReiAnswer) (spokeBuses : List ℕ) (spok
   pub spokesAre : spokes ≡ unlessRefused g (spokesOf g) (g .spokes)
   pub tieBusesAre : tieBuses ≡ unlessRefused g (tieEnds (tiesOf g) ++ replicate (unused g) 0) (g .tieBuses)
   pub tiesAre : ties ≡ unlessRefused g (tieParts (tiesOf g) ++ zeros (unused g)) (g .ties)
+
+-- the numbers in an answer
+unfoldable pub numbersOf : ReiAnswer → List Float
+numbersOf (Done e) = e .«rei_voltage_pu» ∷ e .«rei_p_mw» ∷ e .«rei_q_mvar» ∷ []
+numbersOf (Refused k) = []
+
+-- what an accepted call answers and writes is finite
+pub record ReiFinite : Type 0 where
+  pub outputs-finite : (g : ReiInput) (r : ReiAnswer) (spokeBuses : List ℕ) (spokes : List Float) (tieBuses : List ℕ) (ties : List Float)
+      → AfterRei g r spokeBuses spokes tieBuses ties → reiNumber r ≡ 0
+      → T (allFinite (numbersOf r)) × T (allFinite spokes) × T (allFinite ties)

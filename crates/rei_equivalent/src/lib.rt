@@ -2,13 +2,18 @@
 use crate::inputs::join_lists;
 use crate::inputs::sum;
 use crate::lengths::refusal;
+use crate::numbers::computed_finite;
+use crate::numbers::given_finite;
 use crate::spokes::spoke_all;
 use crate::ties::tie_all;
+use refusals::COMPUTED_NOT_FINITE;
+use refusals::GIVEN_NOT_FINITE;
 ghost use mathlib.Core.Path.{_≡_};
 ghost use Rattle.rei_equivalent.specs.Rei as spec;
 
 mod inputs;
 mod lengths;
+mod numbers;
 mod spokes;
 mod ties;
 
@@ -80,14 +85,22 @@ pub fn compute(
     if f != 0 {
         return ReiAnswer::Refused(f);
     }
+    if !given_finite(y_sub, p_inj, q_inj) {
+        return ReiAnswer::Refused(GIVEN_NOT_FINITE);
+    }
+    let p = sum(p_inj);
+    let q = sum(q_inj);
+    if !computed_finite(p, q, n, y_sub) {
+        return ReiAnswer::Refused(COMPUTED_NOT_FINITE);
+    }
     join_lists(generator_buses, load_buses, spoke_buses);
     spoke_all(n, y_sub, spokes);
     let count = tie_all(n, y_sub, spoke_buses, tie_buses, ties);
     ReiAnswer::Done(ReiEquivalent {
         rei_bus_id: next_bus_id,
         rei_voltage_pu: 1.0,
-        rei_p_mw: sum(p_inj),
-        rei_q_mvar: sum(q_inj),
+        rei_p_mw: p,
+        rei_q_mvar: q,
         n_ties: count,
     })
 }

@@ -1,15 +1,17 @@
 // The spokes, from the fictitious bus to each bus; admittances in per unit.
+use binary64::finite::finite;
 use complex::Complex;
 use complex::constants::SMALL_MAGNITUDE;
 use complex::entry::get;
 use complex::entry::put;
-use complex::magnitude::magnitude;
-use complex::sqmag;
+use complex::raw::magnitude;
+use complex::raw::sqmag;
 ghost use mathlib.Core.Path.{_≡_};
-ghost use Prim.Native.Nat.{_≤_, _*_};
+ghost use Prim.Native.Nat.{_<_, _≤_, _*_};
 ghost use lib.ListN.{length};
 ghost use lib.Ieee.{binary64, lt, ofInt};
 ghost use lib.IntN.{pos};
+ghost use Rattle.binary64.specs.Values.{allFinite};
 ghost use Rattle.complex.specs.Matrices as matrices;
 ghost use Rattle.lists.specs.Buses.{upTo};
 ghost use Rattle.complex.specs.Magnitude as magnitudes;
@@ -58,4 +60,37 @@ fn has_spoke(y: Complex) -> bool
         return true;
     }
     magnitude(y) > SMALL_MAGNITUDE
+}
+
+// Whether all numbers that the spokes take are finite.
+pub fn spokes_finite(n: usize, y: &[f64]) -> bool
+    requires { ⌜
+        (0 < n)
+        × (n ≤ refusals.limit)
+        × (length (now y) ≡ 2 * (n * n))
+        ⌝ }
+    ensures { λ r. ⌜ r ≡ allFinite (spec.ofSpokes (ofInt binary64 (pos n)) (matrices.entryAt n (now (y .entry))) (upTo n)) ⌝ }
+{
+    let mut i = 0;
+    let mut d = 0;
+    while i < n {
+        if !spoke_finite(n, get(y, d)) {
+            return false;
+        }
+        d = d + n + 1;
+        i += 1;
+    }
+    true
+}
+
+// Whether all numbers that one spoke of n buses takes are finite. The squared magnitude tells it: the root of a finite one is
+// finite, and so are the parts, and their shares.
+fn spoke_finite(n: usize, y: Complex) -> bool
+    requires { ⌜
+        (0 < n)
+        × (n ≤ refusals.limit)
+        ⌝ }
+    ensures { λ r. ⌜ r ≡ allFinite (spec.ofSpoke (ofInt binary64 (pos n)) y) ⌝ }
+{
+    finite(sqmag(y))
 }

@@ -1,10 +1,10 @@
 // The ties that the buses keep between them; admittances in per unit.
 use complex::Complex;
-use complex::cneg;
 use complex::constants::TIE_THRESHOLD;
 use complex::entry::get;
 use complex::entry::put;
-use complex::magnitude::abs;
+use complex::raw::abs;
+use complex::raw::cneg;
 use complex::slices::clear;
 use lists::checks::no_buses;
 ghost use mathlib.Core.Path.{_≡_};

@@ -49,7 +49,7 @@ fn tally(s: &[u8]) -> Agreed {
     let mut lines: u64 = 0;
     let mut at: usize = 0;
     while LINE <= s.len() - at {
-        let r = complex::magnitude::sqrt(value(word(s, at)));
+        let r = binary64::sqrt(value(word(s, at)));
         if pattern(r) == word(s, at + 17) {
             agree += 1;
         }

@@ -7,7 +7,7 @@ use Rattle.prelude.proofs.Prelude.{_≡_, refl, sym, ap, _∙_, subst, Bool, tr
 use Rattle.solver.specs.GaussJordan.{Operations, MatrixOf, Elimination, stays, heldAfter, pivotRow, swapped, scaled, reduced, pivoted, cleared, gaussJordanFrom, gaussJordan, augmented, solution, singularSystem}
 
 -- a Bool picks one of two numbers, both below n
-pick-below : (b : Bool) (x y n : ℕ) → x < n → y < n → cond b x y < n
+pub pick-below : (b : Bool) (x y n : ℕ) → x < n → y < n → cond b x y < n
 pick-below true x y n h k = h
 pick-below false x y n h k = k
 
@@ -228,16 +228,16 @@ module _ {E : Type 0} (O : Operations E) where
   augmented-singular n A B = singular-system n (augmented O n A B) A (λ (i j : ℕ) (h : i < n) (k : j < n). augmented-system n A B i j k)
 
   -- the columns of one system: the system's, and right side c
-  abbrev alone : ℕ → ℕ → ℕ → ℕ
+  abbrev pub alone : ℕ → ℕ → ℕ → ℕ
   alone n c j = cond (ltb j n) j (n + c)
 
-  alone-system : (n c j : ℕ) → j < n → alone n c j ≡ j
+  pub alone-system : (n c j : ℕ) → j < n → alone n c j ≡ j
   alone-system n c j h = rw (lt-ltb j n h)
 
-  alone-right : (n c : ℕ) → alone n c n ≡ n + c
+  pub alone-right : (n c : ℕ) → alone n c n ≡ n + c
   alone-right n c = rw (le-ltb n n (omega arith))
 
-  alone-chosen : (n c : ℕ) (A B : MatrixOf E) → Chosen n (n + 1) (alone n c) (augmented O n A (λ (r k : ℕ). B r c)) (augmented O n A B)
+  pub alone-chosen : (n c : ℕ) (A B : MatrixOf E) → Chosen n (n + 1) (alone n c) (augmented O n A (λ (r k : ℕ). B r c)) (augmented O n A B)
   alone-chosen n c A B i j h k = pick (eq-or-lt-of-le {n = j} {m = n} (omega arith))
     where
       pick : (j ≡ n) ⊎ (j < n) → augmented O n A (λ (r k : ℕ). B r c) i j ≡ augmented O n A B i (alone n c j)

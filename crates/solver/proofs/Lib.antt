@@ -2,7 +2,10 @@ pub mod BlockParts
 pub mod GaussJordan
 pub mod Pairs
 pub mod Steps
-pub mod Ending
+pub mod Told
+pub mod StepsSame
+pub mod ChosenSteps
+pub mod FiniteWork
 pub mod Passed
 pub mod Pivots
 pub mod RowParts
@@ -12,4 +15,5 @@ pub mod TurnedRows
 pub mod ColumnSteps
 pub mod Accepted
 pub mod Allowances
+pub mod FiniteAnswers
 pub mod Cases

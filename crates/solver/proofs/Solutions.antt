@@ -1,53 +1,78 @@
--- What an eliminated slice holds: column c of its right sides is the solution for right side c alone, and 13 comes by the system alone.
+-- What an eliminated slice holds: column c of its right sides is the solution for right side c alone; its steps, and that 13 comes by the system alone.
 -- And that a filled slice is the system beside its right side, or beside the identity.
-use Rattle.prelude.proofs.Prelude.{_≡_, refl, sym, ap, _∙_, Bool, true, false, not, cond, _⊎_, inl, inr, List, ℕ, _+_, _-_, _*_, _≤_, _<_, arith, eqb, Float, sub-zero, mul-le-mul-left, eqb-true, eq-eqb, ne-eqb}
+use Rattle.prelude.proofs.Prelude.{_≡_, refl, sym, ap, _∙_, subst, Bool, true, false, cond, _⊎_, inl, inr, List, ℕ, _+_, _-_, _*_, _≤_, _<_, arith, T, eqb, length, Float, ofBits, sub-zero, eqb-true, eq-eqb, ne-eqb}
 use borrow.Author.Tests.{eqb-false}
-use Rattle.complex.specs.{plus0, unit, entry, Matrix, entryAt, zeros}
+use Rattle.binary64.specs.Values.{allFinite}
+use Rattle.complex.specs.{plus0, one, unit, entry, Matrix, entryAt, zeros}
 use Rattle.complex.proofs.Entries.{parts-same}
 use Rattle.complex.proofs.Matrices.{entry-grid, entry-within, getD-zeros}
+use Rattle.complex.proofs.Sticky.{Finite}
+use Rattle.complex.proofs.FiniteEntries.{AllFinite, entries-slice, entry-finite, same-finite}
 use Rattle.lists.proofs.Order.{lt-or-ge}
+use Rattle.refusals.specs.Work.{Step}
 use Rattle.solver.specs.GaussJordan.{gaussJordan, pairs, augmented, solution, singularSystem}
 use Rattle.solver.specs.Solving.{operations, unitColumn}
-use Rattle.solver.specs.Inner.Work.{ended, isDone, Ran, placed, rightSides, withIdentity}
+use Rattle.solver.specs.Steps.{workings, stepsOfRun}
+use Rattle.solver.specs.Inner.Work.{Ended, Met, placed, rightSides, withIdentity}
 use Rattle.solver.specs.declared.elimination.Eliminated.{Eliminated}
-use Rattle.solver.proofs.Ending.{done-fact, not-done}
-use Rattle.solver.proofs.Pairs.{pairs-same, pairs-system, pairs-bound}
+use Rattle.solver.specs.declared.elimination.Eliminated.the-variants.{Done}
+use Rattle.solver.proofs.Pairs.{pairs-same, pairs-system}
+use Rattle.solver.proofs.StepsSame.{run-steps-same}
 use Rattle.solver.proofs.GaussJordan.{run-same, augmented-singular, augmented-system, augmented-right, column-alone}
 use Rattle.solver.proofs.BlockParts.{placed-in, placed-left, placed-right}
 
+-- ---- a system beside its right sides is finite where both are
+
+pub augmented-finite : (n m : ℕ) (A B : Matrix) → AllFinite n n A → AllFinite n m B → AllFinite n (n + m) (augmented operations n A B)
+augmented-finite n m A B a b i j x y = pick (lt-or-ge j n)
+  where
+    pick : (j < n) ⊎ (n ≤ j) → Finite (augmented operations n A B i j)
+    pick (inl l) = subst Finite (sym (augmented-system operations n A B i j l)) (a i j x l)
+    pick (inr l) =
+        let at : n + (j - n) ≡ j = omega arith in
+        subst (λ (k : ℕ). Finite (augmented operations n A B i k)) at (subst Finite (sym (augmented-right operations n A B i (j - n))) (b i (j - n) x (omega arith)))
+
 -- ---- an eliminated slice
 
-module _ (n m : ℕ) (A B : Matrix) (ys zs : List Float)
-    (filled : (i j : ℕ) → i < n → j < n + m → entryAt (n + m) ys i j ≡ augmented operations n A B i j) where
+module _ (n m : ℕ) (A B : Matrix) (ys : List Float) (filled : (i j : ℕ) → i < n → j < n + m → entryAt (n + m) ys i j ≡ augmented operations n A B i j) where
   pub singular-is : gaussJordan operations n (entryAt (n + m) ys) .singular ≡ singularSystem operations n A
   singular-is = run-same operations n (n + m) (omega arith) (entryAt (n + m) ys) (augmented operations n A B) filled .singular ∙ augmented-singular operations n A B
 
   pub pairs-is : pairs operations n (entryAt (n + m) ys) ≡ pairs operations n A
   pairs-is = pairs-same operations n (n + m) (omega arith) (entryAt (n + m) ys) (augmented operations n A B) filled ∙ pairs-system operations n A B
 
-  module _ (allowed : ℕ) (end : Eliminated) (ran : Ran n (n + m) allowed end ys zs) where
-    pub ended-is : end ≡ ended allowed (pairs operations n A) (singularSystem operations n A)
-    ended-is = ran .answer ∙ ap (λ (k : ℕ). ended allowed k (gaussJordan operations n (entryAt (n + m) ys) .singular)) pairs-is ∙ ap (ended allowed (pairs operations n A)) singular-is
+  -- the steps are those of the system beside its right sides
+  pub steps-are : stepsOfRun operations workings n (n + m) (entryAt (n + m) ys) ≡ stepsOfRun operations workings n (n + m) (augmented operations n A B)
+  steps-are = run-steps-same operations workings n (n + m) (omega arith) (entryAt (n + m) ys) (augmented operations n A B) filled
 
-    -- n n row reductions are enough: what is not done is singular
-    pub singular-told : n * n ≤ allowed → not (isDone end) ≡ singularSystem operations n A
-    singular-told h = pick (isDone end) refl
-      where
-        within : pairs operations n A ≤ allowed
-        within = let bound = pairs-bound operations n A in let less : n - 1 ≤ n = omega arith in let most = mul-le-mul-left n less in omega arith
+  module _ (allowed : ℕ) (end : Eliminated) (zs : List Float) (met : Met n (n + m) allowed end ys zs) where
+    pub ended-is : Ended allowed end (stepsOfRun operations workings n (n + m) (augmented operations n A B))
+    ended-is = subst (λ (l : List Step). Ended allowed end l) steps-are (record { number = met .number; count = λ left e. met .done left e .count })
 
-        pick : (d : Bool) → isDone end ≡ d → not d ≡ singularSystem operations n A
-        pick true e = sym (done-fact allowed _ _ end ended-is e .1)
-        pick false e = sym (not-done allowed _ _ end ended-is within e)
-
-    pub solution-is : isDone end ≡ true → (i c : ℕ) → i < n → c < m → rightSides n (entryAt (n + m) zs) i c ≡ solution operations n A (λ (r : ℕ). B r c) i
+    pub solution-is : (left : ℕ) → end ≡ Done left → (i c : ℕ) → i < n → c < m → rightSides n (entryAt (n + m) zs) i c ≡ solution operations n A (λ (r : ℕ). B r c) i
     unfolding rightSides
-    solution-is d i c h k =
+    solution-is left d i c h k =
         let col : n + c < n + m = omega arith in
-        ap (λ (l : List Float). entryAt (n + m) l i (n + c)) (ran .entries (done-fact _ _ _ end (ran .answer) d .0))
+        ap (λ (l : List Float). entryAt (n + m) l i (n + c)) (met .done left d .entries)
         ∙ entry-grid n (n + m) (gaussJordan operations n (entryAt (n + m) ys) .left) i (n + c) h col
         ∙ run-same operations n (n + m) (omega arith) (entryAt (n + m) ys) (augmented operations n A B) filled .left i (n + c) h col
         ∙ column-alone operations n A B i c h
+
+  -- finite, where system and right sides are
+  pub filled-finite : length ys ≡ 2 * (n * (n + m)) → AllFinite n n A → AllFinite n m B → T (allFinite ys)
+  filled-finite long a b = entries-slice n (n + m) ys long (same-finite n (n + m) (augmented operations n A B) (entryAt (n + m) ys) (λ i j x y. sym (filled i j x y)) (augmented-finite n m A B a b))
+
+-- one right side, and the identity
+pub side-finite : (n : ℕ) (b : List Float) → length b ≡ 2 * n → T (allFinite b) → AllFinite n 1 (λ (r k : ℕ). entry b r)
+side-finite n b long h i j x y = entry-finite b i (omega arith) h
+
+pub identity-finite : (n m : ℕ) → AllFinite n m (λ (r k : ℕ). unitColumn k r)
+unfolding unitColumn plus0 one ofBits
+identity-finite n m i j x y = pick (eqb i j)
+  where
+    pick : (b : Bool) → Finite (cond b unit (record { re = plus0; im = plus0 }))
+    pick true = (tt, tt)
+    pick false = (tt, tt)
 
 -- ---- a filled slice
 

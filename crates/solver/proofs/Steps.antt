@@ -1,9 +1,10 @@
 -- What the steps of an elimination count and meet.
 --     run-count  the row reductions are the pairs of column and other row whose factor is not skipped
---     run-met    18 where these are more than are allowed, else 13 or nothing
-use Rattle.prelude.proofs.Prelude.{_≡_, refl, sym, ap, _∙_, Bool, true, false, _||_, cond, _⊎_, inl, inr, List, [], _∷_, _++_, ℕ, zero, suc, _+_, _-_, _<_, _≤_, arith, eqb, ltb, lt-ltb, le-ltb, Float}
-use Rattle.refusals.specs.Work.{Step, reduces, pivotTooSmall, computing, reductions, meets}
-use Rattle.refusals.proofs.Work.{meets-after, meets-first, meets-numbers, count-both, count-numbers, none-counted, none-met}
+--     run-met    where every number is finite: 18 where these are more than are allowed, else 13 or nothing
+use Rattle.prelude.proofs.Prelude.{_≡_, refl, sym, ap, _∙_, Bool, true, false, _||_, cond, _⊎_, inl, inr, List, [], _∷_, _++_, ℕ, zero, suc, _+_, _-_, _<_, _≤_, arith, T, eqb, ltb, lt-ltb, le-ltb, Float}
+use Rattle.binary64.specs.Values.{allFinite}
+use Rattle.refusals.specs.Work.{Step, reduces, pivotTooSmall, computing, numbersIn, reductions, meets}
+use Rattle.refusals.proofs.Work.{meets-after, meets-first, finite-meets, marks, marks-both, marks-numbers, none-marked, marks-count, count-both, count-numbers, none-counted}
 use Rattle.lists.specs.Buses.{upTo}
 use Rattle.lists.proofs.Order.{lt-or-ge}
 use Rattle.solver.specs.GaussJordan.{Operations, MatrixOf, Elimination, pivoted, scaled, cleared, gaussJordanFrom, gaussJordan, pairsIn, pairsFrom, pairs}
@@ -31,20 +32,23 @@ stopped-twice m a b next = pick (lt-or-ge m a) (lt-or-ge m (a + b))
     pick (inr l) (inl k) = rw (le-ltb m a l, lt-ltb (m - a) b (omega arith), lt-ltb m (a + b) k)
     pick (inr l) (inr k) = rw (le-ltb m a l, le-ltb (m - a) b (omega arith), le-ltb m (a + b) k)
 
--- steps that meet nothing but 18
+-- steps that meet nothing but 18, once every number is finite
 abbrev pub OnlyCounted : List Step → Type 0
-OnlyCounted es = (m : ℕ) → meets m es ≡ stopped m (reductions es) 0
+OnlyCounted es = (m : ℕ) → meets m (marks es) ≡ stopped m (reductions es) 0
 
-pub counted-then : (es fs : List Step) → OnlyCounted es → (m : ℕ) → meets m (es ++ fs) ≡ stopped m (reductions es) (meets (m - reductions es) fs)
-counted-then es fs only m = pick (ltb m (reductions es)) refl
+pub counted-then : (es fs : List Step) → OnlyCounted es → (m : ℕ) → meets m (marks (es ++ fs)) ≡ stopped m (reductions es) (meets (m - reductions es) (marks fs))
+counted-then es fs only m = ap (meets m) (marks-both es fs) ∙ pick (ltb m (reductions es)) refl
   where
-    pick : (b : Bool) → ltb m (reductions es) ≡ b → meets m (es ++ fs) ≡ cond (ltb m (reductions es)) 18 (meets (m - reductions es) fs)
+    left : m - reductions (marks es) ≡ m - reductions es
+    left = ap (λ (k : ℕ). m - k) (marks-count es)
+
+    pick : (b : Bool) → ltb m (reductions es) ≡ b → meets m (marks es ++ marks fs) ≡ cond (ltb m (reductions es)) 18 (meets (m - reductions es) (marks fs))
     pick true t =
-        let e : meets m es ≡ 18 = only m ∙ ap (λ (b : Bool). cond b 18 0) t in
-        meets-first m es fs (λ (z : meets m es ≡ 0). omega arith) ∙ e ∙ sym (ap (λ (b : Bool). cond b 18 (meets (m - reductions es) fs)) t)
+        let e : meets m (marks es) ≡ 18 = only m ∙ ap (λ (b : Bool). cond b 18 0) t in
+        meets-first m (marks es) (marks fs) (λ (z : meets m (marks es) ≡ 0). omega arith) ∙ e ∙ sym (ap (λ (b : Bool). cond b 18 (meets (m - reductions es) (marks fs))) t)
     pick false t =
-        let e : meets m es ≡ 0 = only m ∙ ap (λ (b : Bool). cond b 18 0) t in
-        meets-after m es fs e ∙ sym (ap (λ (b : Bool). cond b 18 (meets (m - reductions es) fs)) t)
+        let e : meets m (marks es) ≡ 0 = only m ∙ ap (λ (b : Bool). cond b 18 0) t in
+        meets-after m (marks es) (marks fs) e ∙ ap (λ (k : ℕ). meets k (marks fs)) left ∙ sym (ap (λ (b : Bool). cond b 18 (meets (m - reductions es) (marks fs))) t)
 
 pub counted-both : (es fs : List Step) → OnlyCounted es → OnlyCounted fs → OnlyCounted (es ++ fs)
 counted-both es fs h k m =
@@ -54,11 +58,11 @@ counted-both es fs h k m =
     ∙ ap (λ (x : ℕ). stopped m x 0) (sym (count-both es fs))
 
 pub counted-none : OnlyCounted []
-unfolding meets reductions
+unfolding meets reductions marks
 counted-none m = stopped-none m 0
 
 pub counted-numbers : (xs : List Float) (fs : List Step) → OnlyCounted fs → OnlyCounted (computing xs ++ fs)
-counted-numbers xs fs h m = meets-numbers m xs fs ∙ h m ∙ ap (λ (x : ℕ). stopped m x 0) (sym (count-numbers xs fs))
+counted-numbers xs fs h m = ap (meets m) (marks-numbers xs fs) ∙ h m ∙ ap (λ (x : ℕ). stopped m x 0) (sym (count-numbers xs fs))
 
 -- ---- one column's rows
 
@@ -69,11 +73,11 @@ module _ {E : Type 0} (O : Operations E) (W : Workings E) where
   row-count false xs = ap suc (none-counted xs)
 
   row-counted : (b : Bool) (xs : List Float) → OnlyCounted (cond b [] (reduces ∷ computing xs))
-  unfolding meets
+  unfolding meets marks
   row-counted true xs m = counted-none m
   row-counted false xs zero = rw (row-count false xs)
   row-counted false xs (suc m) =
-      none-met m xs ∙ sym (ap (λ (k : ℕ). stopped (suc m) k 0) (row-count false xs) ∙ ap (λ (b : Bool). cond b 18 0) (le-ltb (suc m) 1 (omega arith)))
+      ap (meets m) (none-marked xs) ∙ sym (ap (λ (k : ℕ). stopped (suc m) k 0) (row-count false xs) ∙ ap (λ (b : Bool). cond b 18 0) (le-ltb (suc m) 1 (omega arith)))
 
   rows-counted : (C : MatrixOf E) (c : ℕ) (is js : List ℕ) → OnlyCounted (stepsOfRows O W C c is js)
   unfolding stepsOfRows stepsOfRow
@@ -130,12 +134,12 @@ module _ {E : Type 0} (O : Operations E) (W : Workings E) where
       ∙ ap (λ (k : ℕ). pairsIn O C c n + k) (run-from-count n w count (suc c) (cleared O c B)))
 
   run-from-met : (n w count c : ℕ) (A : MatrixOf E) (m : ℕ)
-      → meets m (stepsFrom O W n w count c A) ≡ metBy m (pairsFrom O n count c A) (gaussJordanFrom O n count c A .singular)
-  unfolding stepsFrom pairsFrom gaussJordanFrom meets
+      → meets m (marks (stepsFrom O W n w count c A)) ≡ metBy m (pairsFrom O n count c A) (gaussJordanFrom O n count c A .singular)
+  unfolding stepsFrom pairsFrom gaussJordanFrom meets marks
   run-from-met n w zero c A m = stopped-none m 0
   run-from-met n w (suc count) c A m =
       let B = pivoted O n c A in
-      meets-numbers m (ofSearch O W A c c (suc c) (n - suc c) ++ W .ofWeight (B c c)) _
+      ap (meets m) (marks-numbers (ofSearch O W A c c (suc c) (n - suc c) ++ W .ofWeight (B c c)) _)
       ∙ pick (O .small (B c c)) (run-from-met n w count (suc c) (cleared O c B))
     where
       C : MatrixOf E
@@ -157,17 +161,17 @@ module _ {E : Type 0} (O : Operations E) (W : Workings E) where
       rest = pairsFrom O n count (suc c) (cleared O c (pivoted O n c A))
 
       pick : (b : Bool)
-          → ((k : ℕ) → meets k (stepsFrom O W n w count (suc c) (cleared O c (pivoted O n c A)))
+          → ((k : ℕ) → meets k (marks (stepsFrom O W n w count (suc c) (cleared O c (pivoted O n c A))))
           ≡ metBy k (pairsFrom O n count (suc c) (cleared O c (pivoted O n c A))) (gaussJordanFrom O n count (suc c) (cleared O c (pivoted O n c A)) .singular))
-          → meets m (cond b (pivotTooSmall ∷ []) (computing (W .ofInverse (pivoted O n c A c c) ++ ofScaling O W (pivoted O n c A) c (upTo w))
-          ++ (stepsOfRows O W (scaled O c (pivoted O n c A)) c (upTo n) (upTo w) ++ stepsFrom O W n w count (suc c) (cleared O c (pivoted O n c A)))))
+          → meets m (marks (cond b (pivotTooSmall ∷ []) (computing (W .ofInverse (pivoted O n c A c c) ++ ofScaling O W (pivoted O n c A) c (upTo w))
+          ++ (stepsOfRows O W (scaled O c (pivoted O n c A)) c (upTo n) (upTo w) ++ stepsFrom O W n w count (suc c) (cleared O c (pivoted O n c A))))))
           ≡ metBy m (cond b 0 (pairsIn O (scaled O c (pivoted O n c A)) c n + pairsFrom O n count (suc c) (cleared O c (pivoted O n c A))))
           (cond b (record { singular = true; left = pivoted O n c A }) (gaussJordanFrom O n count (suc c) (cleared O c (pivoted O n c A))) .singular)
       pick true ih = stopped-none m 13
       pick false ih =
-          meets-numbers m ahead (rows ++ later)
+          ap (meets m) (marks-numbers ahead (rows ++ later))
           ∙ counted-then rows later (rows-counted C c (upTo n) (upTo w)) m
-          ∙ ap (λ (k : ℕ). stopped m k (meets (m - k) later)) (rows-count C c n (upTo w))
+          ∙ ap (λ (k : ℕ). stopped m k (meets (m - k) (marks later))) (rows-count C c n (upTo w))
           ∙ ap (λ (x : ℕ). stopped m (pairsIn O C c n) x) (ih (m - pairsIn O C c n))
           ∙ stopped-twice m (pairsIn O C c n) rest (cond (next .singular) 13 0)
 
@@ -175,6 +179,11 @@ module _ {E : Type 0} (O : Operations E) (W : Workings E) where
   unfolding stepsOfRun pairs
   run-count n w A = run-from-count n w n 0 A
 
-  pub run-met : (n w : ℕ) (A : MatrixOf E) (m : ℕ) → meets m (stepsOfRun O W n w A) ≡ metBy m (pairs O n A) (gaussJordan O n A .singular)
+  -- by marks alone
+  pub run-marked : (n w : ℕ) (A : MatrixOf E) (m : ℕ) → meets m (marks (stepsOfRun O W n w A)) ≡ metBy m (pairs O n A) (gaussJordan O n A .singular)
   unfolding stepsOfRun pairs gaussJordan
-  run-met n w A m = run-from-met n w n 0 A m
+  run-marked n w A m = run-from-met n w n 0 A m
+
+  pub run-met : (n w : ℕ) (A : MatrixOf E) (m : ℕ) → T (allFinite (numbersIn (stepsOfRun O W n w A)))
+      → meets m (stepsOfRun O W n w A) ≡ metBy m (pairs O n A) (gaussJordan O n A .singular)
+  run-met n w A m f = finite-meets m (stepsOfRun O W n w A) f ∙ run-marked n w A m

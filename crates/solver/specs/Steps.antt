@@ -12,7 +12,7 @@ use Rattle.complex.specs.Matrices.{Matrix}
 use Rattle.lists.specs.Buses.{upTo}
 use Rattle.refusals.specs.Work.{Step, reduces, pivotTooSmall, computing}
 use Rattle.solver.specs.GaussJordan.{Operations, MatrixOf, stays, pivoted, scaled, cleared, augmented}
-use Rattle.solver.specs.Solving.{operations}
+use Rattle.solver.specs.Solving.{operations, unitColumn}
 
 -- the numbers that each of the element's operations computes, in its order
 pub record Workings (E : Type 0) : Type 0 where
@@ -74,3 +74,8 @@ workings = record { ofTimes = ofProduct; ofMinus = ofDifference; ofInverse = ofQ
 unfoldable pub stepsOfSolve : ℕ → Matrix → (ℕ → Complex) → List Step
 unfolding augmented stepsOfRun
 stepsOfSolve n A b = stepsOfRun operations workings n (n + 1) (augmented operations n A (λ (r k : ℕ). b r))
+
+-- the inverse of A: all columns of the identity are right sides
+unfoldable pub stepsOfInverse : ℕ → Matrix → List Step
+unfolding augmented unitColumn stepsOfRun
+stepsOfInverse n A = stepsOfRun operations workings n (n + n) (augmented operations n A (λ (r k : ℕ). unitColumn k r))

@@ -3,20 +3,31 @@
 use crate::blocks::Span;
 use crate::blocks::span_of;
 use crate::rows;
+use binary64::finite::all_finite;
+use complex::Pair;
+use complex::complex_inv;
 use complex::constants::DIVISION_LIMIT;
 use complex::entry::get;
+use refusals::BEYOND_ALLOWANCE;
+use refusals::COMPUTED_NOT_FINITE;
 use refusals::LIMIT;
+use refusals::SINGULAR;
 ghost use mathlib.Core.Path.{_≡_};
-ghost use mathlib.Core.Bool.{false, _||_, cond};
+ghost use mathlib.Core.Bool.{_||_, cond};
 ghost use Prim.Native.Nat.{ℕ, _+_, _*_, _<_, _≤_};
-ghost use lib.Dec.{eqb};
+ghost use lib.Dec.{T, eqb};
 ghost use lib.ListN.{length};
+ghost use Rattle.binary64.specs.Values.{allFinite};
 ghost use Rattle.complex.specs.Entries.{entry};
 ghost use Rattle.complex.specs.Matrices.{entryAt};
+ghost use Rattle.lists.specs.Buses.{upTo};
 ghost use Rattle.refusals.specs.Refusals.{limit};
+ghost use Rattle.solver.specs.declared.elimination.Eliminated.the-variants.{Done};
 ghost use Rattle.solver.specs.GaussJordan as spec;
 ghost use Rattle.solver.specs.Solving.{operations};
-ghost use Rattle.solver.specs.Inner.Work.{WorkRows, BesideTurned, ColumnDone, Ran, withRow, lessFactor, ended, isDone};
+ghost use Rattle.solver.specs.Steps as steps;
+ghost use Rattle.solver.specs.Inner.Work.{WorkRows, BesideTurned, Told, ColumnDone, Ran, Met, withRow, lessFactor, isDone, numberOf};
+ghost use Rattle.solver.specs.Inner.Work.{stepsOfClearing};
 
 // Of two rows, the one that is held: the first, unless the other's squared magnitude is strictly greater.
 fn stronger(work: &[f64], n: usize, w: usize, c: usize, held: usize, next: usize) -> usize
@@ -26,8 +37,8 @@ fn stronger(work: &[f64], n: usize, w: usize, c: usize, held: usize, next: usize
         (operations .weight (entryAt w (now (work .entry)) next c))) held next
         ⌝ }
 {
-    let h = complex::sqmag(get(work, held * w + c));
-    let x = complex::sqmag(get(work, next * w + c));
+    let h = complex::raw::sqmag(get(work, held * w + c));
+    let x = complex::raw::sqmag(get(work, next * w + c));
     if h < x { next } else { held }
 }
 
@@ -63,12 +74,13 @@ fn swap(work: &mut [f64], n: usize, w: usize, c: usize, p: usize, row: &mut [f64
     rows::copy(row, &mut work[a..b]);
 }
 
-// How an elimination ends, or a part of it: done, with what is left of its allowance of row reductions, at a pivot that is too small, or
-// before the row reduction that would exceed the allowance.
+// How an elimination ends, or a part of it: done, with what is left of its allowance of row reductions, at a pivot that is too small,
+// before the row reduction that would exceed the allowance, or with a number that is not finite.
 pub enum Eliminated {
     Done(usize),
     Small,
     Exceeded,
+    NotFinite,
 }
 
 // Whether the elimination came to its end.
@@ -79,6 +91,19 @@ pub fn is_done(end: Eliminated) -> bool
         Eliminated::Done(_) => true,
         Eliminated::Small => false,
         Eliminated::Exceeded => false,
+        Eliminated::NotFinite => false,
+    }
+}
+
+// The refusal's number, 0 where the elimination came to its end.
+pub fn number_of(end: Eliminated) -> u32
+    ensures { λ r. ⌜ r ≡ numberOf end ⌝ }
+{
+    match end {
+        Eliminated::Done(_) => 0,
+        Eliminated::Small => SINGULAR,
+        Eliminated::Exceeded => BEYOND_ALLOWANCE,
+        Eliminated::NotFinite => COMPUTED_NOT_FINITE,
     }
 }
 
@@ -122,8 +147,9 @@ fn reduce_others(
         × ((j : ℕ) → j < w → entry (now pivot) j ≡ entryAt w (now work) c j)
         ⌝ }
     ensures { λ r. ⌜
-        (r ≡ ended allowed (spec.pairsIn operations (entryAt w (now (work .entry))) c n) false)
-        × (spec.pairsIn operations (entryAt w (now (work .entry))) c n ≤ allowed → (i j : ℕ) → i < n → j < w
+        (Told allowed (steps.stepsOfRows operations steps.workings (entryAt w (now (work .entry))) c (upTo n) (upTo w)) (now (work .entry))
+        (now (work .exit)) r)
+        × ((left : ℕ) → r ≡ Done left → (i j : ℕ) → i < n → j < w
         → entryAt w (now (work .exit)) i j ≡ spec.reduced operations c (entryAt w (now (work .entry))) i j)
         ⌝ }
 {
@@ -144,7 +170,7 @@ fn reduce_others(
     Eliminated::Done(left)
 }
 
-// Row c, which the first half of `row` holds, is scaled by its pivot's inverse, and the others are reduced.
+// Row c, which the first half of `row` holds, is scaled by its pivot's inverse, if that is finite, and the others are reduced.
 fn clear_column(
     work: &mut [f64],
     n: usize,
@@ -160,12 +186,15 @@ fn clear_column(
         × ((j : ℕ) → j < w → entry (now row) j ≡ entryAt w (now work) c j)
         ⌝ }
     ensures { λ r. ⌜
-        (r ≡ ended allowed (spec.pairsIn operations (spec.scaled operations c (entryAt w (now (work .entry)))) c n) false)
-        × (spec.pairsIn operations (spec.scaled operations c (entryAt w (now (work .entry)))) c n ≤ allowed → (i j : ℕ) → i < n → j < w
+        (Told allowed (stepsOfClearing n w c (entryAt w (now (work .entry)))) (now (work .entry)) (now (work .exit)) r)
+        × ((left : ℕ) → r ≡ Done left → (i j : ℕ) → i < n → j < w
         → entryAt w (now (work .exit)) i j ≡ spec.cleared operations c (entryAt w (now (work .entry))) i j)
         ⌝ }
 {
-    rows::scale(row, w, complex::complex_inv(get(row, c)));
+    let Pair::Finite(inverse) = complex_inv(get(row, c)) else {
+        return Eliminated::NotFinite;
+    };
+    rows::scale(row, w, inverse);
     let Span { start, end } = span_of(n, w, 0, w, c);
     let e = 2 * w;
     rows::copy(&row[0..e], &mut work[start..end]);
@@ -188,7 +217,7 @@ fn column(
     let p = pivot_row(work, n, w, c);
     let e = 2 * w;
     swap(work, n, w, c, p, &mut row[0..e]);
-    if complex::sqmag(get(row, c)) < DIVISION_LIMIT {
+    if complex::raw::sqmag(get(row, c)) < DIVISION_LIMIT {
         return Eliminated::Small;
     }
     clear_column(work, n, w, c, row, allowed)
@@ -211,18 +240,25 @@ fn columns(work: &mut [f64], n: usize, w: usize, row: &mut [f64], allowed: usize
             Eliminated::Exceeded => {
                 return Eliminated::Exceeded;
             }
+            Eliminated::NotFinite => {
+                return Eliminated::NotFinite;
+            }
         }
         c += 1;
     }
     Eliminated::Done(left)
 }
 
-// All columns, with so many row reductions allowed; where the elimination is not done, it ends at the pivot or before the row reduction.
-pub fn gauss_jordan(work: &mut [f64], n: usize, w: usize, allowed: usize) -> Eliminated
-    requires { ⌜ (n ≤ w) × (w ≤ 2 * limit) × (length (now work) ≡ 2 * (n * w)) ⌝ }
-    ensures { λ r. ⌜ Ran n w allowed r (now (work .entry)) (now (work .exit)) ⌝ }
+// All columns, with so many row reductions allowed. The slice is finite at entry; it is looked at once more where the work ends.
+pub fn eliminate(work: &mut [f64], n: usize, w: usize, allowed: usize) -> Eliminated
+    requires { ⌜ (n ≤ w) × (w ≤ 2 * limit) × (length (now work) ≡ 2 * (n * w)) × T (allFinite (now work)) ⌝ }
+    ensures { λ r. ⌜ Met n w allowed r (now (work .entry)) (now (work .exit)) ⌝ }
 {
     let mut buffer = [0.0; 8 * LIMIT];
     let e = 4 * w;
-    columns(work, n, w, &mut buffer[0..e], allowed)
+    let end = columns(work, n, w, &mut buffer[0..e], allowed);
+    if all_finite(work) {
+        return end;
+    }
+    Eliminated::NotFinite
 }

@@ -2,6 +2,7 @@
 use crate::elimination::Eliminated;
 use refusals::Allowance;
 use refusals::BEYOND_ALLOWANCE;
+use refusals::COMPUTED_NOT_FINITE;
 use refusals::Counted;
 use refusals::Outcome;
 use refusals::SINGULAR;
@@ -17,8 +18,9 @@ pub mod solving;
 
 // x becomes the solution of a x = b: a has n rows of n complex entries, b and x have n, and the work slice has n rows of n + 1. Answers how
 // many rows were reduced: the pairs of column and other row whose factor was not skipped, at most n (n - 1).
-// Refused: 1, 2, 5 from the input; 13 where a pivot is too small, 18 before the row reduction that would exceed the allowance, whichever
-// the work meets first. The work slice is all +0 after acceptance, 13 or 18.
+// Refused: 1, 2, 5 from the input, 19 where a number of a or b is not finite; 13 where a pivot is too small, 18 before the row reduction
+// that would exceed the allowance, 20 where a number computed is not finite, whichever the work meets first. The work slice is all +0 after
+// acceptance, 13, 18 or 20.
 pub fn solve_linear(
     n: usize,
     a: &[f64],
@@ -33,7 +35,7 @@ pub fn solve_linear(
         × (now (work .exit) ≡ spec.afterSolve n (now (a .entry)) (now (b .entry)) allowance (now (x .entry)) (now (work .entry)) .work)
         ⌝ }
 {
-    let told = lengths::solve_refusal(n, a.len(), b.len(), x.len(), work.len());
+    let told = lengths::solve_refusal(n, a, b, x.len(), work.len());
     if told != 0 {
         return Counted::Refused(told);
     }
@@ -42,11 +44,13 @@ pub fn solve_linear(
         Eliminated::Done(left) => Counted::Reduced(allowed - left),
         Eliminated::Small => Counted::Refused(SINGULAR),
         Eliminated::Exceeded => Counted::Refused(BEYOND_ALLOWANCE),
+        Eliminated::NotFinite => Counted::Refused(COMPUTED_NOT_FINITE),
     }
 }
 
 // `inverse` becomes the inverse of mat, both n rows of n complex entries; the work slice has n rows of 2 n.
-// Refused: 1, 2, 5 from the input, 13 where a pivot is too small. The work slice is all +0 after acceptance or 13.
+// Refused: 1, 2, 5 from the input, 19 where a number of mat is not finite; 13 where a pivot is too small, 20 where a number computed is not
+// finite, whichever the work meets first. The work slice is all +0 after acceptance, 13 or 20.
 pub fn complex_matrix_inverse(
     n: usize,
     mat: &[f64],
@@ -59,12 +63,13 @@ pub fn complex_matrix_inverse(
         × (now (work .exit) ≡ spec.afterInverse n (now (mat .entry)) (now (inverse .entry)) (now (work .entry)) .work)
         ⌝ }
 {
-    let told = lengths::inverse_refusal(n, mat.len(), inverse.len(), work.len());
+    let told = lengths::inverse_refusal(n, mat, inverse.len(), work.len());
     if told != 0 {
         return Outcome::Refused(told);
     }
-    if solving::inverted(n, mat, inverse, work) {
-        return Outcome::Refused(SINGULAR);
+    let met = solving::inverted(n, mat, inverse, work);
+    if met != 0 {
+        return Outcome::Refused(met);
     }
     Outcome::Done
 }

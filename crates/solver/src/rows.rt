@@ -46,7 +46,7 @@ pub fn scale(row: &mut [f64], w: usize, by: Complex)
     let mut j = 0;
     while j < w {
         let x = get(row, j);
-        put(row, j, complex::cmul(x, by));
+        put(row, j, complex::raw::cmul(x, by));
         j += 1;
     }
 }
@@ -55,7 +55,7 @@ pub fn scale(row: &mut [f64], w: usize, by: Complex)
 pub fn skipped(f: Complex) -> bool
     ensures { λ r. ⌜ r ≡ spec.skipped f ⌝ }
 {
-    complex::magnitude::abs(f.re) < DIVISION_LIMIT && complex::magnitude::abs(f.im) < DIVISION_LIMIT
+    complex::raw::abs(f.re) < DIVISION_LIMIT && complex::raw::abs(f.im) < DIVISION_LIMIT
 }
 
 // The first w entries are stored once more behind themselves, turned.

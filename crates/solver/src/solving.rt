@@ -2,19 +2,25 @@
 // The functions here have a `requires`, which their callers prove.
 use crate::blocks;
 use crate::elimination::Eliminated;
-use crate::elimination::gauss_jordan;
+use crate::elimination::eliminate;
 use crate::elimination::is_done;
+use crate::elimination::number_of;
 use complex::slices::clear;
 ghost use mathlib.Core.Path.{_≡_};
 ghost use mathlib.Core.Bool.{cond};
 ghost use Prim.Native.Nat.{ℕ, _+_, _*_, _<_, _≤_};
+ghost use lib.Dec.{T, eqb};
 ghost use lib.ListN.{length};
+ghost use Rattle.binary64.specs.Values.{allFinite};
 ghost use Rattle.complex.specs.Entries.{entry};
 ghost use Rattle.complex.specs.Matrices.{entryAt, grid, zeros};
+ghost use Rattle.refusals.specs.declared.Allowance.the-variants.{Unlimited};
 ghost use Rattle.refusals.specs.Refusals.{limit};
-ghost use Rattle.solver.specs.GaussJordan.{augmented, pairs};
+ghost use Rattle.refusals.specs.Work.{workRefusal};
+ghost use Rattle.solver.specs.GaussJordan.{augmented};
 ghost use Rattle.solver.specs.Solving as spec;
-ghost use Rattle.solver.specs.Inner.Work.{ended, isDone};
+ghost use Rattle.solver.specs.Steps.{stepsOfSolve, stepsOfInverse};
+ghost use Rattle.solver.specs.Inner.Work.{Ended, isDone};
 
 // The system beside its right side.
 fn fill_system(work: &mut [f64], n: usize, a: &[f64], b: &[f64])
@@ -44,9 +50,11 @@ pub fn solved(
         × (length (now a) ≡ 2 * (n * n))
         × (length (now b) ≡ 2 * n)
         × (length (now x) ≡ 2 * n)
+        × T (allFinite (now a))
+        × T (allFinite (now b))
         ⌝ }
     ensures { λ r. ⌜
-        (r ≡ ended allowed (pairs spec.operations n (entryAt n (now (a .entry)))) (spec.isSingular n (entryAt n (now (a .entry)))))
+        (Ended allowed r (stepsOfSolve n (entryAt n (now (a .entry))) (entry (now (b .entry)))))
         × (now (x .exit)
         ≡ cond (isDone r) (grid n 1 (λ (i k : ℕ). spec.solve n (entryAt n (now (a .entry))) (entry (now (b .entry))) i)) (now (x .entry)))
         × (now (work .exit) ≡ zeros (length (now (work .entry))))
@@ -54,7 +62,7 @@ pub fn solved(
 {
     let w = n + 1;
     fill_system(work, n, a, b);
-    let end = gauss_jordan(work, n, w, allowed);
+    let end = eliminate(work, n, w, allowed);
     if !is_done(end) {
         clear(work);
         return end;
@@ -78,28 +86,31 @@ pub fn fill_identity(work: &mut [f64], n: usize, mat: &[f64])
     blocks::place_ones(work, n, w, n);
 }
 
-// Whether the matrix is singular; where not, `inverse` becomes its inverse.
-pub fn inverted(n: usize, mat: &[f64], inverse: &mut [f64], work: &mut [f64]) -> bool
+// The refusal that inverting the matrix meets; where 0, `inverse` becomes its inverse.
+pub fn inverted(n: usize, mat: &[f64], inverse: &mut [f64], work: &mut [f64]) -> u32
     requires { ⌜
         (n ≤ limit)
         × (length (now work) ≡ 2 * (n * (n + n)))
         × (length (now mat) ≡ 2 * (n * n))
         × (length (now inverse) ≡ 2 * (n * n))
+        × T (allFinite (now mat))
         ⌝ }
     ensures { λ r. ⌜
-        (r ≡ spec.isSingular n (entryAt n (now (mat .entry))))
-        × (now (inverse .exit) ≡ cond r (now (inverse .entry)) (grid n n (spec.inverse n (entryAt n (now (mat .entry))))))
+        (r ≡ workRefusal Unlimited (stepsOfInverse n (entryAt n (now (mat .entry)))))
+        × (now (inverse .exit) ≡ cond (eqb r 0) (grid n n (spec.inverse n (entryAt n (now (mat .entry))))) (now (inverse .entry)))
         × (now (work .exit) ≡ zeros (length (now (work .entry))))
         ⌝ }
 {
     let w = n + n;
     fill_identity(work, n, mat);
     // n n row reductions are enough
-    if !is_done(gauss_jordan(work, n, w, n * n)) {
+    let end = eliminate(work, n, w, n * n);
+    let number = number_of(end);
+    if number != 0 {
         clear(work);
-        return true;
+        return number;
     }
     blocks::take(work, n, w, n, n, inverse);
     clear(work);
-    false
+    0
 }

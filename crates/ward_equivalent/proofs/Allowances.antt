@@ -1,9 +1,11 @@
 -- What a study counts and meets under an allowance.
-use Rattle.prelude.proofs.Prelude.{_≡_, refl, sym, ap, _∙_, Bool, true, false, not, cond, List, _++_, ℕ, zero, suc, _+_, _-_, _*_, _≤_, arith, T, eqb, length, length-append, mul-le-mul}
+use Rattle.prelude.proofs.Prelude.{_≡_, refl, sym, ap, _∙_, Bool, true, false, not, cond, List, _++_, ℕ, zero, suc, _+_, _-_, _*_, _≤_, arith, T, eqb, ltb, length, length-append, mul-le-mul, Float}
 use lib.Dec.{eqb·suc-zero}
 use Rattle.refusals.specs.declared.Allowance.{Allowance}
 use Rattle.refusals.specs.declared.Allowance.the-variants.{Unlimited, Rows}
 use Rattle.refusals.specs.Work.{Step, reductions, meets, granted, workRefusal, thenWork, _noMoreThan_, allowedRows}
+use Rattle.binary64.specs.Values.{allFinite}
+use Rattle.refusals.specs.Refusals.{thenGiven}
 use Rattle.refusals.proofs.Answering.{then-none}
 use Rattle.refusals.proofs.Work.{meets-within, larger-work, from-count, unlimited-met, allowed-met, count-both, none-counted}
 use Rattle.lists.specs.Buses.{rowsIn}
@@ -11,16 +13,16 @@ use Rattle.lists.proofs.Lookups.{length-rowsIn}
 use Rattle.ward_equivalent.specs.declared.answers.WardSummary.{WardSummary}
 use Rattle.ward_equivalent.specs.declared.answers.WardAnswer.{WardAnswer}
 use Rattle.ward_equivalent.specs.declared.answers.WardAnswer.the-variants.{Done, Refused}
-use Rattle.ward_equivalent.specs.Ward.{Study, Outputs, externals, retained, listed}
+use Rattle.ward_equivalent.specs.Ward.{Study, Outputs, givenOf, externals, retained, listed}
 use Rattle.ward_equivalent.specs.Extended.{ExtendedStudy, ExtendedOutputs}
-use Rattle.ward_equivalent.specs.Steps.{ofEach, ofCorrection, stepsOf, stepsOfExtended}
+use Rattle.ward_equivalent.specs.Steps.{ofEach, ofCorrection, stepsOf, ofStudy, stepsOfExtended}
 use Rattle.ward_equivalent.specs.Studied.{summary, wardAnswer, wardNumber, outputsAfter, AfterWard, studied, extendedOutputsAfter, AfterExtended, studiedExtended}
-use Rattle.ward_equivalent.specs.Numbers.{NumberedStudy, NumberedExtended, lengthsOf, extendedLengthsOf, inRows, extendedInRows, busRefusal, wardRefusal, extendedRefusal, afterCompute, afterComputeExtended}
-use Rattle.ward_equivalent.specs.Inner.Listed.{metBySolves}
+use Rattle.ward_equivalent.specs.Numbers.{NumberedStudy, NumberedExtended, lengthsOf, extendedLengthsOf, inRows, extendedInRows, busRefusal, wardShapeRefusal, wardRefusal, extendedShapeRefusal, extendedRefusal, afterCompute, afterComputeExtended}
 use Rattle.ward_equivalent.specs.Allowances.{mostRows, StudyAllowances}
 use Rattle.ward_equivalent.proofs.Told.{Fitting, told-most}
 use Rattle.ward_equivalent.proofs.Named.{bus-most}
-use Rattle.ward_equivalent.proofs.Steps.{rowsOfSolve, singularStudy, study-count, study-bound, study-met}
+use Rattle.ward_equivalent.proofs.Steps.{rowsOfSolve, singularStudy, study-count, study-bound}
+use Rattle.ward_equivalent.proofs.Meeting.{study-met}
 use Rattle.ward_equivalent.proofs.Extended.{number-answered, done-is}
 
 -- ---- the bound, of rows and of numbers
@@ -103,17 +105,17 @@ allowed-extended X o F a =
 -- ---- what an allowance alters
 
 -- an answer of a call by the number that its work meets; the input's refusal is none of the work's
-module _ (es : List Step) (s : WardSummary) (told : ℕ) (low : told ≤ 8) where
+module _ (es : List Step) (s : WardSummary) (told : ℕ) (other : told ≡ 18 → ⊥) where
   answer : Allowance → WardAnswer
   answer a = wardAnswer (thenWork told a es) s
 
   met-number : (a : Allowance) → answer a ≡ Refused 18 → (told ≡ 0) × (workRefusal a es ≡ 18)
   unfolding answer thenWork wardNumber
-  met-number a h = pick told low (sym (number-answered (cond (eqb told 0) (workRefusal a es) told) s) ∙ ap wardNumber h)
+  met-number a h = pick told other (sym (number-answered (cond (eqb told 0) (workRefusal a es) told) s) ∙ ap wardNumber h)
     where
-      pick : (t : ℕ) → t ≤ 8 → cond (eqb t 0) (workRefusal a es) t ≡ 18 → (t ≡ 0) × (workRefusal a es ≡ 18)
+      pick : (t : ℕ) → (t ≡ 18 → ⊥) → cond (eqb t 0) (workRefusal a es) t ≡ 18 → (t ≡ 0) × (workRefusal a es ≡ 18)
       pick zero l e = (refl, e)
-      pick (suc t) l e = absurd (let z : suc t ≡ 18 = simp eqb·suc-zero at e in omega arith)
+      pick (suc t) l e = absurd (l (simp eqb·suc-zero at e))
 
   met-answer : (a : Allowance) → told ≡ 0 → workRefusal a es ≡ 18 → answer a ≡ Refused 18
   unfolding answer thenWork wardAnswer
@@ -122,23 +124,35 @@ module _ (es : List Step) (s : WardSummary) (told : ℕ) (low : told ≤ 8) wher
   -- a refused input is told whatever the work would meet
   pub larger-number : (a b : Allowance) → a noMoreThan b → (wardAnswer (thenWork told a es) s ≡ Refused 18 → ⊥) → thenWork told b es ≡ thenWork told a es
   unfolding answer thenWork
-  larger-number a b h other = pick told refl
+  larger-number a b h kept = pick told refl
     where
       pick : (t : ℕ) → told ≡ t → cond (eqb t 0) (workRefusal b es) t ≡ cond (eqb t 0) (workRefusal a es) t
-      pick zero e = larger-work a b h es (λ m. other (met-answer a e m))
+      pick zero e = larger-work a b h es (λ m. kept (met-answer a e m))
       pick (suc t) e = simp eqb·suc-zero
 
   pub never-eighteen : wardAnswer (thenWork told Unlimited es) s ≡ Refused 18 → ⊥
   unfolding answer
   never-eighteen h = unlimited-met es (met-number Unlimited h .1)
 
-ward-told : (N : NumberedStudy) (o : Outputs) → wardRefusal N o ≤ 8
-unfolding wardRefusal
-ward-told N o = told-most (lengthsOf N o) (busRefusal (N .numbers) (listed (N .study))) (bus-most (N .numbers) (listed (N .study)))
+-- the input's refusals are 1 to 8 and 19
+given-other : (told : ℕ) (xs : List Float) → told ≤ 8 → thenGiven told xs ≡ 18 → ⊥
+unfolding thenGiven
+given-other zero xs low e = pick (allFinite xs) e
+  where
+    pick : (b : Bool) → _≡_ {A = ℕ} (cond (not b) 19 0) 18 → ⊥
+    pick true h = omega arith
+    pick false h = omega arith
+given-other (suc t) xs low e = let z : suc t ≡ 18 = simp eqb·suc-zero at e in omega arith
 
-extended-told : (X : NumberedExtended) (o : ExtendedOutputs) → extendedRefusal X o ≤ 8
-unfolding extendedRefusal
-extended-told X o = told-most (extendedLengthsOf X o) (busRefusal (X .study .numbers) (listed (X .study .study))) (bus-most (X .study .numbers) (listed (X .study .study)))
+ward-told : (N : NumberedStudy) (o : Outputs) → wardRefusal N o ≡ 18 → ⊥
+unfolding wardRefusal wardShapeRefusal
+ward-told N o = given-other (wardShapeRefusal N o) (givenOf (N .study)) (told-most (lengthsOf N o) (busRefusal (N .numbers) (listed (N .study))) (bus-most (N .numbers) (listed (N .study))))
+
+extended-told : (X : NumberedExtended) (o : ExtendedOutputs) → extendedRefusal X o ≡ 18 → ⊥
+unfolding extendedRefusal extendedShapeRefusal
+extended-told X o =
+    given-other (extendedShapeRefusal X o) (givenOf (X .study .study) ++ X .v-ext)
+    (told-most (extendedLengthsOf X o) (busRefusal (X .study .numbers) (listed (X .study .study))) (bus-most (X .study .numbers) (listed (X .study .study))))
 
 larger-study : (N : NumberedStudy) (a b : Allowance) (o : Outputs) → a noMoreThan b → (afterCompute N a o .answer ≡ Refused 18 → ⊥) → afterCompute N b o ≡ afterCompute N a o
 unfolding afterCompute studied
@@ -192,16 +206,16 @@ unfolding afterComputeExtended studiedExtended summary
 within-extended X m o s h =
     answer-within (stepsOfExtended (extendedInRows X)) (summary (extendedInRows X .study)) s (extendedRefusal X o) m (sym (extended-count (extendedInRows X))) (sym h)
 
-met-first : (S : Study) (m : ℕ) → T (not (eqb (externals S) 0)) → workRefusal (Rows m) (stepsOf S) ≡ metBySolves m (length (retained S) + 1) (rowsOfSolve S) (singularStudy S)
+met-first : (S : Study) (m : ℕ) → T (not (eqb (externals S) 0)) → T (allFinite (ofStudy S))
+    → workRefusal (Rows m) (stepsOf S) ≡ cond (singularStudy S) (cond (ltb m (rowsOfSolve S)) 18 13) (cond (ltb m ((length (retained S) + 1) * rowsOfSolve S)) 18 0)
 unfolding workRefusal granted
-met-first S m some = study-met S (pick (eqb (externals S) 0) some) m
+met-first S m some computed = study-met S (pick (eqb (externals S) 0) some) computed m
   where
     pick : (b : Bool) → T (not b) → b ≡ false
     pick true h = absurd h
     pick false h = refl
 
 pub study-allowances : StudyAllowances
-unfolding metBySolves
 study-allowances = record {
   counts-pairs = study-count;
   at-most = study-bound;

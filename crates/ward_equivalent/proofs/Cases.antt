@@ -6,12 +6,13 @@ use Rattle.lists.specs.Buses.{upTo, place, repeats, within, rowsIn}
 use Rattle.ward_equivalent.specs.declared.answers.WardAnswer.{WardAnswer}
 use Rattle.ward_equivalent.specs.declared.answers.WardAnswer.the-variants.{Done, Refused}
 use Rattle.ward_equivalent.specs.Arithmetic.{sumUp, current, injectedP, injectedQ}
-use Rattle.ward_equivalent.specs.Ward.{Study, Outputs, retained, listed, externals, admittance, yEE, solvedColumn, rowTimes, equivalent, solvedCurrents, boundaryCurrent, injectionP, injectionQ, ratio}
+use Rattle.ward_equivalent.specs.Ward.{Study, Outputs, givenOf, retained, listed, externals, admittance, yEE, solvedColumn, rowTimes, equivalent, solvedCurrents, boundaryCurrent, injectionP, injectionQ, ratio}
 use Rattle.ward_equivalent.specs.Studied.{summary, wardAnswer, acceptedOutputs, workAfter, outputsAfter, AfterWard, studied}
 use Rattle.ward_equivalent.specs.Steps.{ofEach, stepsOfColumn, stepsOfCurrents, ofProducts, ofRowTimes, ofEquivalentEntry, ofEquivalent, ofCurrents, ofInjection, ofInjections, ofRatio, stepsOf, ofSums, ofTies, ofCorrection, stepsOfExtended}
 use Rattle.ward_equivalent.specs.Calls.{studyOf, outputsOf, afterExtended}
 use Rattle.refusals.specs.declared.Allowance.the-variants.{Unlimited, Rows}
-use Rattle.refusals.specs.Refusals.{limit, beyondAllowance}
+use Rattle.refusals.specs.Refusals.{limit, beyondAllowance, computedNotFinite, thenGiven}
+use Rattle.binary64.specs.Values.{allFinite}
 use Rattle.refusals.specs.Work.{computing, reductions, meets, granted, workRefusal, thenWork, _noMoreThan_}
 use Rattle.solver.specs.Steps.{ofSearch, ofScaling, ofReducing, stepsOfRow, stepsOfRows, stepsFrom, stepsOfRun, stepsOfSolve}
 use Rattle.solver.specs.GaussJordan.{stays, heldAfter, pivotRow, swapped, scaled, reduced, pivoted, cleared, gaussJordanFrom, gaussJordan, augmented, solution, singularSystem}
@@ -23,7 +24,7 @@ use Rattle.ward_equivalent.specs.Studied.{wardNumber}
 use Rattle.ward_equivalent.specs.Allowances.{mostRows}
 use Rattle.ward_equivalent.proofs.Allowances.{study-allowances}
 use Rattle.ward_equivalent.specs.Lengths.{overLimit, wrongLengths, unmatched, lengthRefusal}
-use Rattle.ward_equivalent.specs.Numbers.{NumberedStudy, NumberedExtended, numberedOf, numberedExtendedOf, inRows, extendedInRows, busRefusal, wardRefusal, extendedRefusal, afterCompute, afterComputeExtended}
+use Rattle.ward_equivalent.specs.Numbers.{NumberedStudy, NumberedExtended, numberedOf, numberedExtendedOf, inRows, extendedInRows, busRefusal, wardShapeRefusal, wardRefusal, extendedShapeRefusal, extendedRefusal, afterCompute, afterComputeExtended}
 
 abbrev float : ℕ → Float
 float b = ofBits binary64 b
@@ -86,7 +87,7 @@ done n r x = counting n r x 0
 
 -- to open this is to open all that the cases compute with
 opened : Unit {0}
-unfolding computing reductions meets granted workRefusal thenWork ofSearch ofScaling ofReducing stepsOfRow stepsOfRows stepsFrom stepsOfRun stepsOfSolve ofEach stepsOfColumn stepsOfCurrents ofProducts ofRowTimes ofEquivalentEntry ofEquivalent ofCurrents ofInjection ofInjections ofRatio stepsOf retained listed admittance sumUp yEE solvedColumn rowTimes equivalent current injectedP injectedQ solvedCurrents boundaryCurrent injectionP injectionQ ratio summary wardAnswer acceptedOutputs workAfter outputsAfter studied place repeats within rowsIn inRows overLimit wrongLengths unmatched lengthRefusal busRefusal wardRefusal afterCompute stays heldAfter pivotRow swapped scaled reduced pivoted cleared gaussJordanFrom gaussJordan augmented solution singularSystem skipped cadd csub cmul sqmag cdiv complexInv plus0 one divisionLimit entry abs upTo entryAt row rows zeros ofBits span climb size odd units round neg sum add sub mul div lt eq ofInt ofFields
+unfolding computing reductions meets granted workRefusal thenWork ofSearch ofScaling ofReducing stepsOfRow stepsOfRows stepsFrom stepsOfRun stepsOfSolve ofEach stepsOfColumn stepsOfCurrents ofProducts ofRowTimes ofEquivalentEntry ofEquivalent ofCurrents ofInjection ofInjections ofRatio stepsOf retained listed admittance sumUp yEE solvedColumn rowTimes equivalent current injectedP injectedQ solvedCurrents boundaryCurrent injectionP injectionQ ratio summary wardAnswer acceptedOutputs workAfter outputsAfter studied place repeats within rowsIn inRows overLimit wrongLengths unmatched lengthRefusal busRefusal wardShapeRefusal thenGiven givenOf allFinite wardRefusal afterCompute stays heldAfter pivotRow swapped scaled reduced pivoted cleared gaussJordanFrom gaussJordan augmented solution singularSystem skipped cadd csub cmul sqmag cdiv complexInv plus0 one divisionLimit entry abs upTo entryAt row rows zeros ofBits span climb size odd units round neg sum add sub mul div lt eq ofInt ofFields
 opened = tt
 
 -- numbers as rows, for what is not about numbers
@@ -185,6 +186,53 @@ pivot-first = refl
 reduction-first : under 0 flat-pair ≡ record { answer = Refused beyondAllowance; outputs = outputsOf (I ∷ I ∷ []) (I ∷ []) (I ∷ []) (zeros 16) }
 unfolding opened
 reduction-first = refl
+
+-- ---- finite numbers only
+
+-- 2^600, an infinity and the largest number; base 0
+abbrev huge : Float
+huge = float 0x6570000000000000
+
+abbrev infinite : Float
+infinite = float 0x7ff0000000000000
+
+abbrev most : Float
+most = float 0x7fefffffffffffff
+
+abbrev baseless : NumberedStudy → NumberedStudy
+baseless N = numberedOf (N .numbers) (studyOf (N .study .size) (N .study .given) (N .study .internal) (N .study .external) (N .study .boundary) z (N .study .p-ext) (N .study .q-ext))
+
+-- base 0: the currents are not finite, behind the two row reductions of bus 0's solve
+base-behind : under 1 (baseless meshed) .answer ≡ Refused beyondAllowance
+unfolding opened
+base-behind = refl
+
+base-first : under 2 (baseless meshed) ≡ record { answer = Refused computedNotFinite; outputs = outputsOf (I ∷ I ∷ []) (I ∷ []) (I ∷ []) (zeros 16) }
+unfolding opened
+base-first = refl
+
+-- with no external bus there are no currents
+base-alone : after (baseless (study rows-own M (1 ∷ []) [] (0 ∷ []) [] [])) ≡ after (study rows-own M (1 ∷ []) [] (0 ∷ []) [] [])
+unfolding opened
+base-alone = refl
+
+-- 1, 2^600 / 2^600, 1: a product is not finite
+product-first : after (study rows-own (I ∷ z ∷ huge ∷ z ∷ huge ∷ z ∷ I ∷ z ∷ []) [] (1 ∷ []) (0 ∷ []) (C ∷ []) (z ∷ [])) ≡ record { answer = Refused computedNotFinite; outputs = outputsOf (I ∷ I ∷ []) (I ∷ []) (I ∷ []) (zeros 6) }
+unfolding opened
+product-first = refl
+
+-- a given number that is not finite, of a bus in no list too, and a base; told last, and the work slice as it was
+not-given : refused (study rows-own (infinite ∷ z ∷ -I ∷ z ∷ -I ∷ z ∷ II ∷ z ∷ []) [] [] (1 ∷ []) [] []) 19
+unfolding opened
+not-given = refl
+
+base-not-given : refused (numberedOf rows-own (studyOf 2 M [] [] (0 ∷ []) infinite [] [])) 19
+unfolding opened
+base-not-given = refl
+
+twice-before-given : refused (study rows-own (infinite ∷ z ∷ -I ∷ z ∷ -I ∷ z ∷ II ∷ z ∷ []) (1 ∷ []) [] (1 ∷ []) [] []) 8
+unfolding opened
+twice-before-given = refl
 
 -- an input refusal comes first, and leaves the work slice
 input-first : under 0 (study rows-own M [] (2 ∷ []) (0 ∷ []) (z ∷ []) (z ∷ [])) ≡ after (study rows-own M [] (2 ∷ []) (0 ∷ []) (z ∷ []) (z ∷ []))
@@ -298,7 +346,7 @@ abbrev wide : NumberedExtended → ExtendedOutputs
 wide X = record { outputs = room (X .study .study); correction = I ∷ []; compensation = I ∷ [] }
 
 opened-extended : Unit {0}
-unfolding opened ofSums ofTies ofCorrection stepsOfExtended magnitude root rootOf wholeRoot half radicand smallMagnitude addUp deviation weight weightSum weightedSum meanOf voltageCorrection reactive qCompensation extendedOutputsAfter studiedExtended extendedInRows extendedRefusal afterComputeExtended
+unfolding opened ofSums ofTies ofCorrection stepsOfExtended magnitude root rootOf wholeRoot half radicand smallMagnitude addUp deviation weight weightSum weightedSum meanOf voltageCorrection reactive qCompensation extendedOutputsAfter studiedExtended extendedInRows extendedShapeRefusal extendedRefusal afterComputeExtended
 opened-extended = tt
 
 -- voltage 1.25: bus 7 gets P -3.5 and Q -0.5; its correction is 0.25, and the extended form's own Q -1
@@ -339,3 +387,22 @@ unlike-v = refl
 lacks-v : let X = extended 1 (I ∷ []) in afterComputeExtended X Unlimited (wide X) ≡ record { answer = Refused 7; outputs = wide X }
 unfolding opened-extended
 lacks-v = refl
+
+-- ---- finite numbers only
+
+-- all entries 2, the voltage 1.7e308: the study is accepted, its correction is not finite
+abbrev loud : NumberedExtended
+loud = numberedExtendedOf (numberedOf rows-own (studyOf 2 (II ∷ z ∷ II ∷ z ∷ II ∷ z ∷ II ∷ z ∷ []) [] (1 ∷ []) (0 ∷ []) I (I ∷ []) (z ∷ []))) (float 0x7fee42d130773b76 ∷ [])
+
+loud-study : after (loud .study) .answer ≡ done 2 1 +½
+unfolding opened
+loud-study = refl
+
+loud-correction : afterComputeExtended loud Unlimited (wide loud) ≡ afterExtended (Refused computedNotFinite) (outputsOf (I ∷ I ∷ []) (I ∷ []) (I ∷ []) (zeros 6)) (I ∷ []) (I ∷ [])
+unfolding opened-extended
+loud-correction = refl
+
+-- a voltage that is not finite
+v-not-given : let X = extended 3 (infinite ∷ []) in afterComputeExtended X Unlimited (wide X) ≡ record { answer = Refused 19; outputs = wide X }
+unfolding opened-extended
+v-not-given = refl

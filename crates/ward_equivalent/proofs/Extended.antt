@@ -1,6 +1,8 @@
 -- An extended study on rows: Ward's own answer and slices, and the corrections where it is accepted.
-use Rattle.prelude.proofs.Prelude.{_≡_, refl, sym, ap, _∙_, subst, Bool, true, false, cond, List, ℕ, zero, suc, _-_, T, eqb, length, take, drop, Float, map, sub-zero}
+use Rattle.prelude.proofs.Prelude.{_≡_, refl, sym, ap, _∙_, subst, Bool, true, false, cond, List, _++_, ℕ, zero, suc, _-_, _<_, arith, T, getD, eqb, is-true, length, take, drop, Float, map, sub-zero}
 use lib.Dec.{eqb·suc-zero}
+use Rattle.binary64.specs.Values.{allFinite}
+use Rattle.complex.specs.{zeros}
 use Rattle.lists.proofs.Scans.{rest-is}
 use Rattle.ward_equivalent.specs.declared.answers.WardSummary.{WardSummary}
 use Rattle.ward_equivalent.specs.declared.answers.WardAnswer.{WardAnswer}
@@ -8,13 +10,14 @@ use Rattle.ward_equivalent.specs.declared.answers.WardAnswer.the-variant
 use Rattle.ward_equivalent.specs.Ward.{Outputs, admittance}
 use Rattle.ward_equivalent.specs.Studied.{summary, wardAnswer, wardNumber, AfterWard, studied}
 use Rattle.ward_equivalent.specs.Extended.{ExtendedStudy, ExtendedOutputs, deviation, weight, weightSum, weightedSum, voltageCorrection, qCompensation}
-use Rattle.ward_equivalent.specs.Studied.{extendedOutputsAfter, studiedExtended}
+use Rattle.ward_equivalent.specs.Studied.{outputsAfter, workAfter, extendedOutputsAfter, studiedExtended}
 use Rattle.refusals.specs.declared.Allowance.the-variants.{Rows}
-use Rattle.refusals.specs.Work.{granted, workRefusal, thenWork}
-use Rattle.refusals.proofs.Work.{meets-then-numbers}
+use Rattle.refusals.specs.Work.{computing, reductions, meets, granted, workRefusal, thenWork}
+use Rattle.refusals.proofs.Work.{meets-after, meets-first, numbers-met}
 use Rattle.ward_equivalent.specs.Steps.{ofEach, ofCorrection, stepsOf, stepsOfExtended}
 use Rattle.ward_equivalent.specs.Calls.{outputsOf, afterWard, afterExtended}
-use Rattle.ward_equivalent.specs.Inner.Listed.{cut, correctionInput, extendedOf}
+use Rattle.ward_equivalent.specs.Inner.Listed.{cut, correctionInput, extendedOf, uncorrectedAnswer, CorrectionFinite}
+use Rattle.ward_equivalent.proofs.Tells.{corrections-tell, corrections-told}
 
 -- ---- what an answer says of the refusal
 
@@ -48,18 +51,52 @@ refused-some (suc k) j s e = eqb·suc-zero k
 
 -- ---- the slices together
 
-same-extended : {r r' : WardAnswer} {o o' : Outputs} {cs cs' ks ks' : List Float} → r ≡ r' → o ≡ o' → cs ≡ cs' → ks ≡ ks' → afterExtended r o cs ks ≡ afterExtended r' o' cs' ks'
+pub same-extended : {r r' : WardAnswer} {o o' : Outputs} {cs cs' ks ks' : List Float} → r ≡ r' → o ≡ o' → cs ≡ cs' → ks ≡ ks' → afterExtended r o cs ks ≡ afterExtended r' o' cs' ks'
 same-extended a b c d = λ i. record { answer = a i; outputs = record { outputs = b i; correction = c i; compensation = d i } }
 
--- the corrections compute numbers, and these meet nothing
-same-met : (X : ExtendedStudy) (m : ℕ) → thenWork 0 (Rows m) (stepsOfExtended X) ≡ thenWork 0 (Rows m) (stepsOf (X .study))
-unfolding thenWork workRefusal granted stepsOfExtended
-same-met X m = meets-then-numbers m (stepsOf (X .study)) (ofEach (ofCorrection X) (X .study .boundary))
+-- the numbers of the corrections
+abbrev pub correctionNumbers : ExtendedStudy → List Float
+correctionNumbers X = ofEach (ofCorrection X) (X .study .boundary)
 
-module _ (X : ExtendedStudy) (m : ℕ) (o : ExtendedOutputs) {r : WardAnswer} {yw pw qw ws : List Float} (e : afterWard r yw pw qw ws ≡ studied (X .study) (Rows m) (o .outputs) 0) where
+-- finite, they meet nothing
+same-met : (X : ExtendedStudy) (m : ℕ) → T (allFinite (ofEach (ofCorrection X) (X .study .boundary))) → meets m (stepsOfExtended X) ≡ meets m (stepsOf (X .study))
+unfolding stepsOfExtended
+same-met X m fine = pick (meets m (stepsOf (X .study))) refl
+  where
+    pick : (k : ℕ) → meets m (stepsOf (X .study)) ≡ k → meets m (stepsOf (X .study) ++ computing (correctionNumbers X)) ≡ meets m (stepsOf (X .study))
+    pick zero e =
+        meets-after m (stepsOf (X .study)) (computing (correctionNumbers X)) e
+        ∙ numbers-met (m - reductions (stepsOf (X .study))) (correctionNumbers X) ∙ ap (λ (b : Bool). cond b 0 20) (is-true (allFinite (correctionNumbers X)) fine) ∙ sym e
+    pick (suc k) e = meets-first m (stepsOf (X .study)) (computing (correctionNumbers X)) (λ (z : meets m (stepsOf (X .study)) ≡ 0). let n = sym e ∙ z in omega arith)
+
+-- else they meet 20, behind the study's own refusal
+lost-met : (X : ExtendedStudy) (m : ℕ) → allFinite (ofEach (ofCorrection X) (X .study .boundary)) ≡ false → (k : ℕ) → meets m (stepsOf (X .study)) ≡ k
+    → ((j : ℕ) × (meets m (stepsOfExtended X) ≡ suc j) × (uncorrectedAnswer k ≡ Refused (suc j)))
+unfolding stepsOfExtended uncorrectedAnswer
+lost-met X m lost zero e = (
+  19,
+  meets-after m (stepsOf (X .study)) (computing (correctionNumbers X)) e
+      ∙ numbers-met (m - reductions (stepsOf (X .study))) (correctionNumbers X) ∙ ap (λ (b : Bool). cond b 0 20) lost,
+  refl,
+)
+lost-met X m lost (suc k) e =
+    (k, meets-first m (stepsOf (X .study)) (computing (correctionNumbers X)) (λ (z : meets m (stepsOf (X .study)) ≡ 0). let n = sym e ∙ z in omega arith) ∙ e, refl)
+
+module _ (X : ExtendedStudy) (m : ℕ) (o : ExtendedOutputs) where
+  pub extended-lost : allFinite (ofEach (ofCorrection X) (X .study .boundary)) ≡ false
+      → afterExtended (uncorrectedAnswer (meets m (stepsOf (X .study)))) (outputsOf (o .outputs .y-ward) (o .outputs .p-ward) (o .outputs .q-ward) (zeros (length (o .outputs .work)))) (o .correction) (o .compensation) ≡ studiedExtended X (Rows m) o 0
+  unfolding studiedExtended thenWork workRefusal granted wardAnswer extendedOutputsAfter outputsAfter workAfter
+  extended-lost lost = let (j, met, answer) = lost-met X m lost (meets m (stepsOf (X .study))) refl in simp (answer, met, eqb·suc-zero)
+
+module _ (X : ExtendedStudy) (m : ℕ) (o : ExtendedOutputs) (fine : T (allFinite (ofEach (ofCorrection X) (X .study .boundary)))) {r : WardAnswer} {yw pw qw ws : List Float}
+    (e : afterWard r yw pw qw ws ≡ studied (X .study) (Rows m) (o .outputs) 0) where
   -- the study's number, which is the call's
   number : ℕ
   number = thenWork 0 (Rows m) (stepsOf (X .study))
+
+  same-number : thenWork 0 (Rows m) (stepsOfExtended X) ≡ number
+  unfolding thenWork workRefusal granted number
+  same-number = same-met X m fine
 
   answer-is : r ≡ wardAnswer number (summary (X .study))
   unfolding studied number
@@ -71,7 +108,7 @@ module _ (X : ExtendedStudy) (m : ℕ) (o : ExtendedOutputs) {r : WardAnswer} {y
   unfolding studied studiedExtended extendedOutputsAfter number
   whole c k =
       same-extended answer-is (ap (λ (a : AfterWard). a .outputs) e) c k
-      ∙ ap (λ (n : ℕ). record { answer = wardAnswer n (summary (X .study)); outputs = extendedOutputsAfter X 0 n o }) (sym (same-met X m))
+      ∙ ap (λ (n : ℕ). record { answer = wardAnswer n (summary (X .study)); outputs = extendedOutputsAfter X 0 n o }) (sym same-number)
 
   -- accepted: the corrections of the boundary buses stand in their slices
   pub extended-done : {cs ks : List Float} (s : WardSummary) → r ≡ Done s → cs ≡ map (voltageCorrection X) (X .study .boundary) → ks ≡ map (qCompensation X) (X .study .boundary)
@@ -99,3 +136,38 @@ module _ (n : ℕ) (ys : List Float) (rows : List ℕ) (e f : ℕ) (base : Float
   pub compensations-seen : map (qCompensation (correctionInput n ys (take (e - 0) rows) vs base)) (take (length rows - f) (drop f rows)) ≡ map (qCompensation (extendedOf (cut n ys rows e f base ps qs) vs)) (drop f rows)
   unfolding qCompensation deviation admittance
   compensations-seen = ap (λ (m : ℕ). map (qCompensation (correctionInput n ys (take m rows) vs base)) (take (length rows - f) (drop f rows))) (sub-zero e) ∙ ap (map (qCompensation (correctionInput n ys (take e rows) vs base))) (rest-is rows f)
+
+  -- the sums that are tested
+  abbrev tested : List ℕ
+  tested = take (length rows - f) (drop f rows)
+
+  abbrev whole-study : ExtendedStudy
+  whole-study = extendedOf (cut n ys rows e f base ps qs) vs
+
+  to-study : (i : ℕ) → CorrectionFinite (correctionInput n ys (take (e - 0) rows) vs base) i → CorrectionFinite whole-study i
+  unfolding voltageCorrection weightSum weightedSum weight deviation qCompensation admittance
+  to-study i h =
+      let k = subst (λ (m : ℕ). CorrectionFinite (correctionInput n ys (take m rows) vs base) i) (sub-zero e) h in
+      record { weights = k .weights; weighted = k .weighted; correction = k .correction; compensation = k .compensation }
+
+  from-study : (i : ℕ) → CorrectionFinite whole-study i → CorrectionFinite (correctionInput n ys (take (e - 0) rows) vs base) i
+  unfolding voltageCorrection weightSum weightedSum weight deviation qCompensation admittance
+  from-study i h =
+      subst (λ (m : ℕ). CorrectionFinite (correctionInput n ys (take m rows) vs base) i) (sym (sub-zero e))
+      (record { weights = h .weights; weighted = h .weighted; correction = h .correction; compensation = h .compensation })
+
+  pub corrections-fine : ((t : ℕ) → t < length (take (length rows - f) (drop f rows)) → CorrectionFinite (correctionInput n ys (take (e - 0) rows) vs base) (getD (take (length rows - f) (drop f rows)) t 0))
+      → T (allFinite (ofEach (ofCorrection (extendedOf (cut n ys rows e f base ps qs) vs)) (drop f rows)))
+  corrections-fine h =
+      corrections-tell whole-study
+      (subst (λ (l : List ℕ). (t : ℕ) → t < length l → CorrectionFinite whole-study (getD l t 0)) (rest-is rows f) λ (t : ℕ) (l : t < length tested). to-study (getD tested t 0) (h t l))
+
+  pub corrections-not : (((t : ℕ) → t < length (take (length rows - f) (drop f rows)) → CorrectionFinite (correctionInput n ys (take (e - 0) rows) vs base) (getD (take (length rows - f) (drop f rows)) t 0)) → ⊥)
+      → allFinite (ofEach (ofCorrection (extendedOf (cut n ys rows e f base ps qs) vs)) (drop f rows)) ≡ false
+  corrections-not h = pick (allFinite (ofEach (ofCorrection whole-study) (drop f rows))) refl
+    where
+      pick : (b : Bool) → allFinite (ofEach (ofCorrection whole-study) (drop f rows)) ≡ b → b ≡ false
+      pick false q = refl
+      pick true q =
+          absurd (h λ (t : ℕ) (l : t < length tested). from-study (getD tested t 0)
+          (subst (λ (k : List ℕ). (t : ℕ) → t < length k → CorrectionFinite whole-study (getD k t 0)) (sym (rest-is rows f)) (corrections-told whole-study (subst T (sym q) tt)) t l))

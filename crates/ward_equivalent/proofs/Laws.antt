@@ -1,16 +1,19 @@
 -- What an accepted Ward study is: a matrix of its exact length, lists that name its rows alone. And what it leaves in its slices.
-use Rattle.prelude.proofs.Prelude.{_≡_, sym, subst, Bool, not, List, ℕ, _*_, T, eqb, length, map, eqb→eq}
+use Rattle.prelude.proofs.Prelude.{_≡_, sym, subst, Bool, not, List, _++_, ℕ, _*_, T, eqb, length, map, eqb→eq}
 use Rattle.complex.specs.{zeros}
 use Rattle.refusals.specs.declared.Allowance.{Allowance}
+use Rattle.binary64.specs.Values.{allFinite}
 use Rattle.refusals.proofs.Answering.{then-none}
+use Rattle.refusals.proofs.Numbers.{given-none}
+use Rattle.refusals.proofs.Work.{work-accepted}
 use Rattle.refusals.specs.Work.{Step, workRefusal, thenWork}
 use Rattle.lists.specs.Buses.{allBelow, repeats}
-use Rattle.ward_equivalent.specs.Ward.{Study, Outputs, listed}
-use Rattle.ward_equivalent.specs.Steps.{stepsOf, stepsOfExtended}
+use Rattle.ward_equivalent.specs.Ward.{Study, Outputs, givenOf, listed}
+use Rattle.ward_equivalent.specs.Steps.{stepsOf, ofStudy, stepsOfExtended, ofExtended}
 use Rattle.ward_equivalent.specs.Studied.{acceptedOutputs, workAfter, outputsAfter, studied}
 use Rattle.ward_equivalent.specs.Extended.{ExtendedOutputs, voltageCorrection, qCompensation}
 use Rattle.ward_equivalent.specs.Studied.{extendedOutputsAfter, studiedExtended}
-use Rattle.ward_equivalent.specs.Numbers.{NumberedStudy, NumberedExtended, lengthsOf, extendedLengthsOf, inRows, extendedInRows, busRefusal, wardRefusal, extendedRefusal, AcceptedStudy, AcceptedExtended, afterCompute, afterComputeExtended}
+use Rattle.ward_equivalent.specs.Numbers.{NumberedStudy, NumberedExtended, lengthsOf, extendedLengthsOf, inRows, extendedInRows, busRefusal, wardShapeRefusal, wardRefusal, extendedShapeRefusal, extendedRefusal, AcceptedStudy, AcceptedExtended, afterCompute, afterComputeExtended}
 use Rattle.ward_equivalent.proofs.Told.{lengths-pass}
 use Rattle.ward_equivalent.proofs.Naming.{listed-rows}
 use Rattle.ward_equivalent.proofs.Named.{rows-fine}
@@ -34,18 +37,43 @@ sound-of N given numbers z =
     let (below, distinct) = rows-fine (N .numbers) (listed (N .study)) (N .study .size) (listed (inRows N)) numbers z (listed-rows N) in
     record { given = given; below = below; distinct = subst (λ (b : Bool). T (not b)) (sym distinct) tt }
 
-pub sound : (N : NumberedStudy) (a : Allowance) (o : Outputs) → AcceptedStudy N a o → Sound (inRows N)
+input-passed : (N : NumberedStudy) (a : Allowance) (o : Outputs) → AcceptedStudy N a o → (wardShapeRefusal N o ≡ 0) × T (allFinite (givenOf (N .study)))
 unfolding wardRefusal
+input-passed N a o h = given-none (wardShapeRefusal N o) (givenOf (N .study)) (accepted-input (wardRefusal N o) a (stepsOf (inRows N)) h)
+
+pub sound : (N : NumberedStudy) (a : Allowance) (o : Outputs) → AcceptedStudy N a o → Sound (inRows N)
+unfolding wardShapeRefusal
 sound N a o h =
-    let (l, z) = lengths-pass (lengthsOf N o) (busRefusal (N .numbers) (listed (N .study))) (accepted-input (wardRefusal N o) a (stepsOf (inRows N)) h) in
+    let (l, z) = lengths-pass (lengthsOf N o) (busRefusal (N .numbers) (listed (N .study))) (input-passed N a o h .0) in
     sound-of N (l .fits .given) (l .fits .numbers) z
 
-pub soundX : (X : NumberedExtended) (a : Allowance) (o : ExtendedOutputs) → AcceptedExtended X a o → Sound (inRows (X .study))
+-- all numbers given and all computed are finite
+pub given-finite : (N : NumberedStudy) (a : Allowance) (o : Outputs) → AcceptedStudy N a o → T (allFinite (givenOf (inRows N)))
+unfolding inRows givenOf
+given-finite N a o h = input-passed N a o h .1
+
+pub computed-finite : (N : NumberedStudy) (a : Allowance) (o : Outputs) → AcceptedStudy N a o → T (allFinite (ofStudy (inRows N)))
+unfolding ofStudy
+computed-finite N a o h = work-accepted (wardRefusal N o) a (stepsOf (inRows N)) (eqb→eq (thenWork (wardRefusal N o) a (stepsOf (inRows N))) 0 h) .2
+
+input-passedX : (X : NumberedExtended) (a : Allowance) (o : ExtendedOutputs) → AcceptedExtended X a o → (extendedShapeRefusal X o ≡ 0) × T (allFinite (givenOf (X .study .study) ++ X .v-ext))
 unfolding extendedRefusal
+input-passedX X a o h = given-none (extendedShapeRefusal X o) (givenOf (X .study .study) ++ X .v-ext) (accepted-input (extendedRefusal X o) a (stepsOfExtended (extendedInRows X)) h)
+
+pub soundX : (X : NumberedExtended) (a : Allowance) (o : ExtendedOutputs) → AcceptedExtended X a o → Sound (inRows (X .study))
+unfolding extendedShapeRefusal
 soundX X a o h =
     let N = X .study in
-    let (l, z) = lengths-pass (extendedLengthsOf X o) (busRefusal (N .numbers) (listed (N .study))) (accepted-input (extendedRefusal X o) a (stepsOfExtended (extendedInRows X)) h) in
+    let (l, z) = lengths-pass (extendedLengthsOf X o) (busRefusal (N .numbers) (listed (N .study))) (input-passedX X a o h .0) in
     sound-of N (l .fits .given) (l .fits .numbers) z
+
+pub given-finiteX : (X : NumberedExtended) (a : Allowance) (o : ExtendedOutputs) → AcceptedExtended X a o → T (allFinite (givenOf (extendedInRows X .study) ++ extendedInRows X .v-ext))
+unfolding inRows extendedInRows givenOf
+given-finiteX X a o h = input-passedX X a o h .1
+
+pub computed-finiteX : (X : NumberedExtended) (a : Allowance) (o : ExtendedOutputs) → AcceptedExtended X a o → T (allFinite (ofExtended (extendedInRows X)))
+unfolding ofExtended
+computed-finiteX X a o h = work-accepted (extendedRefusal X o) a (stepsOfExtended (extendedInRows X)) (eqb→eq (thenWork (extendedRefusal X o) a (stepsOfExtended (extendedInRows X))) 0 h) .2
 
 -- ---- what it leaves
 

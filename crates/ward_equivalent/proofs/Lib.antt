@@ -1,10 +1,19 @@
 pub mod Places
 pub mod Signs
 pub mod Steps
-pub mod Solves
+pub mod Meeting
 pub mod Solved
 pub mod Studied
 pub mod Sums
+pub mod Tells
+pub mod Ratio
+pub mod Parts
+pub mod Tests
+pub mod Alone
+pub mod Kept
+pub mod Decided
+pub mod Bounds
+pub mod Together
 pub mod Buses
 pub mod Told
 pub mod Naming
@@ -13,4 +22,5 @@ pub mod Laws
 pub mod Ties
 pub mod Extended
 pub mod Allowances
+pub mod FiniteAnswers
 pub mod Cases

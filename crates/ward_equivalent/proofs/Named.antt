@@ -1,8 +1,10 @@
 -- A study whose buses are named by number: what its lengths and numbers refuse, and that what they let through is the study on rows.
-use Rattle.prelude.proofs.Prelude.{_≡_, refl, sym, ap, _∙_, subst, Bool, true, false, not, _||_, List, _++_, ℕ, zero, suc, _+_, _-_, _*_, _≤_, arith, T, length, length-append}
+use Rattle.prelude.proofs.Prelude.{_≡_, refl, sym, ap, _∙_, subst, Bool, true, false, not, _||_, List, _++_, ℕ, zero, suc, _+_, _-_, _*_, _≤_, arith, T, length, length-append, Float}
 use lib.Dec.{eqb·suc-zero}
 use Rattle.refusals.specs.declared.Allowance.{Allowance}
-use Rattle.refusals.specs.Refusals.{refuse}
+use Rattle.binary64.specs.Values.{allFinite}
+use Rattle.refusals.specs.Refusals.{refuse, thenGiven}
+use Rattle.refusals.proofs.Numbers.{given-before, given-not, given-all}
 use Rattle.refusals.specs.Work.{thenWork}
 use Rattle.lists.specs.Buses.{allBelow, repeats, within, rowsIn}
 use Rattle.lists.proofs.Lookups.{length-rowsIn}
@@ -10,13 +12,13 @@ use Rattle.lists.proofs.Naming.{rowsIn-append, below-within, repeats-rows}
 use Rattle.ward_equivalent.specs.declared.answers.WardAnswer.the-variants.{Refused}
 use Rattle.ward_equivalent.specs.declared.lengths.Lengths.{Lengths}
 use Rattle.ward_equivalent.specs.Lengths.{lengthRefusal}
-use Rattle.ward_equivalent.specs.Ward.{Study, Outputs, externals, listed}
+use Rattle.ward_equivalent.specs.Ward.{Study, Outputs, givenOf, externals, listed}
 use Rattle.ward_equivalent.specs.Studied.{wardAnswer, outputsAfter, workAfter, studied}
 use Rattle.ward_equivalent.specs.Extended.{ExtendedStudy, ExtendedOutputs}
 use Rattle.ward_equivalent.specs.Studied.{extendedOutputsAfter, studiedExtended}
 use Rattle.ward_equivalent.specs.Calls.{afterWard, afterExtended}
 use Rattle.ward_equivalent.specs.Inner.Listed.{cut, CheckedStudy}
-use Rattle.ward_equivalent.specs.Numbers.{NumberedStudy, NumberedExtended, lengthsOf, extendedLengthsOf, inRows, extendedInRows, busRefusal, wardRefusal, extendedRefusal, afterCompute, afterComputeExtended}
+use Rattle.ward_equivalent.specs.Numbers.{NumberedStudy, NumberedExtended, lengthsOf, extendedLengthsOf, inRows, extendedInRows, busRefusal, wardShapeRefusal, wardRefusal, extendedShapeRefusal, extendedRefusal, afterCompute, afterComputeExtended}
 use Rattle.ward_equivalent.proofs.Buses.{distinct-length, cut-joined}
 use Rattle.ward_equivalent.proofs.Told.{Fitting, lengths-refuse, lengths-pass}
 
@@ -80,10 +82,10 @@ without X o F =
       v-ext = refl;
     }
 
-pub rows-listed : (N : NumberedStudy) (o : Outputs) (L : List ℕ) → Fitting (lengthsOf N o) → busRefusal (N .numbers) (N .study .external ++ (N .study .internal ++ N .study .boundary)) ≡ 0
+pub rows-listed : (N : NumberedStudy) (o : Outputs) (L : List ℕ) → Fitting (lengthsOf N o) → T (allFinite (N .study .given)) → busRefusal (N .numbers) (N .study .external ++ (N .study .internal ++ N .study .boundary)) ≡ 0
     → L ≡ rowsIn (N .numbers) (N .study .external ++ (N .study .internal ++ N .study .boundary))
     → CheckedStudy (N .study .size) (N .study .given) L (externals (N .study)) (externals (N .study) + length (N .study .internal)) (N .study .p-ext) (N .study .q-ext) o
-rows-listed N o L F z e =
+rows-listed N o L F finite z e =
     let S = N .study in let ns = N .numbers in let E = S .external in let I = S .internal in let B = S .boundary in
     let ks = E ++ (I ++ B) in
     let (inside, distinct) = rows-fine ns ks (S .size) L (F .numbers) z e in
@@ -104,6 +106,7 @@ rows-listed N o L F z e =
       };
       p-ext = F .p-ext;
       q-ext = F .q-ext;
+      finite = finite;
     }
 
 pub cut-rows : (N : NumberedStudy) (L : List ℕ) → L ≡ rowsIn (N .numbers) (N .study .external ++ (N .study .internal ++ N .study .boundary))
@@ -143,18 +146,37 @@ module _ (l : Lengths) (ns ks : List ℕ) (t : ℕ) (e : t ≡ lengthRefusal l 0
   pub told-then : t ≡ 0 → (u : ℕ) → u ≡ busRefusal ns ks → u ≡ lengthRefusal l (busRefusal ns ks)
   told-then z u v = let (p, _) = lengths-pass l 0 (sym e ∙ z) in v ∙ sym (p .on (busRefusal ns ks))
 
-module _ (N : NumberedStudy) (a : Allowance) (o : Outputs) (k : ℕ) (e : k ≡ lengthRefusal (lengthsOf N o) (busRefusal (N .numbers) (listed (N .study)))) where
-  pub answered : studied (inRows N) a o k ≡ afterCompute N a o
+-- k is told by both; behind it come the numbers given
+module _ (N : NumberedStudy) (a : Allowance) (o : Outputs) (k : ℕ) (e : k ≡ wardShapeRefusal N o) where
+  abbrev given : List Float
+  given = givenOf (N .study)
+
+  told-is : (t : ℕ) → t ≡ thenGiven (wardShapeRefusal N o) given → studied (inRows N) a o t ≡ afterCompute N a o
   unfolding afterCompute wardRefusal
-  answered = ap (studied (inRows N) a o) e
+  told-is t q = ap (studied (inRows N) a o) q
 
   pub answered-refused : (k ≡ 0 → ⊥) → afterWard (Refused k) (o .y-ward) (o .p-ward) (o .q-ward) (o .work) ≡ afterCompute N a o
-  answered-refused h = refused (inRows N) a o k h ∙ answered
+  answered-refused h = refused (inRows N) a o k h ∙ told-is k (given-before k (wardShapeRefusal N o) given e h)
 
-module _ (X : NumberedExtended) (a : Allowance) (o : ExtendedOutputs) (k : ℕ) (e : k ≡ lengthRefusal (extendedLengthsOf X o) (busRefusal (X .study .numbers) (listed (X .study .study)))) where
-  pub answeredX : studiedExtended (extendedInRows X) a o k ≡ afterComputeExtended X a o
+  pub answered-lost : k ≡ 0 → allFinite (givenOf (N .study)) ≡ false → afterWard (Refused 19) (o .y-ward) (o .p-ward) (o .q-ward) (o .work) ≡ afterCompute N a o
+  answered-lost z h = refused (inRows N) a o 19 (λ (q : _≡_ {A = ℕ} 19 0). omega arith) ∙ told-is 19 (given-not k (wardShapeRefusal N o) given e z h)
+
+  pub answered : k ≡ 0 → allFinite (givenOf (N .study)) ≡ true → studied (inRows N) a o 0 ≡ afterCompute N a o
+  answered z h = told-is 0 (given-all k (wardShapeRefusal N o) given e z h)
+
+module _ (X : NumberedExtended) (a : Allowance) (o : ExtendedOutputs) (k : ℕ) (e : k ≡ extendedShapeRefusal X o) where
+  abbrev givenX : List Float
+  givenX = givenOf (X .study .study) ++ X .v-ext
+
+  told-isX : (t : ℕ) → t ≡ thenGiven (extendedShapeRefusal X o) givenX → studiedExtended (extendedInRows X) a o t ≡ afterComputeExtended X a o
   unfolding afterComputeExtended extendedRefusal
-  answeredX = ap (studiedExtended (extendedInRows X) a o) e
+  told-isX t q = ap (studiedExtended (extendedInRows X) a o) q
 
   pub answered-refusedX : (k ≡ 0 → ⊥) → afterExtended (Refused k) (o .outputs) (o .correction) (o .compensation) ≡ afterComputeExtended X a o
-  answered-refusedX h = refusedX (extendedInRows X) a o k h ∙ answeredX
+  answered-refusedX h = refusedX (extendedInRows X) a o k h ∙ told-isX k (given-before k (extendedShapeRefusal X o) givenX e h)
+
+  pub answered-lostX : k ≡ 0 → allFinite (givenOf (X .study .study) ++ X .v-ext) ≡ false → afterExtended (Refused 19) (o .outputs) (o .correction) (o .compensation) ≡ afterComputeExtended X a o
+  answered-lostX z h = refusedX (extendedInRows X) a o 19 (λ (q : _≡_ {A = ℕ} 19 0). omega arith) ∙ told-isX 19 (given-not k (extendedShapeRefusal X o) givenX e z h)
+
+  pub answeredX : k ≡ 0 → allFinite (givenOf (X .study .study) ++ X .v-ext) ≡ true → studiedExtended (extendedInRows X) a o 0 ≡ afterComputeExtended X a o
+  answeredX z h = told-isX 0 (given-all k (extendedShapeRefusal X o) givenX e z h)

@@ -1,11 +1,11 @@
 -- Places in the given matrix and in the work slice: within bounds.
 use Rattle.prelude.proofs.Prelude.{_≡_, refl, sym, ap, _∙_, subst, cond, _⊎_, inl, inr, List, _++_, ℕ, _+_, _*_, _≤_, _<_, add-one, arith, ltb, length, getD, Float, nan, map, length-map, ext-getD, eq-or-lt-of-le, lt-ltb, le-ltb}
-use Rattle.complex.specs.{Complex, cadd, cmul, entry, put, Matrix, entryAt, row, zeros}
+use Rattle.complex.specs.{Complex, cadd, csub, cmul, entry, put, Matrix, entryAt, row, zeros}
 use Rattle.complex.proofs.Entries.{parts-same, length-put, entry-put-same, entry-put-other, entry-append-left}
 use Rattle.complex.proofs.Matrices.{entry-within, length-row, entry-row, getD-zeros}
 use Rattle.solver.proofs.Passed.{Put, put-more, Stored}
 use Rattle.ward_equivalent.specs.Arithmetic.{sumUp}
-use Rattle.ward_equivalent.specs.Inner.Work.{Listing, workRow, productTo}
+use Rattle.ward_equivalent.specs.Inner.Work.{Listing, workRow, productTo, product, lessProduct}
 use Rattle.lists.proofs.Buses.{getD-in, below-all}
 use Rattle.lists.proofs.Lookups.{getD-map}
 
@@ -35,6 +35,14 @@ pub product-more : (n : ℕ) (ys : List Float) (es : List ℕ) (w : ℕ) (ws : L
     → productTo n ys es w ws bus c (k + 1) ≡ cadd (productTo n ys es w ws bus c k) (cmul (entryAt n ys bus (getD es k 0)) (entryAt w ws k c))
 unfolding productTo sumUp
 product-more n ys es w ws bus c k = rw add-one refl
+
+-- an entry of the equivalent from its parts, X from column 0 on
+pub less-product : (n : ℕ) (ys : List Float) (es ks : List ℕ) (w : ℕ) (ws : List Float) (i q : ℕ) (own sum : Complex)
+    → own ≡ entryAt n ys i (getD ks q 0) → sum ≡ product n ys es w ws i q → csub own sum ≡ lessProduct n ys es ks w ws 0 i q
+unfolding lessProduct
+less-product n ys es ks w ws i q own sum a b =
+    let at : q ≡ 0 + q = omega arith in
+    ap (λ (z : Complex). csub z sum) a ∙ ap (csub (entryAt n ys i (getD ks q 0))) (b ∙ ap (product n ys es w ws i) at)
 
 -- a row filled: the listed columns, and c behind them
 pub filled-row : (Y : Matrix) (bus : ℕ) (bs : List ℕ) (vs rest zs : List Float) (c : Complex) → vs ≡ row Y bus bs → 2 * length bs + 1 < length (vs ++ rest) → zs ≡ put (vs ++ rest) (length bs) c

@@ -1,21 +1,18 @@
--- What the steps of a study compute, count and meet. All its solves have one system, so that each counts and meets the same.
+-- What the steps of a study compute and count. All its solves have one system, so that each counts the same.
 --     study-count  the row reductions are retained + 1 times those of one solve
---     study-met    13 or 18 of the first solve where the system is singular, else 18 where all solves together exceed the allowance
-use Rattle.prelude.proofs.Prelude.{_≡_, refl, sym, ap, _∙_, subst, Bool, true, false, cond, List, [], _∷_, _++_, ℕ, suc, _+_, _-_, _*_, _≤_, arith, T, eqb, ltb, length, Float, eqb-true, mul-le-mul-left}
+use Rattle.prelude.proofs.Prelude.{_≡_, refl, sym, ap, _∙_, subst, Bool, true, false, cond, List, [], _∷_, _++_, ℕ, suc, _+_, _-_, _*_, _≤_, arith, T, eqb, ltb, length, Float, eqb-true, mul-le-mul-left, finite, lit<}
 use native.Mathlib.Nat.{suc-mul, mul-zero}
 use Rattle.binary64.specs.Values.{allFinite}
-use Rattle.complex.proofs.Finite.{all-left, all-right}
+use Rattle.complex.proofs.Finite.{all-left, all-right, all-at}
 use Rattle.refusals.specs.Work.{Step, computing, numbersIn, reductions, meets}
-use Rattle.refusals.proofs.Work.{meets-first, meets-numbers, count-both, count-numbers, none-counted, none-met, numbers-both, numbers-alone, numbers-back}
+use Rattle.refusals.proofs.Work.{count-both, count-numbers, none-counted, numbers-both, numbers-alone, numbers-back}
 use Rattle.solver.specs.GaussJordan.{pairs}
 use Rattle.solver.specs.Solving.{operations, isSingular}
 use Rattle.solver.proofs.Pairs.{pairs-bound}
-use Rattle.solver.proofs.Steps.{stopped, stopped-none, metBy, OnlyCounted, counted-both, counted-none, counted-numbers}
-use Rattle.solver.proofs.Allowances.{solve-count, solve-met}
-use Rattle.ward_equivalent.specs.Ward.{Study, externals, retained, yEE}
+use Rattle.solver.proofs.Allowances.{solve-count}
+use Rattle.ward_equivalent.specs.Ward.{Study, externals, retained, yEE, ratio}
 use Rattle.ward_equivalent.specs.Extended.{ExtendedStudy}
 use Rattle.ward_equivalent.specs.Steps.{ofEach, stepsOfColumn, stepsOfCurrents, ofEquivalent, ofCurrents, ofInjections, ofRatio, stepsOf, ofStudy, ofCorrection, stepsOfExtended, ofExtended}
-use Rattle.ward_equivalent.specs.Inner.Listed.{metBySolves}
 use Rattle.ward_equivalent.specs.Allowances.{mostRows}
 
 -- ---- the numbers
@@ -59,6 +56,12 @@ module _ (S : Study) (some : eqb (externals S) 0 ≡ false) (computed : T (allFi
       all-left (ofInjections S) (ofRatio (length (retained S)) (S .size))
       (last-computed ended (then-computed (stepsOfCurrents S) (computing ended) (then-computed (computing entered) (stepsOfCurrents S ++ computing ended) behind)))
 
+  pub ratio-computed : T (finite (ratio (length (retained S)) (S .size)))
+  unfolding ofRatio
+  ratio-computed =
+      let numbers = all-right (ofInjections S) (ofRatio (length (retained S)) (S .size)) (last-computed ended (then-computed (stepsOfCurrents S) (computing ended) (then-computed (computing entered) (stepsOfCurrents S ++ computing ended) behind))) in
+      all-at (ofRatio (length (retained S)) (S .size)) 3 (lit< tt) numbers
+
 module _ (X : ExtendedStudy) (computed : T (allFinite (ofExtended X))) where
   abbrev corrected : List Float
   corrected = ofEach (ofCorrection X) (X .study .boundary)
@@ -81,11 +84,11 @@ abbrev pub singularStudy : Study → Bool
 singularStudy S = isSingular (externals S) (yEE S)
 
 module _ (S : Study) where
-  column-count : (j : ℕ) → reductions (stepsOfColumn S j) ≡ rowsOfSolve S
+  pub column-count : (j : ℕ) → reductions (stepsOfColumn S j) ≡ rowsOfSolve S
   unfolding stepsOfColumn
   column-count j = solve-count (externals S) (yEE S) _
 
-  currents-count : reductions (stepsOfCurrents S) ≡ rowsOfSolve S
+  pub currents-count : reductions (stepsOfCurrents S) ≡ rowsOfSolve S
   unfolding stepsOfCurrents
   currents-count = solve-count (externals S) (yEE S) _
 
@@ -131,73 +134,3 @@ module _ (S : Study) where
   pub study-bound : reductions (stepsOf S) ≤ mostRows S
   unfolding mostRows
   study-bound = let most = mul-le-mul-left (length (retained S) + 1) (pairs-bound operations (externals S) (yEE S)) in let same = study-count in omega arith
-
-  -- ---- what is met
-
-  column-met : (j m : ℕ) → meets m (stepsOfColumn S j) ≡ metBy m (rowsOfSolve S) (singularStudy S)
-  unfolding stepsOfColumn
-  column-met j m = solve-met (externals S) (yEE S) _ m
-
-  currents-met : (m : ℕ) → meets m (stepsOfCurrents S) ≡ metBy m (rowsOfSolve S) (singularStudy S)
-  unfolding stepsOfCurrents
-  currents-met m = solve-met (externals S) (yEE S) _ m
-
-  -- a regular system meets nothing but 18
-  module _ (regular : singularStudy S ≡ false) where
-    column-counted : (j : ℕ) → OnlyCounted (stepsOfColumn S j)
-    column-counted j m = column-met j m ∙ ap (metBy m (rowsOfSolve S)) regular ∙ ap (λ (k : ℕ). stopped m k 0) (sym (column-count j))
-
-    currents-counted : OnlyCounted (stepsOfCurrents S)
-    currents-counted m = currents-met m ∙ ap (metBy m (rowsOfSolve S)) regular ∙ ap (λ (k : ℕ). stopped m k 0) (sym currents-count)
-
-    columns-counted : (js : List ℕ) → OnlyCounted (ofEach (stepsOfColumn S) js)
-    unfolding ofEach
-    columns-counted [] = counted-none
-    columns-counted (j ∷ js) = counted-both (stepsOfColumn S j) (ofEach (stepsOfColumn S) js) (column-counted j) (columns-counted js)
-
-    last-counted : (xs : List Float) → OnlyCounted (computing xs)
-    last-counted xs m = none-met m xs ∙ stopped-none m 0 ∙ ap (λ (k : ℕ). stopped m k 0) (sym (none-counted xs))
-
-    study-counted : OnlyCounted (stepsOf S)
-    unfolding stepsOf
-    study-counted = pick (eqb (externals S) 0)
-      where
-        pick : (b : Bool) → OnlyCounted (cond b [] (ofEach (stepsOfColumn S) (retained S)
-            ++ (computing (ofEquivalent S ++ ofCurrents S (externals S)) ++ (stepsOfCurrents S ++ computing (ofInjections S ++ ofRatio (length (retained S)) (S .size))))))
-        pick true = counted-none
-        pick false =
-            counted-both (ofEach (stepsOfColumn S) (retained S)) _ (columns-counted (retained S))
-            (counted-numbers (ofEquivalent S ++ ofCurrents S (externals S)) _ (counted-both (stepsOfCurrents S) _ currents-counted (last-counted (ofInjections S ++ ofRatio (length (retained S)) (S .size)))))
-
-  -- a singular one is told by the first solve
-  module _ (small : singularStudy S ≡ true) where
-    first-met : (m : ℕ) (es : List Step) → meets m es ≡ metBy m (rowsOfSolve S) (singularStudy S) → meets m es ≡ cond (ltb m (rowsOfSolve S)) 18 13
-    first-met m es e = e ∙ ap (metBy m (rowsOfSolve S)) small
-
-    some-met : (m : ℕ) (es : List Step) → meets m es ≡ metBy m (rowsOfSolve S) (singularStudy S) → meets m es ≡ 0 → ⊥
-    some-met m es e z = pick (ltb m (rowsOfSolve S)) (meets m es) (first-met m es e) z
-      where
-        pick : (b : Bool) (x : ℕ) → x ≡ cond b 18 13 → x ≡ 0 → ⊥
-        pick true x h k = omega arith
-        pick false x h k = omega arith
-
-    solves-met : (m : ℕ) (js : List ℕ) (xs ys : List Float) → meets m (ofEach (stepsOfColumn S) js ++ (computing xs ++ (stepsOfCurrents S ++ computing ys))) ≡ cond (ltb m (rowsOfSolve S)) 18 13
-    unfolding ofEach
-    solves-met m [] xs ys =
-        meets-numbers m xs _ ∙ meets-first m (stepsOfCurrents S) _ (some-met m _ (currents-met m)) ∙ first-met m _ (currents-met m)
-    solves-met m (j ∷ js) xs ys =
-        let column = stepsOfColumn S j in
-        let one : meets m (column ++ ofEach (stepsOfColumn S) js) ≡ meets m column = meets-first m column _ (some-met m column (column-met j m)) in
-        meets-first m (column ++ ofEach (stepsOfColumn S) js) _ (λ z. some-met m column (column-met j m) (sym one ∙ z)) ∙ one ∙ first-met m column (column-met j m)
-
-    singular-met : eqb (externals S) 0 ≡ false → (m : ℕ) → meets m (stepsOf S) ≡ cond (ltb m (rowsOfSolve S)) 18 13
-    unfolding stepsOf
-    singular-met some m = rw some (solves-met m (retained S) (ofEquivalent S ++ ofCurrents S (externals S)) (ofInjections S ++ ofRatio (length (retained S)) (S .size)))
-
-  pub study-met : eqb (externals S) 0 ≡ false → (m : ℕ) → meets m (stepsOf S) ≡ metBySolves m (length (retained S) + 1) (rowsOfSolve S) (singularStudy S)
-  unfolding metBySolves
-  study-met some m = pick (singularStudy S) refl
-    where
-      pick : (b : Bool) → singularStudy S ≡ b → meets m (stepsOf S) ≡ cond b (cond (ltb m (rowsOfSolve S)) 18 13) (cond (ltb m ((length (retained S) + 1) * rowsOfSolve S)) 18 0)
-      pick true e = singular-met e some m
-      pick false e = study-counted e m ∙ ap (λ (k : ℕ). stopped m k 0) study-count

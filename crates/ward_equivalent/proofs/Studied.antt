@@ -1,27 +1,19 @@
--- What a study with right lists leaves: refused with 13 or 18, or the equivalent that the work slice holds after the elimination.
+-- What a study with right lists leaves: refused, or the equivalent that the solutions in the work slice give.
 use Rattle.prelude.proofs.Prelude.{_≡_, refl, sym, ap, _∙_, subst, Bool, false, List, [], _∷_, _++_, ℕ, zero, suc, _+_, _-_, _*_, _≤_, _<_, arith, eqb, length, getD, take, drop, Float, map, ne-eqb, length-drop, take-append-drop, length-take-le, getD-drop, drop-drop}
 use lib.Dec.{eqb·suc-zero}
 use Rattle.complex.specs.{plus0, csub, Matrix, entryAt, rows, grid, zeros}
 use Rattle.complex.proofs.Matrices.{entry-grid, rows-ext, length-grid, grid-ext, length-rows, entry-rows}
 use Rattle.refusals.specs.declared.Allowance.the-variants.{Rows}
-use Rattle.refusals.specs.declared.Counted.{Counted}
-use Rattle.refusals.specs.declared.Counted.the-variants as counts
-use Rattle.refusals.specs.Refusals.{counted}
 use Rattle.refusals.specs.Work.{reductions, meets, granted, workRefusal, thenWork}
-use Rattle.refusals.proofs.Answering.{counted-refuses, counted-reduces}
-use Rattle.solver.specs.GaussJordan.{gaussJordan, pairs}
-use Rattle.solver.specs.Solving.{operations}
 use Rattle.ward_equivalent.specs.declared.answers.WardAnswer.{WardAnswer}
 use Rattle.ward_equivalent.specs.declared.answers.WardAnswer.the-variants.{Done, Refused}
 use Rattle.ward_equivalent.specs.Arithmetic.{injectedP, injectedQ}
-use Rattle.ward_equivalent.specs.Ward.{Study, Outputs, externals, retained, admittance, equivalent, rowTimes, solvedColumn, injectionP, injectionQ, ratio}
+use Rattle.ward_equivalent.specs.Ward.{Study, Outputs, externals, retained, admittance, equivalent, rowTimes, solvedColumn, boundaryCurrent, injectionP, injectionQ, ratio}
 use Rattle.ward_equivalent.specs.Studied.{summary, wardAnswer, acceptedOutputs, workAfter, outputsAfter, AfterWard, studied}
-use Rattle.ward_equivalent.specs.Inner.Work.{workMatrix, product, lessProduct}
+use Rattle.ward_equivalent.specs.Inner.Work.{product, lessProduct}
 use Rattle.ward_equivalent.specs.Calls.{afterWard}
 use Rattle.ward_equivalent.specs.Steps.{stepsOf}
-use Rattle.ward_equivalent.specs.Inner.Listed.{cut, outputsFrom, metBySolves, Solved}
-use Rattle.ward_equivalent.proofs.Steps.{rowsOfSolve, study-count, study-met}
-use Rattle.ward_equivalent.proofs.Solved.{pivots-of, pairs-of, product-column, product-currents}
+use Rattle.ward_equivalent.specs.Inner.Listed.{cut, outputsFrom}
 
 -- ---- by what the work meets
 
@@ -55,101 +47,75 @@ map-same f g (x ∷ xs) h = ap (λ (y : Float). y ∷ map f xs) (h x) ∙ ap (λ
 
 -- ---- the equivalent that the work slice holds is Ward's
 
-module _ (n : ℕ) (ys : List Float) (bs : List ℕ) (e f : ℕ) (base : Float) (ps qs : List Float) (some : 0 < e) (first : e ≤ f) (last : f ≤ length bs) where
-  any : eqb (externals (cut n ys bs e f base ps qs)) 0 ≡ false
+module _ (n : ℕ) (ys : List Float) (bs : List ℕ) (e f : ℕ) (base : Float) (ps qs : List Float) (some : 0 < e) (first-last : e ≤ f) (last : f ≤ length bs) where
+  pub any : eqb (externals (cut n ys bs e f base ps qs)) 0 ≡ false
   any = ne-eqb (length (take e bs)) 0 (λ (z : length (take e bs) ≡ 0). let c : length (take e bs) ≡ e = length-take-le e bs (omega arith) in omega arith)
 
-  kept : length (retained (cut n ys bs e f base ps qs)) ≡ length bs - e
-  kept = ap length (retained-cut n ys bs e f base ps qs first) ∙ length-drop e bs
+  pub kept : length (retained (cut n ys bs e f base ps qs)) ≡ length bs - e
+  kept = ap length (retained-cut n ys bs e f base ps qs first-last) ∙ length-drop e bs
 
   summary-cut : summary (cut n ys bs e f base ps qs)
       ≡ record { «n_buses_reduced» = n; «n_buses_equivalent» = length bs - e; «reduction_ratio» = ratio (length bs - e) n; «rows_reduced» = reductions (stepsOf (cut n ys bs e f base ps qs)) }
   unfolding summary
   summary-cut = rw (any, kept)
 
-  module _ (ws : List Float) (set : (k j : ℕ) → k < e → j < length bs + 1 → entryAt (length bs + 1) ws k j ≡ workMatrix n ys bs base ps qs k j)
-      (left : List Float) (reached : left ≡ grid e (length bs + 1) (gaussJordan operations e (entryAt (length bs + 1) ws) .left)) where
+  -- X in xs, rows of v entries from column `first` on, and the currents' solution in column c of us, rows of w
+  module _ (xs : List Float) (v first : ℕ) (us : List Float) (w c : ℕ)
+      (columns : (i q : ℕ) → q < length bs - e → product n ys (take e bs) v xs i (first + q) ≡ rowTimes (cut n ys bs e f base ps qs) i (solvedColumn (cut n ys bs e f base ps qs) (getD bs (e + q) 0)))
+      (currents : (i : ℕ) → product n ys (take e bs) w us i c ≡ boundaryCurrent (cut n ys bs e f base ps qs) i) where
     entry-ward : (p q : ℕ) → p < length bs - e → q < length bs - e
-        → lessProduct n ys (take e bs) (drop e bs) (length bs + 1) left (getD (drop e bs) p 0) q ≡ equivalent (cut n ys bs e f base ps qs) (getD (drop e bs) p 0) (getD (drop e bs) q 0)
+        → lessProduct n ys (take e bs) (drop e bs) v xs first (getD (drop e bs) p 0) q ≡ equivalent (cut n ys bs e f base ps qs) (getD (drop e bs) p 0) (getD (drop e bs) q 0)
     unfolding lessProduct equivalent admittance
     entry-ward p q x y =
         let i = getD (drop e bs) p 0 in
         rw any
         (ap (csub (entryAt n ys i (getD (drop e bs) q 0)))
-        (product-column n ys bs e f base ps qs (omega arith) ws set left reached i q y
+        (columns i q y
         ∙ ap (λ (j : ℕ). rowTimes (cut n ys bs e f base ps qs) i (solvedColumn (cut n ys bs e f base ps qs) j)) (sym (getD-drop e bs q 0))))
 
-    matrix-ward : grid (length bs - e) (length bs - e) (λ (p : ℕ). lessProduct n ys (take e bs) (drop e bs) (length bs + 1) left (getD (drop e bs) p 0))
+    matrix-ward : grid (length bs - e) (length bs - e) (λ (p : ℕ). lessProduct n ys (take e bs) (drop e bs) v xs first (getD (drop e bs) p 0))
         ≡ rows (equivalent (cut n ys bs e f base ps qs)) (retained (cut n ys bs e f base ps qs)) (retained (cut n ys bs e f base ps qs))
     matrix-ward =
         let r = length bs - e in
-        let G : Matrix = λ (p : ℕ). lessProduct n ys (take e bs) (drop e bs) (length bs + 1) left (getD (drop e bs) p 0) in
+        let G : Matrix = λ (p : ℕ). lessProduct n ys (take e bs) (drop e bs) v xs first (getD (drop e bs) p 0) in
         rows-ext (equivalent (cut n ys bs e f base ps qs)) (drop e bs) (drop e bs) (grid r r G)
         (length-grid r r G ∙ rw length-drop)
         (λ (p q : ℕ) (x : p < length (drop e bs)) (y : q < length (drop e bs)).
         let x' : p < r = rw length-drop at x in
         let y' : q < r = rw length-drop at y in
-        ap (λ (w : ℕ). entryAt w (grid r r G) p q) (length-drop e bs) ∙ entry-grid r r G p q x' y' ∙ entry-ward p q x' y')
-        ∙ ap (λ (l : List ℕ). rows (equivalent (cut n ys bs e f base ps qs)) l l) (sym (retained-cut n ys bs e f base ps qs first))
+        ap (λ (m : ℕ). entryAt m (grid r r G) p q) (length-drop e bs) ∙ entry-grid r r G p q x' y' ∙ entry-ward p q x' y')
+        ∙ ap (λ (l : List ℕ). rows (equivalent (cut n ys bs e f base ps qs)) l l) (sym (retained-cut n ys bs e f base ps qs first-last))
 
-    active-ward : (i : ℕ) → injectedP base (product n ys (take e bs) (length bs + 1) left i (length bs)) ≡ injectionP (cut n ys bs e f base ps qs) i
+    active-ward : (i : ℕ) → injectedP base (product n ys (take e bs) w us i c) ≡ injectionP (cut n ys bs e f base ps qs) i
     unfolding injectionP
-    active-ward i = rw any (ap (injectedP base) (product-currents n ys bs e f base ps qs (omega arith) ws set left reached i))
+    active-ward i = rw any (ap (injectedP base) (currents i))
 
-    reactive-ward : (i : ℕ) → injectedQ base (product n ys (take e bs) (length bs + 1) left i (length bs)) ≡ injectionQ (cut n ys bs e f base ps qs) i
+    reactive-ward : (i : ℕ) → injectedQ base (product n ys (take e bs) w us i c) ≡ injectionQ (cut n ys bs e f base ps qs) i
     unfolding injectionQ
-    reactive-ward i = rw any (ap (injectedQ base) (product-currents n ys bs e f base ps qs (omega arith) ws set left reached i))
+    reactive-ward i = rw any (ap (injectedQ base) (currents i))
 
-    pub filled-ward : (us : List Float) → length left ≡ length us → (reduced : ℕ) → reduced ≡ reductions (stepsOf (cut n ys bs e f base ps qs))
-        → outputsFrom n ys bs e f base reduced left ≡ accepted (cut n ys bs e f base ps qs) us
+    pub filled-ward : (long : ℕ) (os : List Float) → long ≡ length os → (reduced : ℕ) → reduced ≡ reductions (stepsOf (cut n ys bs e f base ps qs))
+        → outputsFrom n ys bs e f base reduced long xs v first us w c ≡ accepted (cut n ys bs e f base ps qs) os
     unfolding outputsFrom acceptedOutputs
-    filled-ward us l reduced q =
+    filled-ward long os l reduced q =
         same-after
         (ap (λ (m : ℕ). Done (record { «n_buses_reduced» = n; «n_buses_equivalent» = length bs - e; «reduction_ratio» = ratio (length bs - e) n; «rows_reduced» = m })) q ∙ ap Done (sym summary-cut))
         matrix-ward
-        (map-same (λ (i : ℕ). injectedP base (product n ys (take e bs) (length bs + 1) left i (length bs))) (injectionP (cut n ys bs e f base ps qs)) (drop f bs) active-ward)
-        (map-same (λ (i : ℕ). injectedQ base (product n ys (take e bs) (length bs + 1) left i (length bs))) (injectionQ (cut n ys bs e f base ps qs)) (drop f bs) reactive-ward)
+        (map-same (λ (i : ℕ). injectedP base (product n ys (take e bs) w us i c)) (injectionP (cut n ys bs e f base ps qs)) (drop f bs) active-ward)
+        (map-same (λ (i : ℕ). injectedQ base (product n ys (take e bs) w us i c)) (injectionQ (cut n ys bs e f base ps qs)) (drop f bs) reactive-ward)
         (ap zeros l)
-
-  -- ---- the solves in one elimination
-
-  module _ (ws : List Float) (set : (k j : ℕ) → k < e → j < length bs + 1 → entryAt (length bs + 1) ws k j ≡ workMatrix n ys bs base ps qs k j)
-      (m : ℕ) (answered : Counted) (left : List Float) (solved : Solved e (length bs + 1) m answered ws left) where
-    -- what they answer is what the steps of the study count and meet
-    told-solves : answered ≡ counted (reductions (stepsOf (cut n ys bs e f base ps qs))) (meets m (stepsOf (cut n ys bs e f base ps qs)))
-    told-solves =
-        let S = cut n ys bs e f base ps qs in
-        let solves : length bs + 1 - e ≡ length (retained S) + 1 = omega (arith, kept) in
-        let rows = pairs-of n ys bs e f base ps qs (omega arith) ws set in
-        let small = pivots-of n ys bs e f base ps qs (omega arith) ws set in
-        solved .answer
-        ∙ ap (λ (k : ℕ). counted (k * pairs operations e (entryAt (length bs + 1) ws)) (metBySolves m k (pairs operations e (entryAt (length bs + 1) ws)) (gaussJordan operations e (entryAt (length bs + 1) ws) .singular))) solves
-        ∙ ap (λ (k : ℕ). counted ((length (retained S) + 1) * k) (metBySolves m (length (retained S) + 1) k (gaussJordan operations e (entryAt (length bs + 1) ws) .singular))) rows
-        ∙ ap (λ (b : Bool). counted ((length (retained S) + 1) * rowsOfSolve S) (metBySolves m (length (retained S) + 1) (rowsOfSolve S) b)) small
-        ∙ ap (counted ((length (retained S) + 1) * rowsOfSolve S)) (sym (study-met S any m))
-        ∙ ap (λ (k : ℕ). counted k (meets m (stepsOf S))) (sym (study-count S))
-
-    pub solves-refused : (k : ℕ) → answered ≡ counts.Refused k → (o : Outputs)
-        → studied (cut n ys bs e f base ps qs) (Rows m) o 0 ≡ afterWard (Refused k) (o .y-ward) (o .p-ward) (o .q-ward) (zeros (length (o .work)))
-    solves-refused k q o = let (h, some) = counted-refuses _ _ k (sym q ∙ told-solves) in studied-refused (cut n ys bs e f base ps qs) m o k h some
-
-    pub solves-done : (reduced : ℕ) → answered ≡ counts.Reduced reduced → (o : Outputs) → length left ≡ length (o .work)
-        → outputsFrom n ys bs e f base reduced left ≡ studied (cut n ys bs e f base ps qs) (Rows m) o 0
-    solves-done reduced q o l =
-        let (h, rows) = counted-reduces _ _ reduced (sym q ∙ told-solves) in
-        filled-ward ws set left (solved .entries reduced q) (o .work) l reduced rows ∙ sym (studied-done (cut n ys bs e f base ps qs) m o h)
 
 -- ---- what the products leave, as the equivalent that the work slice holds
 
-pub matrix-of : (n : ℕ) (ys : List Float) (bs : List ℕ) (e w : ℕ) (ws : List Float) (es ks : List ℕ) → es ≡ take e bs → ks ≡ drop e bs
+pub matrix-of : (n : ℕ) (ys : List Float) (bs : List ℕ) (e w : ℕ) (ws : List Float) (first : ℕ) (es ks : List ℕ) → es ≡ take e bs → ks ≡ drop e bs
     → (yw : List Float) → length yw ≡ 2 * ((length bs - e) * (length bs - e))
-    → ((p q : ℕ) → p < length ks → q < length ks → entryAt (length ks) yw p q ≡ lessProduct n ys es ks w ws (getD ks p 0) q)
-    → yw ≡ grid (length bs - e) (length bs - e) (λ (p : ℕ). lessProduct n ys (take e bs) (drop e bs) w ws (getD (drop e bs) p 0))
-matrix-of n ys bs e w ws es ks E K yw long h =
+    → ((p q : ℕ) → p < length ks → q < length ks → entryAt (length ks) yw p q ≡ lessProduct n ys es ks w ws first (getD ks p 0) q)
+    → yw ≡ grid (length bs - e) (length bs - e) (λ (p : ℕ). lessProduct n ys (take e bs) (drop e bs) w ws first (getD (drop e bs) p 0))
+matrix-of n ys bs e w ws first es ks E K yw long h =
     let r = length bs - e in
-    let one = subst (λ (l : List ℕ). (p q : ℕ) → p < length ks → q < length ks → entryAt (length ks) yw p q ≡ lessProduct n ys l ks w ws (getD ks p 0) q) E h in
-    let two = subst (λ (l : List ℕ). (p q : ℕ) → p < length l → q < length l → entryAt (length l) yw p q ≡ lessProduct n ys (take e bs) l w ws (getD l p 0) q) K one in
-    grid-ext r r (λ (p : ℕ). lessProduct n ys (take e bs) (drop e bs) w ws (getD (drop e bs) p 0)) yw long
+    let one = subst (λ (l : List ℕ). (p q : ℕ) → p < length ks → q < length ks → entryAt (length ks) yw p q ≡ lessProduct n ys l ks w ws first (getD ks p 0) q) E h in
+    let two = subst (λ (l : List ℕ). (p q : ℕ) → p < length l → q < length l → entryAt (length l) yw p q ≡ lessProduct n ys (take e bs) l w ws first (getD l p 0) q) K one in
+    grid-ext r r (λ (p : ℕ). lessProduct n ys (take e bs) (drop e bs) w ws first (getD (drop e bs) p 0)) yw long
     λ (p q : ℕ) (x : p < r) (y : q < r).
     ap (λ (m : ℕ). entryAt m yw p q) (sym (length-drop e bs)) ∙ two p q (rw length-drop x) (rw length-drop y)
 

@@ -7,4 +7,5 @@ pub mod Calls
 pub mod Lengths
 pub mod Numbers
 pub mod Allowances
+pub mod FiniteAnswers
 pub mod Inner

@@ -2,17 +2,17 @@
 -- input.
 use Prim.Native.Nat.{ℕ}
 use mathlib.Core.Bool.{not, _||_}
-use mathlib.Core.List.{List}
+use mathlib.Core.List.{List, _++_}
 use lib.Dec.{T, eqb}
 use lib.ListN.{length}
 use lib.Ieee.{Float}
 use Rattle.refusals.specs.declared.Allowance.{Allowance}
-use Rattle.refusals.specs.Refusals.{noSuchBus, busTwice, refuse}
+use Rattle.refusals.specs.Refusals.{noSuchBus, busTwice, refuse, thenGiven}
 use Rattle.refusals.specs.Work.{thenWork}
 use Rattle.lists.specs.Buses.{repeats, within, rowsIn}
 use Rattle.ward_equivalent.specs.declared.lengths.Lengths.{Lengths}
 use Rattle.ward_equivalent.specs.Lengths.{lengthRefusal}
-use Rattle.ward_equivalent.specs.Ward.{Study, Outputs, listed, externals}
+use Rattle.ward_equivalent.specs.Ward.{Study, Outputs, givenOf, listed, externals}
 use Rattle.ward_equivalent.specs.Extended.{ExtendedStudy, ExtendedOutputs}
 use Rattle.ward_equivalent.specs.Steps.{stepsOf, stepsOfExtended}
 use Rattle.ward_equivalent.specs.Studied.{AfterWard, studied, AfterExtended, studiedExtended}
@@ -73,10 +73,15 @@ unfoldable pub busRefusal : List ℕ → List ℕ → ℕ
 unfolding repeats within
 busRefusal ns ks = refuse (not (within ns ks)) noSuchBus (refuse (repeats ns || repeats ks) busTwice 0)
 
--- 1, 2, 3, 7, 8 or 0
-unfoldable pub wardRefusal : NumberedStudy → Outputs → ℕ
+-- by lengths and lists: 1, 2, 3, 7, 8 or 0
+unfoldable pub wardShapeRefusal : NumberedStudy → Outputs → ℕ
 unfolding lengthRefusal listed busRefusal
-wardRefusal N o = lengthRefusal (lengthsOf N o) (busRefusal (N .numbers) (listed (N .study)))
+wardShapeRefusal N o = lengthRefusal (lengthsOf N o) (busRefusal (N .numbers) (listed (N .study)))
+
+-- and last 19: a number given is not finite, also where no bus is external
+unfoldable pub wardRefusal : NumberedStudy → Outputs → ℕ
+unfolding wardShapeRefusal thenGiven givenOf
+wardRefusal N o = thenGiven (wardShapeRefusal N o) (givenOf (N .study))
 
 abbrev pub AcceptedStudy : NumberedStudy → Allowance → Outputs → Type 0
 AcceptedStudy N a o = T (eqb (thenWork (wardRefusal N o) a (stepsOf (inRows N))) 0)
@@ -121,9 +126,13 @@ extendedLengthsOf X o =
       work = l .work;
     }
 
-unfoldable pub extendedRefusal : NumberedExtended → ExtendedOutputs → ℕ
+unfoldable pub extendedShapeRefusal : NumberedExtended → ExtendedOutputs → ℕ
 unfolding lengthRefusal listed busRefusal
-extendedRefusal X o = lengthRefusal (extendedLengthsOf X o) (busRefusal (X .study .numbers) (listed (X .study .study)))
+extendedShapeRefusal X o = lengthRefusal (extendedLengthsOf X o) (busRefusal (X .study .numbers) (listed (X .study .study)))
+
+unfoldable pub extendedRefusal : NumberedExtended → ExtendedOutputs → ℕ
+unfolding extendedShapeRefusal thenGiven givenOf
+extendedRefusal X o = thenGiven (extendedShapeRefusal X o) (givenOf (X .study .study) ++ X .v-ext)
 
 abbrev pub AcceptedExtended : NumberedExtended → Allowance → ExtendedOutputs → Type 0
 AcceptedExtended X a o = T (eqb (thenWork (extendedRefusal X o) a (stepsOfExtended (extendedInRows X))) 0)

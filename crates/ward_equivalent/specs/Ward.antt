@@ -2,7 +2,7 @@
 -- what a study answers and leaves, and Numbers.antt how numbers come in, and what is told from the input.
 use Prim.Native.Nat.{ℕ}
 use mathlib.Core.Bool.{cond}
-use mathlib.Core.List.{List, _++_}
+use mathlib.Core.List.{List, _∷_, _++_}
 use lib.Dec.{eqb}
 use lib.ListN.{length, getD}
 use lib.IntN.{pos}
@@ -24,6 +24,10 @@ pub record Study : Type 0 where
   pub base : Float
   pub p-ext : List Float
   pub q-ext : List Float
+
+-- all its numbers, those of buses in no list too
+unfoldable pub givenOf : Study → List Float
+givenOf S = S .given ++ (S .base ∷ (S .p-ext ++ S .q-ext))
 
 -- the slices that the answer goes to, and the work slice
 pub record Outputs : Type 0 where

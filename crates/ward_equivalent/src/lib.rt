@@ -3,6 +3,7 @@ use crate::answers::WardAnswer;
 use crate::lengths::Lengths;
 use crate::lengths::length_refusal;
 use refusals::Allowance;
+use refusals::GIVEN_NOT_FINITE;
 use refusals::LIMIT;
 use refusals::allowed_rows;
 ghost use mathlib.Core.Path.{_≡_};
@@ -12,18 +13,20 @@ ghost use Rattle.ward_equivalent.specs.Numbers as ward;
 
 pub mod answers;
 pub mod corrections;
+pub mod given;
 pub mod lengths;
 pub mod numbers;
 pub mod rows;
+pub mod sequence;
 pub mod study;
 
 // Ward's equivalent of the n buses of y for the internal and boundary buses, in this order: its matrix in y_ward, and what each boundary
 // bus gets, in MW and MVAr, in p_ward and q_ward. p_ext and q_ext are the injections at the external buses, in MW and MVAr, base_mva in
 // MVA; at unit voltage the current of P + jQ is P - jQ. numbers[i] is the number of the bus of row i; the three lists hold numbers.
 // Answers how many rows its r + 1 solves reduced, one for each of r retained buses and one for the currents: at most (r + 1) e (e - 1)
-// for e external buses. Refused: 1, 2, 3, 7, 8 from the input; 13 where a pivot is too small, 18 before the row reduction that would exceed
-// the allowance over the whole study, whichever the work meets first; then no output is written. The work slice has 2 e (e + r + 1)
-// numbers, all +0 after acceptance, 13 or 18.
+// for e external buses. Refused: 1, 2, 3, 7, 8, 19 from the input; 13 where a pivot is too small, 18 before the row reduction that would
+// exceed the allowance over the whole study, 20 where a number computed is not finite, whichever the work meets first; then no output is
+// written. The work slice has 2 e (e + r + 1) numbers, all +0 unless the input was refused.
 pub fn compute(
     n: usize,
     y: &[f64],
@@ -74,6 +77,9 @@ pub fn compute(
     if unplaced != 0 {
         return WardAnswer::Refused(unplaced);
     }
+    if !given::given_finite(y, base_mva, p_ext, q_ext) {
+        return WardAnswer::Refused(GIVEN_NOT_FINITE);
+    }
     let e = external.len();
     let f = e + internal.len();
     let k = f + boundary.len();
@@ -95,7 +101,8 @@ pub fn compute(
 }
 
 // The study with the voltages at the external buses, per unit: beside Ward's equivalent, each boundary bus's voltage correction, per unit,
-// and its reactive compensation, in MVAr. Refusals are those of `compute`; voltages that don't match the external list are 3.
+// and its reactive compensation, in MVAr. Refusals are those of `compute`; voltages that don't match the external list are 3, one that is
+// not finite is 19, and a correction with a number that is not finite is 20, met behind the study's own work.
 pub fn compute_extended(
     n: usize,
     y: &[f64],
@@ -152,6 +159,9 @@ pub fn compute_extended(
     let unplaced = numbers::placed(numbers, internal, external, boundary, &mut rows);
     if unplaced != 0 {
         return WardAnswer::Refused(unplaced);
+    }
+    if !given::extended_finite(y, base_mva, p_ext, q_ext, v_ext) {
+        return WardAnswer::Refused(GIVEN_NOT_FINITE);
     }
     let e = external.len();
     let f = e + internal.len();

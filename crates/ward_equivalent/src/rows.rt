@@ -105,6 +105,27 @@ pub fn fill(
     }
 }
 
+// The front of the work slice before the solve for the column of a bus: the external part, and the column beside it.
+pub fn fill_column(y: &[f64], n: usize, outer: &[usize], bus: usize, front: &mut [f64])
+    requires { ⌜
+        (spec.Listing n (now y) (now outer)) × (bus < n) × (length (now front) ≡ 2 * (length (now outer) * (length (now outer) + 1)))
+        ⌝ }
+    ensures { λ _. ⌜
+        ((k j : ℕ) → k < length (now (outer .entry)) → j < length (now (outer .entry)) + 1
+        → matrices.entryAt (length (now (outer .entry)) + 1) (now (front .exit)) k j
+        ≡ spec.workRow n (now (y .entry)) (now (outer .entry)) k
+        (matrices.entryAt n (now (y .entry)) (getD (now (outer .entry)) k 0) bus) j)
+        ⌝ }
+{
+    let e = outer.len();
+    let mut k = 0;
+    while k < e {
+        let c = at(y, n, outer[k], bus);
+        fill_at(y, n, outer, e, k, c, front);
+        k += 1;
+    }
+}
+
 // The row gains a factor times another.
 fn add_scaled(row: &mut [f64], w: usize, factor: Complex, other: &[f64])
     requires { ⌜ (length (now row) ≡ 2 * w) × (length (now other) ≡ 2 * w) ⌝ }
@@ -117,12 +138,12 @@ fn add_scaled(row: &mut [f64], w: usize, factor: Complex, other: &[f64])
     while j < w {
         let x = get(row, j);
         let o = get(other, j);
-        put(row, j, complex::cadd(x, complex::cmul(factor, o)));
+        put(row, j, complex::raw::cadd(x, complex::raw::cmul(factor, o)));
         j += 1;
     }
 }
 
-// One term: the entry between a bus and the external bus k, times row k of the work slice behind the system's columns.
+// One term: the entry between a bus and the external bus k, times row k of the work slice from column `first` on.
 fn add_term(
     y: &[f64],
     n: usize,
@@ -131,6 +152,7 @@ fn add_term(
     k: usize,
     work: &[f64],
     w: usize,
+    first: usize,
     r: usize,
     to: &mut [f64],
 )
@@ -139,22 +161,22 @@ fn add_term(
         × (bus < n)
         × (k < length (now outer))
         × (spec.ExternalRows (now outer) w (now work))
-        × (length (now outer) + r ≤ w)
+        × (first + r ≤ w)
         × (length (now to) ≡ 2 * r)
         ⌝ }
     ensures { λ _. ⌜
         ((q : ℕ) → q < r → entry (now (to .exit)) q
         ≡ arithmetic.cadd (entry (now (to .entry)) q)
         (arithmetic.cmul (matrices.entryAt n (now (y .entry)) bus (getD (now (outer .entry)) k 0))
-        (matrices.entryAt w (now (work .entry)) k (length (now (outer .entry)) + q))))
+        (matrices.entryAt w (now (work .entry)) k (first + q))))
         ⌝ }
 {
     let e = outer.len();
-    let Span { start, end } = span_of(e, w, e, r, k);
+    let Span { start, end } = span_of(e, w, first, r, k);
     add_scaled(to, r, at(y, n, bus, outer[k]), &work[start..end]);
 }
 
-// The row of a bus in Y_re times the columns behind the system's, added to what the row holds.
+// The row of a bus in Y_re times the r columns from `first` on, added to what the row holds.
 fn add_products(
     y: &[f64],
     n: usize,
@@ -162,6 +184,7 @@ fn add_products(
     outer: &[usize],
     work: &[f64],
     w: usize,
+    first: usize,
     r: usize,
     to: &mut [f64],
 )
@@ -169,18 +192,18 @@ fn add_products(
         (spec.Listing n (now y) (now outer))
         × (bus < n)
         × (spec.ExternalRows (now outer) w (now work))
-        × (length (now outer) + r ≤ w)
+        × (first + r ≤ w)
         × (length (now to) ≡ 2 * r)
-        × ((q : ℕ) → q < r → entry (now to) q ≡ spec.productTo n (now y) (now outer) w (now work) bus (length (now outer) + q) 0)
+        × ((q : ℕ) → q < r → entry (now to) q ≡ spec.productTo n (now y) (now outer) w (now work) bus (first + q) 0)
         ⌝ }
     ensures { λ _. ⌜
         ((q : ℕ) → q < r → entry (now (to .exit)) q
-        ≡ spec.product n (now (y .entry)) (now (outer .entry)) w (now (work .entry)) bus (length (now (outer .entry)) + q))
+        ≡ spec.product n (now (y .entry)) (now (outer .entry)) w (now (work .entry)) bus (first + q))
         ⌝ }
 {
     let mut k = 0;
     while k < outer.len() {
-        add_term(y, n, bus, outer, k, work, w, r, to);
+        add_term(y, n, bus, outer, k, work, w, first, r, to);
         k += 1;
     }
 }
@@ -197,7 +220,7 @@ fn take_from(y: &[f64], n: usize, bus: usize, kept: &[usize], row: &mut [f64])
     while j < kept.len() {
         let x = get(row, j);
         let g = at(y, n, bus, kept[j]);
-        put(row, j, complex::csub(g, x));
+        put(row, j, complex::raw::csub(g, x));
         j += 1;
     }
 }
@@ -211,6 +234,7 @@ fn reduce_row(
     kept: &[usize],
     work: &[f64],
     w: usize,
+    first: usize,
     to: &mut [f64],
 )
     requires { ⌜
@@ -218,16 +242,16 @@ fn reduce_row(
         × (spec.Listing n (now y) (now kept))
         × (bus < n)
         × (spec.ExternalRows (now outer) w (now work))
-        × (length (now outer) + length (now kept) ≤ w)
+        × (first + length (now kept) ≤ w)
         × (length (now to) ≡ 2 * length (now kept))
         ⌝ }
     ensures { λ _. ⌜
         ((q : ℕ) → q < length (now (kept .entry)) → entry (now (to .exit)) q
-        ≡ spec.lessProduct n (now (y .entry)) (now (outer .entry)) (now (kept .entry)) w (now (work .entry)) bus q)
+        ≡ spec.lessProduct n (now (y .entry)) (now (outer .entry)) (now (kept .entry)) w (now (work .entry)) first bus q)
         ⌝ }
 {
     clear(to);
-    add_products(y, n, bus, outer, work, w, kept.len(), to);
+    add_products(y, n, bus, outer, work, w, first, kept.len(), to);
     take_from(y, n, bus, kept, to);
 }
 
@@ -239,6 +263,7 @@ fn reduce_at(
     kept: &[usize],
     work: &[f64],
     w: usize,
+    first: usize,
     p: usize,
     to: &mut [f64],
 )
@@ -246,22 +271,32 @@ fn reduce_at(
         (spec.Listing n (now y) (now outer))
         × (spec.Listing n (now y) (now kept))
         × (spec.ExternalRows (now outer) w (now work))
-        × (length (now outer) + length (now kept) ≤ w)
+        × (first + length (now kept) ≤ w)
         × (p < length (now kept))
         × (length (now to) ≡ 2 * (length (now kept) * length (now kept)))
         ⌝ }
     ensures { λ _. ⌜
         ((r q : ℕ) → q < length (now (kept .entry)) → matrices.entryAt (length (now (kept .entry))) (now (to .exit)) r q
-        ≡ withRow p (spec.lessProduct n (now (y .entry)) (now (outer .entry)) (now (kept .entry)) w (now (work .entry))
+        ≡ withRow p (spec.lessProduct n (now (y .entry)) (now (outer .entry)) (now (kept .entry)) w (now (work .entry)) first
         (getD (now (kept .entry)) p 0)) (matrices.entryAt (length (now (kept .entry))) (now (to .entry))) r q)
         ⌝ }
 {
     let r = kept.len();
     let Span { start, end } = span_of(r, r, 0, r, p);
-    reduce_row(y, n, kept[p], outer, kept, work, w, &mut to[start..end]);
+    reduce_row(
+        y,
+        n,
+        kept[p],
+        outer,
+        kept,
+        work,
+        w,
+        first,
+        &mut to[start..end],
+    );
 }
 
-// The reduced matrix: Y_rr - Y_re X, where X stands in the work slice behind the system's columns.
+// The reduced matrix: Y_rr - Y_re X, where X stands in the work slice's columns from `first` on.
 pub fn reduced(
     y: &[f64],
     n: usize,
@@ -269,25 +304,26 @@ pub fn reduced(
     kept: &[usize],
     work: &[f64],
     w: usize,
+    first: usize,
     to: &mut [f64],
 )
     requires { ⌜
         (spec.Listing n (now y) (now outer))
         × (spec.Listing n (now y) (now kept))
         × (spec.ExternalRows (now outer) w (now work))
-        × (length (now outer) + length (now kept) ≤ w)
+        × (first + length (now kept) ≤ w)
         × (length (now to) ≡ 2 * (length (now kept) * length (now kept)))
         ⌝ }
     ensures { λ _. ⌜
         ((p q : ℕ) → p < length (now (kept .entry)) → q < length (now (kept .entry)) → matrices.entryAt (length (now (kept .entry)))
         (now (to .exit)) p q
-        ≡ spec.lessProduct n (now (y .entry)) (now (outer .entry)) (now (kept .entry)) w (now (work .entry)) (getD (now (kept .entry)) p 0)
-        q)
+        ≡ spec.lessProduct n (now (y .entry)) (now (outer .entry)) (now (kept .entry)) w (now (work .entry)) first
+        (getD (now (kept .entry)) p 0) q)
         ⌝ }
 {
     let mut p = 0;
     while p < kept.len() {
-        reduce_at(y, n, outer, kept, work, w, p, to);
+        reduce_at(y, n, outer, kept, work, w, first, p, to);
         p += 1;
     }
 }
@@ -322,7 +358,7 @@ pub fn submatrix(y: &[f64], n: usize, kept: &[usize], to: &mut [f64])
 }
 
 // The row of a bus in Y_be times column c of the work slice.
-fn row_times(
+pub fn row_times(
     y: &[f64],
     n: usize,
     bus: usize,
@@ -339,7 +375,7 @@ fn row_times(
     while k < outer.len() {
         let g = at(y, n, bus, outer[k]);
         let x = at(work, w, k, c);
-        sum = complex::cadd(sum, complex::cmul(g, x));
+        sum = complex::raw::cadd(sum, complex::raw::cmul(g, x));
         k += 1;
     }
     sum

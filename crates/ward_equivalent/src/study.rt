@@ -3,18 +3,19 @@
 use crate::answers::WardAnswer;
 use crate::answers::WardSummary;
 use crate::rows;
+use crate::sequence;
+use crate::sequence::Decided;
 use complex::slices::clear;
-use refusals::BEYOND_ALLOWANCE;
-use refusals::Counted;
-use refusals::SINGULAR;
-use solver::elimination::Eliminated;
-use solver::elimination::gauss_jordan;
+use refusals::COMPUTED_NOT_FINITE;
 ghost use mathlib.Core.Path.{_≡_};
-ghost use Prim.Native.Nat.{_+_, _*_, _<_, _≤_};
-ghost use lib.ListN.{length};
+ghost use Prim.Native.Nat.{_<_, _≤_};
+ghost use lib.ListN.{length, take, drop};
+ghost use Rattle.complex.specs.Matrices.{zeros};
 ghost use Rattle.refusals.specs.Refusals.{limit};
+ghost use Rattle.refusals.specs.Work.{meets};
 ghost use Rattle.refusals.specs.declared.Allowance.the-variants.{Rows};
 ghost use Rattle.ward_equivalent.specs.Ward.{ratio};
+ghost use Rattle.ward_equivalent.specs.Steps.{stepsOf};
 ghost use Rattle.ward_equivalent.specs.Studied as ward;
 ghost use Rattle.ward_equivalent.specs.Calls as spec;
 ghost use Rattle.ward_equivalent.specs.Inner.Listed as listed;
@@ -62,7 +63,18 @@ fn ratio(r: usize, n: usize) -> f64
     1.0 - (r as f64) / (n as f64)
 }
 
-// What the elimination left in the work slice becomes the equivalent, and the work slice +0.
+// Where the work slice holds the solutions: X from number `start` on, in rows of v entries from column `first` on, and the currents' in
+// column c of the rows of w entries before number `end`.
+pub struct Held {
+    pub start: usize,
+    pub v: usize,
+    pub first: usize,
+    pub end: usize,
+    pub w: usize,
+    pub c: usize,
+}
+
+// The solutions in the work slice become the equivalent, and the work slice +0.
 fn filled(
     n: usize,
     y: &[f64],
@@ -71,62 +83,59 @@ fn filled(
     f: usize,
     base: f64,
     reduced: usize,
+    held: Held,
     to: &mut [f64],
     active: &mut [f64],
     reactive: &mut [f64],
     work: &mut [f64],
 ) -> WardAnswer
-    requires { ⌜ listed.StudySlices n (now y) (now buses) e f (spec.outputsOf (now to) (now active) (now reactive) (now work)) ⌝ }
+    requires { ⌜
+        (listed.StudySlices n (now y) (now buses) e f (spec.outputsOf (now to) (now active) (now reactive) (now work)))
+        × (listed.HeldIn (length (now buses)) e held (length (now work)))
+        ⌝ }
     ensures { λ r. ⌜
         spec.afterWard r (now (to .exit)) (now (active .exit)) (now (reactive .exit)) (now (work .exit))
-        ≡ listed.outputsFrom n (now (y .entry)) (now (buses .entry)) e f base reduced (now (work .entry))
+        ≡ listed.outputsFrom n (now (y .entry)) (now (buses .entry)) e f base reduced (length (now (work .entry)))
+        (drop (held .start) (now (work .entry))) (held .v) (held .first) (take (held .end) (now (work .entry))) (held .w) (held .c)
         ⌝ }
 {
     let k = buses.len();
-    let w = k + 1;
-    rows::reduced(y, n, &buses[0..e], &buses[e..k], work, w, to);
+    let z = work.len();
+    let start = held.start;
+    let end = held.end;
+    rows::reduced(
+        y,
+        n,
+        &buses[0..e],
+        &buses[e..k],
+        &work[start..z],
+        held.v,
+        held.first,
+        to,
+    );
     rows::injections(
         y,
         n,
         &buses[0..e],
         &buses[f..k],
         base,
-        work,
-        w,
-        k,
+        &work[0..end],
+        held.w,
+        held.c,
         active,
         reactive,
     );
     clear(work);
+    let reduction_ratio = ratio(k - e, n);
     WardAnswer::Done(WardSummary {
         n_buses_reduced: n,
         n_buses_equivalent: k - e,
-        reduction_ratio: ratio(k - e, n),
+        reduction_ratio,
         rows_reduced: reduced,
     })
 }
 
-// The solves of a study, one for each right side, in one elimination of e rows of w entries: how many rows they reduce one after the other
-// with so many allowed to all of them, or 13 or 18. All have one system, so that each reduces as many rows as the elimination.
-fn solved(work: &mut [f64], e: usize, w: usize, allowed: usize) -> Counted
-    requires { ⌜ (e < w) × (w ≤ limit + 1) × (length (now work) ≡ 2 * (e * w)) ⌝ }
-    ensures { λ r. ⌜ listed.Solved e w allowed r (now (work .entry)) (now (work .exit)) ⌝ }
-{
-    match gauss_jordan(work, e, w, allowed) {
-        Eliminated::Done(left) => {
-            let rows = (w - e) * (allowed - left);
-            if rows > allowed {
-                return Counted::Refused(BEYOND_ALLOWANCE);
-            }
-            Counted::Reduced(rows)
-        }
-        Eliminated::Small => Counted::Refused(SINGULAR),
-        Eliminated::Exceeded => Counted::Refused(BEYOND_ALLOWANCE),
-    }
-}
-
-// The external buses, the first e of the list, are eliminated for all retained columns and the currents at once.
-// Outputs are written only once 13 and 18 are excluded.
+// The external buses, the first e of the list, are eliminated. Outputs are written only once the work is known to be carried out.
 fn eliminated(
     n: usize,
     y: &[f64],
@@ -152,26 +161,95 @@ fn eliminated(
         (spec.outputsOf (now (to .entry)) (now (active .entry)) (now (reactive .entry)) (now (work .entry))) 0
         ⌝ }
 {
-    let w = buses.len() + 1;
-    rows::fill(y, n, buses, e, base, p, q, work);
-    match solved(work, e, w, allowed) {
-        Counted::Reduced(reduced) => filled(
-            n,
-            y,
-            buses,
-            e,
-            f,
-            base,
-            reduced,
-            to,
-            active,
-            reactive,
-            work,
-        ),
-        Counted::Refused(k) => {
-            clear(work);
-            WardAnswer::Refused(k)
+    let k = buses.len();
+    let a = 2 * (e * (e + 1));
+    let z = work.len();
+    match sequence::decide(n, y, buses, e, f, base, p, q, allowed, work) {
+        Decided::Together(reduced) => {
+            let held = Held {
+                start: 0,
+                v: k + 1,
+                first: e,
+                end: z,
+                w: k + 1,
+                c: k,
+            };
+            filled(
+                n,
+                y,
+                buses,
+                e,
+                f,
+                base,
+                reduced,
+                held,
+                to,
+                active,
+                reactive,
+                work,
+            )
         }
+        Decided::Apart(reduced) => {
+            let held = Held {
+                start: a,
+                v: k - e,
+                first: 0,
+                end: a,
+                w: e + 1,
+                c: e,
+            };
+            filled(
+                n,
+                y,
+                buses,
+                e,
+                f,
+                base,
+                reduced,
+                held,
+                to,
+                active,
+                reactive,
+                work,
+            )
+        }
+        Decided::Refused(number) => {
+            clear(work);
+            WardAnswer::Refused(number)
+        }
+    }
+}
+
+// A study whose corrections are not finite: its own refusal, else 20. No output is written.
+pub fn uncorrected(
+    n: usize,
+    y: &[f64],
+    buses: &[usize],
+    e: usize,
+    f: usize,
+    base: f64,
+    p: &[f64],
+    q: &[f64],
+    allowed: usize,
+    work: &mut [f64],
+) -> WardAnswer
+    requires { ⌜ listed.StudyGiven n (now y) (now buses) e f (now p) (now q) (now work) ⌝ }
+    ensures { λ r. ⌜
+        (r ≡ listed.uncorrectedAnswer
+        (meets allowed (stepsOf (listed.cut n (now (y .entry)) (now (buses .entry)) e f base (now (p .entry)) (now (q .entry))))))
+        × (now (work .exit) ≡ zeros (length (now (work .entry))))
+        ⌝ }
+{
+    if e == 0 {
+        clear(work);
+        return WardAnswer::Refused(COMPUTED_NOT_FINITE);
+    }
+    let decided = sequence::decide(n, y, buses, e, f, base, p, q, allowed, work);
+    clear(work);
+    match decided {
+        Decided::Together(_) => WardAnswer::Refused(COMPUTED_NOT_FINITE),
+        Decided::Apart(_) => WardAnswer::Refused(COMPUTED_NOT_FINITE),
+        Decided::Refused(number) => WardAnswer::Refused(number),
     }
 }
 

@@ -1,12 +1,13 @@
 // build_b_bus(n, branch_from, branch_to, branch_x, b)
 use super::{ASKED, LIMIT};
-use crate::ask::{ask, Asked, Manner};
+use crate::ask::{ask, watched, Asked, Manner};
 use crate::call::{dirty, Call, Function};
-use crate::expected::{self, faults, Expected};
+use crate::expected::{self, faults, numbers_in, then_given, Expected};
 use crate::numbers::{kind, real, Kind};
 use crate::source::Source;
 use crate::words::{bytes_of, bytes_of_reals, reals_of, wholes_of, words_of_reals, words_of_wholes};
 use reference::reduction;
+use reference::watched as copy;
 
 const FROM: usize = 0;
 const TO: usize = 1;
@@ -39,11 +40,15 @@ pub fn expected(call: &Call) -> Expected {
         (3, unequal),
         (6, from.iter().any(outside) || to.iter().any(outside)),
     ]);
+    let refusals = then_given(refusals, numbers_in(call, &[X]));
     let asked = if n > ASKED {
         Asked::NotAsked
     } else {
         ask(|| Ok(reduction::build_b_bus(n, &from, &to, &x)))
     };
+    let (asked, _) = watched(&refusals, asked, || {
+        Ok(copy::build_b_bus(n, &from, &to, &copy::numbers(&x)))
+    });
     let manner = asked.manner();
     let e = expected::expected(call, &refusals, asked, None, |e, b| {
         e.words(B, words_of_reals(&b.concat()))

@@ -1,13 +1,15 @@
 // complex_matrix_inverse(n, mat, inverse, work)
 use super::{ASKED, LIMIT};
-use crate::ask::{ask, Asked};
+use crate::ask::{ask, watched, Asked};
 use crate::call::{dirty, Call, Function};
+use crate::eliminated;
 use crate::elimination::{identity, Solver};
-use crate::expected::{self, faults, Expected};
+use crate::expected::{faults, numbers_in, then_given, Expected};
 use crate::matrices::matrix;
 use crate::source::Source;
 use crate::words::{bytes_of_reals, rows_of, words_of_rows};
 use reference::reduction::reach;
+use reference::watched as copy;
 
 const MAT: usize = 0;
 const INVERSE: usize = 1;
@@ -32,11 +34,15 @@ pub fn expected(call: &Call) -> Expected {
     } else {
         ask(|| reach::complex_matrix_inverse(&rows_of(&call.slices[MAT], n, n)))
     };
+    let refusals = then_given(refusals, numbers_in(call, &[MAT]));
+    let (asked, _) = watched(&refusals, asked, || {
+        copy::reach::complex_matrix_inverse(&copy::rows(&rows_of(&call.slices[MAT], n, n)))
+    });
     let model = || {
         let mat = rows_of(&call.slices[MAT], n, n);
         Some(move |solver: &mut Solver| solver.solutions(&mat, &identity(n)))
     };
-    expected::by_pivots(call, &refusals, asked, model, WORK, |e, z| {
+    eliminated::by_pivots(call, &refusals, asked, model, WORK, |e, z| {
         e.words(INVERSE, words_of_rows(&z))
     })
 }

@@ -1,8 +1,8 @@
 // eliminate_bus(rec, y, bus)
-use super::reducer;
-use crate::ask::{ask, Asked};
+use super::reducer::{self, Model};
+use crate::ask::{ask, watched, Asked};
 use crate::call::{Call, Function};
-use crate::expected::{self, faults, Expected};
+use crate::expected::{self, Expected};
 use crate::source::Source;
 
 const REC: usize = 0;
@@ -18,17 +18,24 @@ pub fn of(rec: Vec<u8>, y: Vec<u8>, bus: u32) -> Call {
 }
 
 pub fn expected(call: &Call) -> Expected {
-    let refusals = faults(&reducer::refusals(call, false, |made| {
-        call.holds(Y, reducer::square(made))
-    }));
-    let asked = match reducer::reducer(call) {
-        None => Asked::NotAsked,
-        Some((before, mut r)) => ask(|| r.eliminate_bus(before.row(call.wholes[0] as u32)).map(|_| (before, r))),
+    let refusals = reducer::refused(call, false, |made| call.holds(Y, reducer::square(made)));
+    let Some((before, mut r)) = reducer::reducer(call) else {
+        return expected::expected(call, &refusals, Asked::<()>::NotAsked, None, |e, _| e);
     };
-    expected::expected(call, &refusals, asked, None, |e, (before, r)| {
-        let (rec, y) = reducer::left(&before, call.count(Y), &r);
-        e.bytes(REC, rec).words(Y, y)
-    })
+    let row = before.row(call.wholes[0] as u32);
+    let (mut copy, mut model) = (reducer::watched_copy(&r), Model::of(&r));
+    let asked = ask(|| r.eliminate_bus(row).map(|_| (before, r)));
+    let (asked, _) = watched(&refusals, asked, || copy.eliminate_bus(row));
+    expected::by_work(
+        call,
+        &refusals,
+        asked,
+        || model.remove(row),
+        |e, (before, r)| {
+            let (rec, y) = reducer::left(&before, call.count(Y), &r);
+            e.bytes(REC, rec).words(Y, y)
+        },
+    )
 }
 
 pub fn random(s: &mut Source, made: usize) -> Call {

@@ -1,11 +1,14 @@
-// eliminate_buses(rec, y, buses, removed): removed is written on 11 and 12 too
-use super::{reducer, LIMIT};
+// eliminate_buses(rec, y, buses, removed): removed is written on 11, 12 and 20 too
+use super::reducer::{self, Model, Record};
+use super::LIMIT;
 use crate::ask::{ask, Asked, Kind};
 use crate::call::{dirty, Call, Function};
-use crate::expected::{self, faults, Expected};
+use crate::expected::{self, Expected};
 use crate::source::Source;
 use crate::words::{buses_of, bytes_of_buses};
+use reference::error::OxiGridError;
 use reference::reduction::{reach, KronReducer};
+use reference::watched as copy;
 
 const REC: usize = 0;
 const Y: usize = 1;
@@ -21,39 +24,64 @@ pub fn of(rec: Vec<u8>, y: Vec<u8>, buses: &[u32]) -> Call {
     }
 }
 
-// the removals of rows before the first refusal, and its number
-fn removed(mut r: KronReducer, rows: &[usize]) -> (u32, KronReducer) {
-    let number = match ask(|| r.eliminate_buses(rows)) {
+// the number of the first refusal
+fn number(removals: impl FnOnce() -> Result<(), OxiGridError>) -> u32 {
+    match ask(removals) {
         Asked::Accepts(()) => 0,
         Asked::Errs(Kind::InvalidParameter) => 11,
         Asked::Errs(Kind::LinearAlgebra) => 12,
+        Asked::NotFinite => 20,
         _ => u32::MAX,
-    };
-    (number, r)
+    }
+}
+
+struct Removed {
+    number: u32,
+    count: usize,
+    before: Record,
+    // by the Rust
+    left: KronReducer,
+    // the watched copy, or the model, ends otherwise
+    unlike: bool,
+}
+
+// The Rust goes on where its watched copy ends, so it is asked for the removals before that alone.
+fn removed(before: Record, mut r: KronReducer, rows: &[usize]) -> Removed {
+    let (count, end) = Model::of(&r).remove_all(rows);
+    let by_model = end.map_or_else(|stop| stop.number(Function::EliminateBuses), |()| 0);
+    let mut watched = reducer::watched_copy(&r);
+    let (by_copy, _) = copy::watching(|| number(|| watched.eliminate_buses(rows)));
+    let until = if by_model == 20 { count } else { rows.len() };
+    let own = number(|| r.eliminate_buses(&rows[..until]));
+    let expected_own = if by_model == 20 { 0 } else { by_model };
+    let counts = [reach::active(&r).len(), copy::reach::active(&watched).len()].map(|left| before.n_buses - left);
+    Removed {
+        number: by_model,
+        count,
+        unlike: by_copy != by_model || own != expected_own || counts != [count, count],
+        before,
+        left: r,
+    }
 }
 
 pub fn expected(call: &Call) -> Expected {
     let long = call.count(BUSES) > LIMIT;
-    let refusals = faults(&reducer::refusals(call, long, |made| {
-        call.holds(Y, reducer::square(made))
-    }));
+    let refusals = reducer::refused(call, long, |made| call.holds(Y, reducer::square(made)));
     let asked = match reducer::reducer(call) {
-        None => Asked::NotAsked,
-        Some((before, r)) => {
+        Some((before, r)) if refusals.is_empty() => {
             let buses = buses_of(&call.slices[BUSES]);
             let rows: Vec<usize> = buses.into_iter().map(|bus| before.row(bus)).collect();
-            let (number, r) = removed(r, &rows);
-            Asked::Accepts((before, number, r))
+            Asked::Accepts(removed(before, r, &rows))
         }
+        _ => Asked::NotAsked,
     };
-    expected::expected(call, &refusals, asked, None, |mut e, (before, number, r)| {
-        let count = before.n_buses - reach::active(&r).len();
-        e.number = number;
-        e = e.words(REMOVED, vec![count as u64]);
-        if number == u32::MAX {
-            e.failing("no fault, and the Rust panics")
-        } else if count > 0 {
-            let (rec, y) = reducer::left(&before, call.count(Y), &r);
+    expected::expected(call, &refusals, asked, None, |mut e, removed| {
+        e.number = removed.number;
+        e = e.words(REMOVED, vec![removed.count as u64]);
+        if removed.unlike {
+            e.failing("the Rust, its watched copy and the model do not end alike")
+        } else if removed.count > 0 {
+            let (rec, y) = reducer::left(&removed.before, call.count(Y), &removed.left);
             e.bytes(REC, rec).words(Y, y)
         } else {
             e

@@ -4,7 +4,7 @@ use super::{ASKED, LIMIT};
 use crate::ask::{ask, Asked};
 use crate::buses::{numbers, repeats};
 use crate::call::{dirty_bytes, Call, Function};
-use crate::expected::{self, faults, Expected};
+use crate::expected::{self, faults, numbers_in, then_given, Expected};
 use crate::matrices::matrix;
 use crate::source::Source;
 use crate::words::{buses_of, bytes_of_buses, bytes_of_reals, rows_of};
@@ -32,6 +32,7 @@ pub fn expected(call: &Call) -> Expected {
         (2, !lengths),
         (8, repeats(&numbers)),
     ]);
+    let refusals = then_given(refusals, numbers_in(call, &[Y]));
     let asked = if n > ASKED {
         Asked::NotAsked
     } else {

@@ -1,12 +1,14 @@
 // lodf_matrix(n, ptdf, branch_from, branch_to, lodf)
 use super::{ASKED, LIMIT};
-use crate::ask::{ask, Asked, Manner};
+use crate::ask::{ask, watched, Asked, Manner};
 use crate::call::{dirty, Call, Function};
-use crate::expected::{self, faults, Expected};
+use crate::expected::{self, faults, numbers_in, then_given, Expected};
+use crate::finite::{met, Stop};
 use crate::numbers::{kind, reals, Kind};
 use crate::source::Source;
 use crate::words::{bytes_of, bytes_of_reals, real_rows_of, wholes_of, words_of_reals, words_of_wholes};
 use reference::reduction;
+use reference::watched as copy;
 
 const PTDF: usize = 0;
 const FROM: usize = 1;
@@ -24,6 +26,20 @@ pub fn of(n: usize, ptdf: &[f64], from: &[usize], to: &[usize]) -> Call {
     }
 }
 
+// of every two branches; a lone one computes nothing
+fn model(t: &[Vec<f64>], from: &[usize], to: &[usize]) -> Result<(), Stop> {
+    for l in 0..t.len() {
+        for k in (0..t.len()).filter(|&k| k != l) {
+            let across = |branch: usize| met(t[branch][from[k]] - t[branch][to[k]]);
+            let rest = met(1.0 - across(k)?)?;
+            if !(rest.abs() < 1e-12) {
+                met(across(l)? / rest)?;
+            }
+        }
+    }
+    Ok(())
+}
+
 pub fn expected(call: &Call) -> Expected {
     let n = call.size();
     let m = call.count(FROM);
@@ -37,22 +53,27 @@ pub fn expected(call: &Call) -> Expected {
         (3, call.count(TO) != m),
         (6, missing),
     ]);
+    let refusals = then_given(refusals, numbers_in(call, &[PTDF]));
     let too_large = n > ASKED || m > ASKED;
+    let rows = if too_large { 0 } else { m };
+    let t = real_rows_of(&call.slices[PTDF], rows, n);
     let asked = if too_large {
         Asked::NotAsked
     } else {
-        ask(|| {
-            Ok(reduction::lodf_matrix(
-                &real_rows_of(&call.slices[PTDF], m, n),
-                &from,
-                &to,
-            ))
-        })
+        ask(|| Ok(reduction::lodf_matrix(&t, &from, &to)))
     };
-    let manner = asked.manner();
-    let e = expected::expected(call, &refusals, asked, None, |e, l| {
-        e.words(LODF, words_of_reals(&l.concat()))
+    let (asked, _) = watched(&refusals, asked, || {
+        let rows: Vec<_> = t.iter().map(|row| copy::numbers(row)).collect();
+        Ok(copy::lodf_matrix(&rows, &from, &to))
     });
+    let manner = asked.manner();
+    let e = expected::by_work(
+        call,
+        &refusals,
+        asked,
+        || model(&t, &from, &to),
+        |e, l| e.words(LODF, words_of_reals(&l.concat())),
+    );
     // the ends of a branch are looked up only where there is another branch
     if refusals == [6] && (manner == Manner::Panics) != (m > 1) {
         return e.failing("a missing branch end, and the Rust does not do what is listed");

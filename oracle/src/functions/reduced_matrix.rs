@@ -2,7 +2,7 @@
 use super::reducer;
 use crate::ask::{ask, Asked};
 use crate::call::{dirty, Call, Function};
-use crate::expected::{self, faults, Expected};
+use crate::expected::{self, Expected};
 use crate::source::Source;
 use crate::words::{padded, words_of_rows};
 
@@ -20,9 +20,9 @@ pub fn of(rec: Vec<u8>, y: Vec<u8>) -> Call {
 }
 
 pub fn expected(call: &Call) -> Expected {
-    let refusals = faults(&reducer::refusals(call, false, |made| {
+    let refusals = reducer::refused(call, false, |made| {
         call.holds(Y, reducer::square(made)) && call.holds(OUT, reducer::square(made))
-    }));
+    });
     let asked = match reducer::reducer(call) {
         None => Asked::NotAsked,
         Some((_, r)) => ask(|| Ok(r.reduced_matrix())),

@@ -3,10 +3,15 @@
 use super::LIMIT;
 use crate::buses::{self, numbers, repeats};
 use crate::call::Call;
+use crate::expected::{faults, then_given};
+use crate::finite::{cdiv, cmul, csub, sqmag, Stop, TINY};
 use crate::matrices::matrix;
 use crate::source::Source;
-use crate::words::{buses_of, bytes_of, bytes_of_buses, bytes_of_reals, padded, rows_of, wholes_of, words_of_rows};
+use crate::words::{
+    buses_of, bytes_of, bytes_of_buses, bytes_of_reals, padded, reals_of, rows_of, wholes_of, words_of_rows, Rows,
+};
 use reference::reduction::{reach, KronReducer};
+use reference::watched as copy;
 
 // where the rows and the numbers stand, and the bytes in all
 pub const ROWS_AT: usize = 16;
@@ -99,12 +104,71 @@ pub fn refusals(call: &Call, long_list: bool, fits: impl Fn(u128) -> bool) -> Ve
     }
 }
 
+// the same, and 19 of the matrix at slice 1, of which only the present rows are given
+pub fn refused(call: &Call, long_list: bool, fits: impl Fn(u128) -> bool) -> Vec<u32> {
+    let refused = faults(&refusals(call, long_list, fits));
+    match record(call, 0) {
+        Some(r) if refused.is_empty() => {
+            let present = reals_of(&call.slices[1]).into_iter().take(2 * r.n_buses * r.n_buses);
+            then_given(refused, present)
+        }
+        _ => refused,
+    }
+}
+
 // The record, and the Rust's reducer with its rows and the matrix of slice 1; none where it has no counterpart there.
 pub fn reducer(call: &Call) -> Option<(Record, KronReducer)> {
     let record = record(call, 0).filter(Record::sound)?;
     let k = record.n_buses;
     let r = reach::reducer(record.active().to_vec(), rows_of(&call.slices[1], k, k));
     Some((record, r))
+}
+
+// the watched copy of a reducer
+pub fn watched_copy(r: &KronReducer) -> copy::KronReducer {
+    copy::reach::reducer(reach::active(r).to_vec(), copy::rows(&r.y_full))
+}
+
+// A model of a reducer: the rows that are left, and the present matrix.
+pub struct Model {
+    active: Vec<usize>,
+    y: Rows,
+}
+
+impl Model {
+    pub fn of(r: &KronReducer) -> Self {
+        Model {
+            active: reach::active(r).to_vec(),
+            y: r.y_full.clone(),
+        }
+    }
+
+    pub fn remove(&mut self, row: usize) -> Result<(), Stop> {
+        let place = self.active.iter().position(|&active| active == row);
+        let k = place.ok_or(Stop::Absent)?;
+        let own = self.y[k][k];
+        if sqmag(own)? < TINY {
+            return Err(Stop::Small);
+        }
+        let kept: Vec<usize> = (0..self.y.len()).filter(|&i| i != k).collect();
+        let y = &self.y;
+        let entry = |i: usize, j: usize| csub(y[i][j], cdiv(cmul(y[i][k], y[k][j])?, own)?);
+        let new_row = |&i: &usize| kept.iter().map(|&j| entry(i, j)).collect::<Result<_, _>>();
+        let new: Rows = kept.iter().map(new_row).collect::<Result<_, _>>()?;
+        self.y = new;
+        self.active.remove(k);
+        Ok(())
+    }
+
+    // of these rows, one after the other: how many are removed, and what stops the others
+    pub fn remove_all(&mut self, rows: &[usize]) -> (usize, Result<(), Stop>) {
+        for (done, &row) in rows.iter().enumerate() {
+            if let Err(stop) = self.remove(row) {
+                return (done, Err(stop));
+            }
+        }
+        (rows.len(), Ok(()))
+    }
 }
 
 // what record and matrix slice hold after removals
@@ -136,7 +200,7 @@ pub fn random(s: &mut Source, made: usize) -> Drawn {
     let numbers = numbers(s, made);
     let active = some(s, made);
     let mut y = matrix(s, active.len());
-    let behind = if s.one_in(2) { 0.0 } else { s.unit() };
+    let behind = s.pick(&[0.0, 0.0, 0.5, f64::NAN, f64::INFINITY]);
     y.resize(2 * made * made, behind);
     Drawn {
         rec: bytes(&numbers, &active),

@@ -1,15 +1,17 @@
 // rei_compute(generator_buses, load_buses, y_sub, p_inj, q_inj, next_bus_id,
 //     spoke_buses, spokes, tie_buses, ties, rei_bus_id, rei_voltage_pu, rei_p_mw, rei_q_mvar, n_ties)
 use super::{ASKED, LIMIT};
-use crate::ask::{ask, Asked, Kind, Manner};
+use crate::ask::{ask, watched, Asked, Kind, Manner};
 use crate::call::{dirty, Call, Function};
 use crate::differences::{Difference, Told};
-use crate::expected::{self, faults, Expected};
+use crate::expected::{self, faults, numbers_in, then_given, Expected};
+use crate::finite::{magnitude, met, Stop};
 use crate::matrices::matrix;
 use crate::numbers::{kind, reals};
 use crate::source::Source;
 use crate::words::{bytes_of, bytes_of_reals, padded, reals_of, rows_of, wholes_of, word, words_of_wholes};
 use reference::reduction::{ReiEquivalent, ReiResult};
+use reference::watched as copy;
 
 const GENERATORS: usize = 0;
 const LOADS: usize = 1;
@@ -53,12 +55,13 @@ fn refusals(call: &Call) -> Vec<u32> {
         && call.holds(TIES, pairs);
     let long = [GENERATORS, LOADS, P, Q].iter().any(|&i| call.count(i) > LIMIT);
     let unmatched = call.count(P) as u128 != n || call.count(Q) as u128 != n;
-    faults(&[
+    let told = faults(&[
         (1, n > LIMIT as u128 || long),
         (2, !lengths),
         (3, unmatched),
         (4, n == 0),
-    ])
+    ]);
+    then_given(told, numbers_in(call, &[Y_SUB, P, Q]))
 }
 
 fn asked(call: &Call) -> Asked<ReiResult> {
@@ -74,6 +77,32 @@ fn asked(call: &Call) -> Asked<ReiResult> {
     // all the numbers given, so that the Rust sees rows too many as well
     let rows = rows_of(&call.slices[Y_SUB], usize::MAX.min(n * n + 1), n);
     ask(|| rei.compute(&rows, &p, &q, call.wholes[0] as usize))
+}
+
+fn watched_copy(call: &Call) -> reference::error::Result<copy::ReiResult> {
+    let rei = copy::ReiEquivalent {
+        generator_buses: wholes_of(&call.slices[GENERATORS]),
+        load_buses: wholes_of(&call.slices[LOADS]),
+    };
+    let n = rei.generator_buses.len() + rei.load_buses.len();
+    let [p, q] = [P, Q].map(|i| copy::numbers(&reals_of(&call.slices[i])));
+    let rows = copy::rows(&rows_of(&call.slices[Y_SUB], n, n));
+    rei.compute(&rows, &p, &q, call.wholes[0] as usize)
+}
+
+// both sums, then each spoke; a turned tie is no number of its own
+fn model(call: &Call) -> Result<(), Stop> {
+    for i in [P, Q] {
+        reals_of(&call.slices[i]).iter().try_fold(0.0, |sum, x| met(sum + x))?;
+    }
+    let n = call.count(GENERATORS) + call.count(LOADS);
+    for (i, row) in rows_of(&call.slices[Y_SUB], n, n).iter().enumerate() {
+        if magnitude(row[i])? > 1e-12 {
+            met(row[i].0 / n as f64)?;
+            met(row[i].1 / n as f64)?;
+        }
+    }
+    Ok(())
 }
 
 // a sum that starts at +0
@@ -126,9 +155,9 @@ fn agrees(call: &Call, list: usize, got: f64, ours: f64) -> bool {
 
 pub fn expected(call: &Call) -> Expected {
     let refusals = refusals(call);
-    let asked = asked(call);
+    let (asked, _) = watched(&refusals, asked(call), || watched_copy(call));
     let manner = asked.manner();
-    let mut e = expected::expected(call, &refusals, asked, None, |e, rei| written(call, e, rei));
+    let mut e = expected::by_work(call, &refusals, asked, || model(call), |e, rei| written(call, e, rei));
     // the Rust refuses a wrong matrix of an REI study itself
     if refusals == [2] && manner == Manner::Errs(Kind::InvalidParameter) {
         e.told = Told::ByReference;

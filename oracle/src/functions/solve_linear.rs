@@ -1,16 +1,17 @@
 // solve_linear(n, a, b, allowance, x, work, rows_reduced)
 use super::{ASKED, LIMIT};
-use crate::allowances::{self, NONE};
-use crate::ask::{ask, Asked};
+use crate::allowances::NONE;
+use crate::ask::{ask, watched, Asked};
 use crate::call::{dirty, Call, Function};
+use crate::eliminated;
 use crate::elimination::{Rule, Solver};
-use crate::expected::{self, faults, Expected};
+use crate::expected::{faults, numbers_in, then_given, Expected};
 use crate::matrices::matrix;
 use crate::numbers::{kind, reals};
 use crate::source::Source;
 use crate::words::{bytes_of_reals, pairs_of, rows_of, words_of_pairs};
-use reference::counted;
 use reference::reduction::WardEquivalent;
+use reference::watched as copy;
 
 const A: usize = 0;
 const B: usize = 1;
@@ -48,16 +49,16 @@ pub fn expected(call: &Call) -> Expected {
         let (a, b) = system();
         ask(|| WardEquivalent::solve_linear(&a, &b))
     };
-    let rows = || {
+    let refusals = then_given(refusals, numbers_in(call, &[A, B]));
+    let asked = watched(&refusals, asked, || {
         let (a, b) = system();
-        let (_, calls) = counted::counting(|| counted::WardEquivalent::solve_linear(&a, &b));
-        allowances::rows_of(calls, n + 1)
-    };
+        copy::WardEquivalent::solve_linear(&copy::rows(&a), &copy::pairs(&b))
+    });
     let model = || {
         let (a, b) = system();
         Some(move |solver: &mut Solver| solver.solution(&a, &b))
     };
-    expected::by_rows(call, &refusals, asked, rows, model, WORK, |e, x| {
+    eliminated::by_rows(call, &refusals, asked, model, WORK, |e, x| {
         e.words(X, words_of_pairs(&x))
     })
 }

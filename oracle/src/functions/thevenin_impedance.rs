@@ -1,12 +1,14 @@
 // thevenin_impedance(rec, y, bus_i, bus_j, work, z_re, z_im)
 use super::reducer::{self, Record};
-use crate::ask::{ask, Asked};
+use crate::ask::{ask, watched, Asked};
 use crate::call::{dirty, Call, Function};
-use crate::elimination::{identity, Solver, Stop};
-use crate::expected::{self, faults, Expected};
+use crate::eliminated;
+use crate::elimination::{identity, Solver};
+use crate::expected::Expected;
+use crate::finite::{cadd, cmul, csub, Stop};
 use crate::source::Source;
 use crate::words::{words_of_pairs, Pair};
-use reference::reduction::reach::{self, cadd, cmul, csub};
+use reference::reduction::reach;
 
 const Y: usize = 1;
 const WORK: usize = 2;
@@ -24,17 +26,18 @@ pub fn of(rec: Vec<u8>, y: Vec<u8>, bus_i: u32, bus_j: u32) -> Call {
 }
 
 pub fn expected(call: &Call) -> Expected {
-    let refusals = faults(&reducer::refusals(call, false, |made| {
+    let refusals = reducer::refused(call, false, |made| {
         call.holds(Y, reducer::square(made)) && call.holds(WORK, 2 * reducer::square(made))
-    }));
+    });
     let asked = match reducer::reducer(call) {
         None => Asked::NotAsked,
         Some((before, r)) => {
             let [i, j] = rows(call, &before);
-            ask(|| r.thevenin_impedance(i, j))
+            let asked = ask(|| r.thevenin_impedance(i, j));
+            watched(&refusals, asked, || reducer::watched_copy(&r).thevenin_impedance(i, j)).0
         }
     };
-    expected::by_pivots(
+    eliminated::by_pivots(
         call,
         &refusals,
         asked,
@@ -57,7 +60,7 @@ fn model(call: &Call) -> Option<impl Fn(&mut Solver) -> Result<Pair, Stop>> {
     let y = r.reduced_matrix();
     Some(move |solver: &mut Solver| {
         let z = solver.solutions(&y, &identity(y.len()))?;
-        Ok(csub(cadd(z[i][i], z[j][j]), cmul((2.0, 0.0), z[i][j])))
+        csub(cadd(z[i][i], z[j][j])?, cmul((2.0, 0.0), z[i][j])?)
     })
 }
 

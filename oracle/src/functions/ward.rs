@@ -1,14 +1,13 @@
 // What both Ward calls share: the study's lists, its refusals, and the Rust's answer in the entry's order.
 use super::{ASKED, LIMIT};
-use crate::allowances;
 use crate::buses::{self, repeats};
 use crate::call::Call;
 use crate::matrices::matrix;
 use crate::numbers::{kind, real, reals, Kind};
 use crate::source::Source;
 use crate::words::{buses_of, bytes_of_buses, bytes_of_reals, reals_of, rows_of, word, Rows};
-use reference::counted;
 use reference::reduction::{WardEquivalent, WardEquivalentConfig, WardEquivalentResult};
+use reference::watched as copy;
 
 pub const Y: usize = 0;
 pub const NUMBERS: usize = 1;
@@ -117,21 +116,19 @@ pub fn study_of(call: &Call, y: Rows, include_load_transfer: bool) -> WardEquiva
     WardEquivalent::new(call.size(), y, config)
 }
 
-// the rows that the Rust reduces in a study: a csub for each entry of such a row, in its solves, and for each entry of y_ward
-pub fn rows_reduced(call: &Call) -> u64 {
+// the watched copy of the study, and the injections that it is asked with
+pub fn watched_copy(call: &Call) -> (copy::WardEquivalent, [Vec<copy::W>; 2]) {
     let n = call.size();
-    let config = counted::WardEquivalentConfig {
+    let config = copy::WardEquivalentConfig {
         internal_buses: rows(call, INTERNAL),
         external_buses: rows(call, EXTERNAL),
         boundary_buses: rows(call, BOUNDARY),
         include_load_transfer: true,
-        base_mva: call.reals[0],
+        base_mva: copy::W(call.reals[0]),
     };
-    let study = counted::WardEquivalent::new(n, rows_of(&call.slices[Y], n, n), config);
-    let (answer, calls) = counted::counting(|| study.compute(&reals_of(&call.slices[P_EXT]), &turned_q(call)));
-    let r = call.count(INTERNAL) + call.count(BOUNDARY);
-    let of_y_ward = answer.map_or(0, |_| r * r);
-    allowances::rows_of(calls - of_y_ward as u64, call.count(EXTERNAL) + 1)
+    let study = copy::WardEquivalent::new(n, copy::rows(&rows_of(&call.slices[Y], n, n)), config);
+    let injections = [reals_of(&call.slices[P_EXT]), turned_q(call)];
+    (study, injections.map(|xs| copy::numbers(&xs)))
 }
 
 fn negated(xs: &[f64]) -> Vec<f64> {

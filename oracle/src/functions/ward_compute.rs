@@ -3,10 +3,11 @@
 use super::ward::{self, Places, Study};
 use super::ward_model;
 use crate::allowances::NONE;
-use crate::ask::{ask, Asked};
+use crate::ask::{ask, watched, Asked};
 use crate::call::{dirty, Call, Function};
 use crate::differences::Difference;
-use crate::expected::{self, faults, Expected};
+use crate::eliminated;
+use crate::expected::{self, faults, numbers_in, then_given, Expected};
 use crate::pivots::Judge;
 use crate::source::Source;
 use crate::words::{reals_of, words_of_reals, words_of_rows};
@@ -47,14 +48,21 @@ fn written(e: Expected, w: &WardEquivalentResult) -> Expected {
 }
 
 pub fn expected(call: &Call) -> Expected {
-    let refusals = faults(&ward::refusals(call, &AT));
+    let given = numbers_in(call, &[ward::Y, ward::P_EXT, ward::Q_EXT]);
+    let refusals = then_given(
+        faults(&ward::refusals(call, &AT)),
+        given.into_iter().chain(call.reals.clone()),
+    );
     let turned = ward::turned_q(call);
     let with = |include_load_transfer| asked(call, include_load_transfer, &turned).map(|w| ward::turned_back(call, w));
-    let e = expected::by_rows(
+    let both = watched(&refusals, with(true), || {
+        let (study, [p, q]) = ward::watched_copy(call);
+        study.compute(&p, &q)
+    });
+    let e = eliminated::by_rows(
         call,
         &refusals,
-        with(true),
-        || ward::rows_reduced(call),
+        both,
         || ward_model::study(call),
         AT.work,
         |e, w| written(e, &w),

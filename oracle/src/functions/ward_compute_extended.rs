@@ -4,14 +4,16 @@
 use super::ward::{self, Places, Study};
 use super::{ward_model, LIMIT};
 use crate::allowances::NONE;
-use crate::ask::{ask, Asked};
+use crate::ask::{ask, watched, Asked};
 use crate::call::{dirty, Call, Function};
-use crate::expected::{self, faults, Expected};
+use crate::eliminated;
+use crate::expected::{faults, numbers_in, then_given, Expected};
 use crate::source::Source;
 use crate::words::{bytes_of_reals, reals_of, words_of_reals, words_of_rows};
 use reference::reduction::ExtendedWardEquivalentResult;
+use reference::watched as copy;
 
-const V_EXT: usize = 7;
+pub const V_EXT: usize = 7;
 const CORRECTION: usize = 11;
 const COMPENSATION: usize = 12;
 pub const AT: Places = Places {
@@ -51,9 +53,14 @@ pub fn expected(call: &Call) -> Expected {
         ward_result: ward::turned_back(call, x.ward_result),
         ..x
     });
-    let rows = || ward::rows_reduced(call);
+    let given = numbers_in(call, &[ward::Y, ward::P_EXT, ward::Q_EXT, V_EXT]);
+    let refusals = then_given(faults(&all), given.into_iter().chain(call.reals.clone()));
+    let both = watched(&refusals, asked, || {
+        let (study, [p, q]) = ward::watched_copy(call);
+        study.compute_extended(&p, &q, &copy::numbers(&list(V_EXT)))
+    });
     let model = || ward_model::extended(call, &list(V_EXT));
-    expected::by_rows(call, &faults(&all), asked, rows, model, AT.work, |e, x| {
+    eliminated::by_rows(call, &refusals, both, model, AT.work, |e, x| {
         e.words(AT.y_ward, words_of_rows(&x.ward_result.y_ward))
             .words(AT.p_ward, words_of_reals(&x.ward_result.p_ward_injections))
             .words(AT.q_ward, words_of_reals(&x.ward_result.q_ward_injections))

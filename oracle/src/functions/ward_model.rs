@@ -1,89 +1,137 @@
 // Both Ward studies by the model of elimination, none where no bus is external: one solve after the other, with the column of each
-// retained bus and then with the currents.
+// retained bus, then the products, the currents, their solve and the injections; the extended study's corrections come last.
 use super::ward::{self, BOUNDARY, EXTERNAL, INTERNAL, P_EXT, Q_EXT, Y};
+use super::ward_compute_extended::V_EXT;
 use crate::allowances::NONE;
-use crate::call::Call;
-use crate::elimination::{identity, Rule, Solver, Stop};
-use crate::words::{reals_of, rows_of, Rows};
-use reference::reduction::reach::{cadd, cmul, csub};
+use crate::call::{Call, Function};
+use crate::elimination::{Rule, Solver};
+use crate::finite::{cadd, cmul, csub, magnitude, met, Stop};
+use crate::words::{reals_of, rows_of, Pair, Rows};
 use reference::reduction::{ExtendedWardEquivalentResult, WardEquivalentResult};
 
-pub fn study(call: &Call) -> Option<impl Fn(&mut Solver) -> Result<WardEquivalentResult, Stop>> {
-    let n = call.size();
-    let y = rows_of(&call.slices[Y], n, n);
-    let [internal, external, boundary] = [INTERNAL, EXTERNAL, BOUNDARY].map(|i| ward::rows(call, i));
-    if external.is_empty() {
-        return None;
+struct Model {
+    y: Rows,
+    // rows
+    retained: Vec<usize>,
+    external: Vec<usize>,
+    boundary: Vec<usize>,
+    base: f64,
+    // P and Q at each external bus
+    powers: Vec<Pair>,
+}
+
+impl Model {
+    fn of(call: &Call) -> Option<Self> {
+        let n = call.size();
+        let [internal, external, boundary] = [INTERNAL, EXTERNAL, BOUNDARY].map(|i| ward::rows(call, i));
+        let (p, q) = (reals_of(&call.slices[P_EXT]), reals_of(&call.slices[Q_EXT]));
+        (!external.is_empty()).then(|| Model {
+            y: rows_of(&call.slices[Y], n, n),
+            retained: [internal, boundary.clone()].concat(),
+            external,
+            boundary,
+            base: call.reals[0],
+            powers: p.into_iter().zip(q).collect(),
+        })
     }
-    let retained = [internal, boundary.clone()].concat();
-    let (r, base) = (retained.len(), call.reals[0]);
-    let system = external_part(&y, &external);
-    let (p, q) = (reals_of(&call.slices[P_EXT]), reals_of(&call.slices[Q_EXT]));
-    let column = |&j: &usize| external.iter().map(|&i| y[i][j]).collect();
-    let mut sides: Rows = retained.iter().map(column).collect();
-    sides.push(p.iter().zip(&q).map(|(p, q)| (p / base, -q / base)).collect());
-    Some(move |solver: &mut Solver| {
+
+    // the external buses' entries in a column, and in all of their own
+    fn column(&self, j: usize) -> Vec<Pair> {
+        self.external.iter().map(|&i| self.y[i][j]).collect()
+    }
+
+    fn system(&self) -> Rows {
+        let row = |&i: &usize| self.external.iter().map(|&j| self.y[i][j]).collect();
+        self.external.iter().map(row).collect()
+    }
+
+    // the sum of a row's entries at the external buses, each times its x
+    fn product(&self, row: usize, x: &[Pair]) -> Result<Pair, Stop> {
+        let mut terms = self.external.iter().zip(x);
+        terms.try_fold((0.0, 0.0), |sum, (&k, &x)| cadd(sum, cmul(self.y[row][k], x)?))
+    }
+
+    fn entry(&self, row: usize, column: usize, x: &[Pair]) -> Result<Pair, Stop> {
+        csub(self.y[row][column], self.product(row, x)?)
+    }
+
+    fn current(&self, (p, q): Pair) -> Result<Pair, Stop> {
+        Ok((met(p / self.base)?, met(-q / self.base)?))
+    }
+
+    fn study(&self, solver: &mut Solver) -> Result<WardEquivalentResult, Stop> {
+        let system = self.system();
         let mut x = Rows::new();
-        for side in &sides {
-            x.push(solver.solution(&system, side)?);
+        for &j in &self.retained {
+            x.push(solver.solution(&system, &self.column(j))?);
         }
-        let sum = |bus: usize, side: usize| {
-            let terms = external.iter().zip(&x[side]).map(|(&k, &x)| cmul(y[bus][k], x));
-            terms.fold((0.0, 0.0), cadd)
-        };
-        let entry = |i: usize, c: usize| csub(y[i][retained[c]], sum(i, c));
+        let mut y_ward = Rows::new();
+        for &i in &self.retained {
+            let entries = self.retained.iter().zip(&x).map(|(&j, x)| self.entry(i, j, x));
+            y_ward.push(entries.collect::<Result<_, _>>()?);
+        }
+        let currents: Vec<Pair> = self.powers.iter().map(|&s| self.current(s)).collect::<Result<_, _>>()?;
+        let x = solver.solution(&system, &currents)?;
+        let sums: Vec<Pair> = self
+            .boundary
+            .iter()
+            .map(|&i| self.product(i, &x))
+            .collect::<Result<_, _>>()?;
+        let (n, r) = (self.y.len(), self.retained.len());
         Ok(WardEquivalentResult {
-            y_ward: retained
-                .iter()
-                .map(|&i| (0..r).map(|c| entry(i, c)).collect())
-                .collect(),
-            p_ward_injections: boundary.iter().map(|&i| -sum(i, r).0 * base).collect(),
-            q_ward_injections: boundary.iter().map(|&i| sum(i, r).1 * base).collect(),
+            y_ward,
+            p_ward_injections: sums.iter().map(|s| met(-s.0 * self.base)).collect::<Result<_, _>>()?,
+            q_ward_injections: sums.iter().map(|s| met(s.1 * self.base)).collect::<Result<_, _>>()?,
             n_buses_reduced: n,
             n_buses_equivalent: r,
-            reduction_ratio: 1.0 - r as f64 / n as f64,
+            reduction_ratio: met(1.0 - met(r as f64 / n as f64)?)?,
         })
-    })
-}
-
-fn external_part(y: &Rows, external: &[usize]) -> Rows {
-    let row = |&i: &usize| external.iter().map(|&j| y[i][j]).collect();
-    external.iter().map(row).collect()
-}
-
-// The corrections are the Rust's. They rest on Y_be, v and base alone, so it is asked with Y_ee the identity and no
-// injection, which it always accepts.
-pub fn extended(call: &Call, v: &[f64]) -> Option<impl Fn(&mut Solver) -> Result<ExtendedWardEquivalentResult, Stop>> {
-    let model = study(call)?;
-    let n = call.size();
-    let mut y = rows_of(&call.slices[Y], n, n);
-    let external = ward::rows(call, EXTERNAL);
-    let one = identity(n);
-    for &i in &external {
-        for &j in &external {
-            y[i][j] = one[i][j];
-        }
     }
-    let none = vec![0.0; external.len()];
-    let asked = ward::study_of(call, y, true).compute_extended(&none, &none, v);
-    let corrected = asked.expect("a study of the identity");
+
+    // voltage correction and Q compensation of a boundary bus
+    fn correction(&self, row: usize, v: &[f64]) -> Result<(f64, f64), Stop> {
+        let (mut weights, mut voltage, mut q) = (0.0, 0.0, 0.0);
+        for (&k, &v) in self.external.iter().zip(v) {
+            let weight = magnitude(self.y[row][k])?;
+            let deviation = met(v - 1.0)?;
+            voltage = met(voltage + met(weight * deviation)?)?;
+            q = met(q + met(met(-self.y[row][k].1 * deviation)? * self.base)?)?;
+            weights = met(weights + weight)?;
+        }
+        let mean = if weights > 1e-12 { met(voltage / weights)? } else { 0.0 };
+        Ok((mean, q))
+    }
+}
+
+pub fn study(call: &Call) -> Option<impl Fn(&mut Solver) -> Result<WardEquivalentResult, Stop>> {
+    let model = Model::of(call)?;
+    Some(move |solver: &mut Solver| model.study(solver))
+}
+
+pub fn extended(call: &Call, v: &[f64]) -> Option<impl Fn(&mut Solver) -> Result<ExtendedWardEquivalentResult, Stop>> {
+    let (model, v) = (Model::of(call)?, v.to_vec());
     Some(move |solver: &mut Solver| {
+        let ward_result = model.study(solver)?;
+        let corrections = model.boundary.iter().map(|&row| model.correction(row, &v));
+        let (voltage_correction, q_compensation_mvar) = corrections.collect::<Result<_, _>>()?;
         Ok(ExtendedWardEquivalentResult {
-            ward_result: model(solver)?,
-            ..corrected.clone()
+            ward_result,
+            voltage_correction,
+            q_compensation_mvar,
         })
     })
 }
 
-// the row reductions until the work of a sound call ends, and the most: its solves have one system
+// the row reductions until the work of a sound call ends, and the most
 pub fn reductions(call: &Call) -> (u64, u64) {
-    let n = call.size();
-    let external = ward::rows(call, EXTERNAL);
-    let e = external.len();
+    let e = call.count(EXTERNAL);
     let solves = (call.count(INTERNAL) + call.count(BOUNDARY) + 1) as u64;
     let mut solver = Solver::new(Rule::First, NONE);
-    let system = external_part(&rows_of(&call.slices[Y], n, n), &external);
-    let whole = solver.solutions(&system, &vec![Vec::new(); e]).is_ok();
-    let rows = if whole { solves * solver.reduced } else { solver.reduced };
-    (rows, solves * (e * e - e) as u64)
+    if call.function == Function::WardCompute {
+        let _ = study(call).map(|model| model(&mut solver));
+    } else {
+        let v = reals_of(&call.slices[V_EXT]);
+        let _ = extended(call, &v).map(|model| model(&mut solver));
+    }
+    (solver.reduced, solves * (e * e - e) as u64)
 }

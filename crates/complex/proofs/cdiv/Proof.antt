@@ -1,17 +1,25 @@
--- `complex::cdiv` meets its contract: the test on the squared magnitude picks the same case on both sides.
-use Rattle.prelude.proofs.Prelude.{add, sub, mul, div, ofBits}
-use Rattle.complex.specs.Constants.{divisionLimit}
-use Rattle.complex.specs.Arithmetic.{sqmag, cdiv}
+-- `complex::cdiv` meets its contract: the divisor's squared magnitude and the quotient tell of all numbers on the way.
+use Rattle.prelude.proofs.Prelude.{sym, ap, _∙_, Float, needs, finite}
+use Rattle.complex.specs.Arithmetic.{cdiv}
+use Rattle.complex.specs.Computed.{ofQuotient}
+use Rattle.complex.specs.Leaves.{quotient}
+use Rattle.complex.proofs.Leaves.{tested, pair-none, divided, undivided}
 use Rattle.complex.proofs.cdiv.Statement.{statement}
 use Rattle.complex.proofs.cdiv.Tie as tie
 
 returns : tie.Need-returns
-unfolding add mul div ofBits divisionLimit sqmag cdiv
-returns c = rw (c .if1 .taken)
+unfolding quotient
+returns c =
+    let a = c .before .before .before .before .before .args .a in let b = c .before .before .before .before .before .args .b in
+    let d = ap finite (sym (c .before .before .before .before .sqmag .ensures)) ∙ sym (c .before .before .before .finite .ensures) ∙ c .before .before .if1 .taken in
+    tested _ _ (cdiv a b) (ofQuotient a b) (c .before .cdiv .ensures) (c .if-finite .ensures) (divided a b d)
 
 returns-2 : tie.Need-returns-2
-unfolding add sub mul div divisionLimit sqmag cdiv
-returns-2 c = rw (c .before .before .before .before .before .before .before .before .if1 .left)
+unfolding quotient
+returns-2 c =
+    let a = c .before .before .before .args .a in let b = c .before .before .before .args .b in
+    let d = ap finite (sym (c .before .before .sqmag .ensures)) ∙ sym (c .before .finite .ensures) ∙ c .if1 .left in
+    pair-none (ofQuotient a b) (cdiv a b) (undivided a b d)
 
 pub cdiv-spec : {M : Type 1} → statement M
-cdiv-spec = tie.close (tie.spec returns returns-2)
+cdiv-spec = tie.close (tie.spec (λ c κs. search needs) (λ c κs. search needs) (λ c κs. search needs) (λ c κs. search needs) returns returns-2)

@@ -11,7 +11,7 @@ add-branches-requires : tie.Need-add-branches-requires
 add-branches-requires c κs =
     let p = c .before .before .before .before .before in
     let g = build-accepted _ _ _ _ _ _ (p .before .build-refusal .ensures) (p .if1 .left) in
-    (c .before .before .before .clear .ensures ∙ ap zeros (g .0), (g .1, g .2))
+    (c .before .before .before .clear .ensures ∙ ap zeros (g .0 .0), (g .0 .1, g .0 .2))
 
 pub build-b-bus-spec : {M : Type 1} → statement M
 unfolding builtOutput

@@ -9,7 +9,7 @@ use Rattle.kron_reduction.proofs.reduced_matrix.Tie as tie
 returns : tie.Need-returns
 returns c =
     let run = c .before .before in let s = run .before .before .before in
-    let both = matrix-refused (s .args .r) (s .args .y .now) (s .args .out .now) (run .reading-refusal .result) (c .before .if1 .taken) (run .reading-refusal .ensures (s .args .y .now) refl) in
+    let both = matrix-refused (s .args .r) (s .args .y .now) (s .args .out .now) (run .reading-refusal .result) (c .before .if1 .taken) (run .reading-refusal .ensures) in
     (c .answer-of .ensures ∙ both .0, both .1)
 
 full : (c : tie.Start) → length (c .args .r .«active_buses») ≡ limit
@@ -17,7 +17,7 @@ full c = search needs
 
 accepted : (c : tie.After-reading-refusal) → c .reading-refusal .result ≡ 0
     → readingRefusal 2 (c .before .before .before .args .r) (c .before .before .before .args .y .now) (length (c .before .before .before .args .out .now)) ≡ 0
-accepted c e = sym (c .reading-refusal .ensures (c .before .before .before .args .y .now) refl) ∙ e
+accepted c e = sym (c .reading-refusal .ensures) ∙ e
 
 copy-rows-requires : tie.Need-copy-rows-requires
 copy-rows-requires c κs =

@@ -32,7 +32,7 @@ part-remove-list-end c =
 remove-list-requires : tie.Need-remove-list-requires
 remove-list-requires c κs =
     let s = c .before .before .before .before .before .before .before .before .before .before .before .before .before in
-    (accepted-holds (parts s) (s .args .y .now) (length (s .args .buses .now)) (s .pre .0) (s .pre .2), refl)
+    (accepted-holds (parts s) (s .args .y .now) (length (s .args .buses .now)) (s .pre .0) (s .pre .2), refl, s .pre .3)
 
 -- what holds of the front of the rows' places holds of the rows
 front : (n : ℕ) (zs more rs : List ℕ) → length zs ≡ n → zs ≡ rs → (P : List ℕ → Type 0) → P (take (n - 0) (zs ++ more)) → P rs

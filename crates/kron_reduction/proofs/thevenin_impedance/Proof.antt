@@ -7,12 +7,12 @@ use Rattle.kron_reduction.specs.Reducer.{activeOf, sound, rowOf}
 use Rattle.kron_reduction.specs.Inner.Removal.{Holds}
 use Rattle.kron_reduction.specs.Reading.{readingRefusal}
 use Rattle.kron_reduction.proofs.Taking.{took-lt}
-use Rattle.kron_reduction.proofs.Across.{impedance-refused, impedance-first, impedance-second, impedance-found, impedance-holds, impedance-room, impedance-sound}
+use Rattle.kron_reduction.proofs.Across.{impedance-refused, impedance-first, impedance-second, impedance-found, impedance-holds, impedance-room, impedance-sound, impedance-finite}
 use Rattle.kron_reduction.proofs.thevenin_impedance.Statement.{statement}
 use Rattle.kron_reduction.proofs.thevenin_impedance.Tie as tie
 
 returns : tie.Need-returns
-returns c = impedance-refused _ _ _ _ _ _ (c .if1 .taken) (c .before .reading-refusal .ensures _ refl)
+returns c = impedance-refused _ _ _ _ _ _ (c .if1 .taken) (c .before .reading-refusal .ensures)
 
 full : (c : tie.Start) → length (c .args .r .«active_buses») ≡ limit
 full c = search needs
@@ -23,7 +23,7 @@ module _ (c : tie.Else1) where
   begun = c .before .before .before .before
 
   accepted : readingRefusal 4 (begun .args .r) (begun .args .y .now) (length (begun .args .work .now)) ≡ 0
-  accepted = sym (c .before .reading-refusal .ensures (begun .args .y .now) refl) ∙ c .if1 .left
+  accepted = sym (c .before .reading-refusal .ensures) ∙ c .if1 .left
 
   holds : Holds (begun .args .r .«n_buses») (begun .args .r .«active_buses») (begun .args .y .now)
   holds = impedance-holds (begun .args .r) (begun .args .y .now) (begun .args .bus-i) (begun .args .bus-j) (begun .args .work .now) accepted (full begun)
@@ -80,6 +80,7 @@ impedance-between-requires c κs =
       took-lt _ _ _ h _ _ (found-too (c .before)),
       h .fits,
       impedance-room _ _ (start k .args .bus-i) (start k .args .bus-j) (start k .args .work .now) (accepted (test k)) (full (start k)),
+      impedance-finite _ _ (start k .args .bus-i) (start k .args .bus-j) (start k .args .work .now) (accepted (test k)),
     )
 
 returns-4 : tie.Need-returns-4

@@ -1,21 +1,37 @@
 -- Removal by rows and columns, as the code does it: what a slice shows, where a row stood, and what each step answers and leaves.
 use Prim.Native.Nat.{ℕ, suc, _*_, _≤_, _<_}
 use mathlib.Core.Path.{_≡_}
-use mathlib.Core.Bool.{cond}
-use mathlib.Core.List.{List}
+use mathlib.Core.Bool.{Bool, cond}
+use mathlib.Core.List.{List, _++_}
 use lib.Dec.{T, ltb}
 use lib.ListN.{length, getD, take}
 use lib.Ieee.{Float}
-use Rattle.complex.specs.Matrices.{entryAt}
+use Rattle.binary64.specs.Values.{allFinite}
+use Rattle.complex.specs.declared.Complex.{Complex}
+use Rattle.complex.specs.Arithmetic.{cmul}
+use Rattle.complex.specs.Computed.{ofParts, ofProduct, ofQuotient}
+use Rattle.complex.specs.Matrices.{Matrix, entryAt}
 use Rattle.refusals.specs.Refusals.{limit}
 use Rattle.kron_reduction.specs.declared.removal.Ran.{Ran}
 use Rattle.lists.specs.Buses.{rising}
 use Rattle.kron_reduction.specs.Reducer.{padded, stateIn}
-use Rattle.kron_reduction.specs.Kron.{State, remove, removalRefusal, eliminate, carriedOut, stoppedBy}
+use Rattle.kron_reduction.specs.Kron.{State, newEntry, ofNewEntry, remove, removalRefusal, eliminate, carriedOut, stoppedBy}
 
 -- when row k drops out: the old row of what is now row p
 unfoldable pub oldRow : ℕ → ℕ → ℕ
 oldRow k p = cond (ltb p k) p (suc p)
+
+-- the numbers of a new entry, of y_ij, y_ik, y_kj and y_kk
+abbrev pub ofEntry : Complex → Complex → Complex → Complex → List Float
+ofEntry ij ik kj kk = ofProduct ik kj ++ ofQuotient (cmul ik kj) kk ++ ofParts (newEntry ij ik kj kk)
+
+-- an answer tells whether something is so
+abbrev pub Tells : Bool → Type 0 → Type 0
+Tells b P = (T b → P) × (P → T b)
+
+-- every number of the new entry in row i and column j is finite; row and column k make none
+abbrev pub Fine : ℕ → Matrix → ℕ → ℕ → Type 0
+Fine k Y i j = (i ≡ k → ⊥) → (j ≡ k → ⊥) → T (allFinite (ofNewEntry k Y i j))
 
 -- the matrix of a state stands at the front of ys
 abbrev pub StandsIn : State → List Float → Type 0

@@ -1,19 +1,24 @@
 -- The work slice of an elimination: n rows of w entries, what one column does to it, and blocks of columns put in or taken out.
-use Prim.Native.Nat.{ℕ, _+_, _*_, _-_, _<_, _≤_}
+use Prim.Native.Nat.{ℕ, suc, _+_, _*_, _-_, _<_, _≤_}
 use mathlib.Core.Path.{_≡_}
 use mathlib.Core.Bool.{Bool, true, false, _&&_, cond}
-use mathlib.Core.List.{List}
-use lib.Dec.{eqb, leb, ltb}
+use mathlib.Core.List.{List, [], _∷_, _++_}
+use lib.Dec.{T, eqb, leb, ltb}
 use lib.ListN.{length}
 use lib.Ieee.{Float, neg}
+use Rattle.binary64.specs.Values.{allFinite}
 use Rattle.complex.specs.declared.Complex.{Complex}
 use Rattle.complex.specs.Arithmetic.{unit}
 use Rattle.complex.specs.Entries.{entry}
 use Rattle.complex.specs.Matrices.{Matrix, entryAt, grid}
+use Rattle.lists.specs.Buses.{upTo}
+use Rattle.refusals.specs.Refusals.{singular, beyondAllowance, computedNotFinite}
+use Rattle.refusals.specs.Work.{Step, pivotTooSmall, computing, reductions, meets}
 use Rattle.solver.specs.declared.elimination.Eliminated.{Eliminated}
-use Rattle.solver.specs.declared.elimination.Eliminated.the-variants.{Done, Small, Exceeded}
-use Rattle.solver.specs.GaussJordan.{pivoted, scaled, cleared, gaussJordan, pairsIn, pairs}
+use Rattle.solver.specs.declared.elimination.Eliminated.the-variants.{Done, Small, Exceeded, NotFinite}
+use Rattle.solver.specs.GaussJordan.{pivoted, scaled, cleared, gaussJordan}
 use Rattle.solver.specs.Solving.{operations}
+use Rattle.solver.specs.Steps.{workings, ofSearch, ofScaling, stepsOfRows, stepsOfRun}
 
 -- a slice of this length holds n rows of w entries, the system's n columns among them
 pub record WorkRows (n w long : ℕ) : Type 0 where
@@ -41,29 +46,70 @@ pub record BesideTurned (w : ℕ) (row : List Float) : Type 0 where
 unfoldable pub lessFactor : ℕ → (ℕ → Complex) → Matrix → Matrix
 lessFactor c pivot A i j = operations .minus (A i j) (operations .times (A i c) (pivot j))
 
--- How an elimination of `count` row reductions ends with so many allowed: exceeded, at a pivot that is too small, or done, with what is
--- left of the allowance.
-unfoldable pub ended : ℕ → ℕ → Bool → Eliminated
-ended allowed count small = cond (ltb allowed count) Exceeded (cond small Small (Done (allowed - count)))
-
 unfoldable pub isDone : Eliminated → Bool
 isDone (Done left) = true
 isDone Small = false
 isDone Exceeded = false
+isDone NotFinite = false
 
--- column c's turn: the answer, and the entries of the slice unless the allowance is exceeded
+-- the refusal that an end stands for
+unfoldable pub numberOf : Eliminated → ℕ
+numberOf (Done left) = 0
+numberOf Small = singular
+numberOf Exceeded = beyondAllowance
+numberOf NotFinite = computedNotFinite
+
+-- How work of these steps ends with so many row reductions allowed: by the refusal that it meets first, or done, with what is left.
+pub record Ended (allowed : ℕ) (answered : Eliminated) (steps : List Step) : Type 0 where
+  pub number : numberOf answered ≡ meets allowed steps
+  pub count : (left : ℕ) → answered ≡ Done left → reductions steps + left ≡ allowed
+
+-- A part of the work, from one slice to another, with so many row reductions allowed. Numbers are not looked at on the way: a number that
+-- is not finite stays in the slice, or ends the work.
+pub record Told (allowed : ℕ) (steps : List Step) (before after : List Float) (answered : Eliminated) : Type 0 where
+  -- where all is finite in the end, all was before, and the end is the one that the steps meet
+  pub finite : T (allFinite after) → T (allFinite before) × (meets allowed steps ≡ numberOf answered)
+  -- where all was finite and something is not in the end, the steps meet 20
+  pub lost : T (allFinite before) → allFinite after ≡ false → meets allowed steps ≡ computedNotFinite
+  -- what is left of the allowance
+  pub count : (left : ℕ) → answered ≡ Done left → reductions steps + left ≡ allowed
+
+-- what a column's turn computes once its pivot is found large enough: the pivot's inverse, its row scaled, and the other rows
+unfoldable pub stepsOfClearing : ℕ → ℕ → ℕ → Matrix → List Step
+unfolding scaled ofScaling stepsOfRows upTo computing
+stepsOfClearing n w c B =
+    computing (workings .ofInverse (B c c) ++ ofScaling operations workings B c (upTo w))
+    ++ stepsOfRows operations workings (scaled operations c B) c (upTo n) (upTo w)
+
+-- column c's turn
+unfoldable pub stepsOfColumn : ℕ → ℕ → ℕ → Matrix → List Step
+unfolding pivoted ofSearch computing stepsOfClearing
+stepsOfColumn n w c A =
+    let B = pivoted operations n c A in
+    computing (ofSearch operations workings A c c (suc c) (n - suc c) ++ workings .ofWeight (B c c))
+    ++ cond (operations .small (B c c)) (pivotTooSmall ∷ []) (stepsOfClearing n w c B)
+
 pub record ColumnDone (n w c allowed : ℕ) (answered : Eliminated) (before after : List Float) : Type 0 where
-  pub answer : let B = pivoted operations n c (entryAt w before) in
-      answered
-      ≡ ended allowed (cond (operations .small (B c c)) 0 (pairsIn operations (scaled operations c B) c n)) (operations .small (B c c))
-  pub entries : let B = pivoted operations n c (entryAt w before) in
-      cond (operations .small (B c c)) 0 (pairsIn operations (scaled operations c B) c n) ≤ allowed
-      → (i j : ℕ) → i < n → j < w → entryAt w after i j ≡ cond (operations .small (B c c)) B (cleared operations c B) i j
+  pub told : Told allowed (stepsOfColumn n w c (entryAt w before)) before after answered
+  pub entries : (left : ℕ) → answered ≡ Done left → let B = pivoted operations n c (entryAt w before) in
+      (operations .small (B c c) ≡ false) × ((i j : ℕ) → i < n → j < w → entryAt w after i j ≡ cleared operations c B i j)
 
--- all columns' turn
+-- all columns' turn, before the slice is looked at
 pub record Ran (n w allowed : ℕ) (answered : Eliminated) (before after : List Float) : Type 0 where
-  pub answer : answered ≡ ended allowed (pairs operations n (entryAt w before)) (gaussJordan operations n (entryAt w before) .singular)
-  pub entries : pairs operations n (entryAt w before) ≤ allowed → after ≡ grid n w (gaussJordan operations n (entryAt w before) .left)
+  pub told : Told allowed (stepsOfRun operations workings n w (entryAt w before)) before after answered
+  pub entries : (left : ℕ) → answered ≡ Done left → after ≡ grid n w (gaussJordan operations n (entryAt w before) .left)
+
+-- an elimination that is done: how many row reductions are left, and what the slice holds
+pub record Finished (n w allowed left : ℕ) (before after : List Float) : Type 0 where
+  pub count : reductions (stepsOfRun operations workings n w (entryAt w before)) + left ≡ allowed
+  pub entries : after ≡ grid n w (gaussJordan operations n (entryAt w before) .left)
+  pub finite : T (allFinite after)
+
+pub record Met (n w allowed : ℕ) (answered : Eliminated) (before after : List Float) : Type 0 where
+  -- the refusal that the work meets first, 0 where it is done
+  pub number : numberOf answered ≡ meets allowed (stepsOfRun operations workings n w (entryAt w before))
+  pub done : (left : ℕ) → answered ≡ Done left → Finished n w allowed left before after
+  pub length-kept : length after ≡ length before
 
 -- ---- blocks of m columns from column `at` on
 

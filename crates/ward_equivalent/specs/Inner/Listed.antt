@@ -1,22 +1,21 @@
--- A study on one list of rows: what is known of its slices, what its solves meet in one elimination, and what that leaves.
-use Prim.Native.Nat.{ℕ, _+_, _*_, _-_, _≤_}
+-- A study on one list of rows: what is known of its slices, and the equivalent that its solutions give.
+use Prim.Native.Nat.{ℕ, zero, suc, _+_, _*_, _-_, _≤_, _<_}
 use mathlib.Core.Path.{_≡_}
-use mathlib.Core.Bool.{Bool, cond}
 use mathlib.Core.List.{List, [], map}
-use lib.Dec.{ltb}
+use lib.Dec.{T}
 use lib.ListN.{length, getD, take, drop}
 use lib.Ieee.{Float}
-use Rattle.refusals.specs.Refusals.{limit, singular, beyondAllowance, refuse, counted}
-use Rattle.complex.specs.Matrices.{entryAt, grid, zeros}
-use Rattle.refusals.specs.declared.Counted.{Counted}
-use Rattle.refusals.specs.declared.Counted.the-variants.{Reduced}
-use Rattle.solver.specs.GaussJordan.{gaussJordan, pairs}
-use Rattle.solver.specs.Solving.{operations}
-use Rattle.ward_equivalent.specs.declared.answers.WardAnswer.the-variants.{Done}
+use lib.Ieee.Scale.{finite}
+use Rattle.refusals.specs.Refusals.{limit, computedNotFinite}
+use Rattle.binary64.specs.Values.{allFinite}
+use Rattle.complex.specs.Matrices.{grid, zeros}
+use Rattle.ward_equivalent.specs.declared.answers.WardAnswer.{WardAnswer}
+use Rattle.ward_equivalent.specs.declared.answers.WardAnswer.the-variants.{Done, Refused}
+use Rattle.ward_equivalent.specs.declared.study.Held.{Held}
 use Rattle.ward_equivalent.specs.Arithmetic.{injectedP, injectedQ}
 use Rattle.ward_equivalent.specs.Ward.{Study, Outputs, ratio}
 use Rattle.ward_equivalent.specs.Studied.{AfterWard}
-use Rattle.ward_equivalent.specs.Extended.{ExtendedStudy}
+use Rattle.ward_equivalent.specs.Extended.{ExtendedStudy, weightSum, weightedSum, voltageCorrection, qCompensation}
 use Rattle.ward_equivalent.specs.Calls.{studyOf}
 use Rattle.ward_equivalent.specs.Inner.Work.{Listing, productTo, product, lessProduct}
 
@@ -38,43 +37,56 @@ pub record StudySlices (n : ℕ) (ys : List Float) (bs : List ℕ) (e f : ℕ) (
   pub q-ward : length (o .q-ward) ≡ length bs - f
   pub work : length (o .work) ≡ 2 * (e * (length bs + 1))
 
--- and those of the injections
+-- what the work reads and the slice that it uses
+pub record StudyGiven (n : ℕ) (ys : List Float) (bs : List ℕ) (e f : ℕ) (ps qs ws : List Float) : Type 0 where
+  pub listing : Listing n ys bs
+  pub few : n ≤ limit
+  pub distinct : length bs ≤ n
+  pub first : e ≤ f
+  pub last : f ≤ length bs
+  pub p-ext : length ps ≡ e
+  pub q-ext : length qs ≡ e
+  pub finite : T (allFinite ys)
+  pub work : length ws ≡ 2 * (e * (length bs + 1))
+
+-- and the slices that are written
 pub record CheckedStudy (n : ℕ) (ys : List Float) (bs : List ℕ) (e f : ℕ) (ps qs : List Float) (o : Outputs) : Type 0 where
   pub slices : StudySlices n ys bs e f o
   pub p-ext : length ps ≡ e
   pub q-ext : length qs ≡ e
+  pub finite : T (allFinite ys)
 
--- What solves of one system meet one after the other, each of `count` row reductions, with so many allowed to all of them; `small`: the
--- system is singular, and the first solve tells it.
-unfoldable pub metBySolves : ℕ → ℕ → ℕ → Bool → ℕ
-metBySolves allowed solves count small =
-    cond small (refuse (ltb allowed count) beyondAllowance singular) (refuse (ltb allowed (solves * count)) beyondAllowance 0)
+-- where a slice of this length holds the solutions of e external buses of k listed ones
+pub record HeldIn (k e : ℕ) (held : Held) (long : ℕ) : Type 0 where
+  pub start : held .start + 2 * (e * held .v) ≡ long
+  pub columns : held .first + (k - e) ≤ held .v
+  pub fit : held .end ≤ long
+  pub end : held .end ≡ 2 * (e * held .w)
+  pub column : held .c < held .w
 
--- the solves of a study in one elimination of e rows of w entries: the answer, and the entries of the slice where they are carried out
-pub record Solved (e w allowed : ℕ) (answered : Counted) (before after : List Float) : Type 0 where
-  pub answer : let count = pairs operations e (entryAt w before) in
-      let small = gaussJordan operations e (entryAt w before) .singular in
-      answered ≡ counted ((w - e) * count) (metBySolves allowed (w - e) count small)
-  pub entries : (rows : ℕ) → answered ≡ Reduced rows → after ≡ grid e w (gaussJordan operations e (entryAt w before) .left)
-
--- the equivalent that the work slice ws holds, as answer and slices
-unfoldable pub outputsFrom : ℕ → List Float → List ℕ → ℕ → ℕ → Float → ℕ → List Float → AfterWard
+-- The equivalent that the work slice holds, as answer and slices: X in the columns from `first` on of xs, rows of v entries, and the
+-- currents' solution in column c of ws, rows of w.
+unfoldable pub outputsFrom : ℕ → List Float → List ℕ → ℕ → ℕ → Float → ℕ → ℕ → List Float → ℕ → ℕ → List Float → ℕ → ℕ → AfterWard
 unfolding lessProduct productTo injectedP injectedQ ratio zeros
-outputsFrom n ys bs e f base reduced ws =
+outputsFrom n ys bs e f base reduced long xs v first ws w c =
     let es = take e bs in
-    let w = length bs + 1 in
     let r = length bs - e in
     record {
       answer = Done (record { «n_buses_reduced» = n; «n_buses_equivalent» = r; «reduction_ratio» = ratio r n; «rows_reduced» = reduced });
       outputs = record {
-        y-ward = grid r r (λ (p : ℕ). lessProduct n ys es (drop e bs) w ws (getD (drop e bs) p 0));
-        p-ward = map (λ (i : ℕ). injectedP base (product n ys es w ws i (length bs))) (drop f bs);
-        q-ward = map (λ (i : ℕ). injectedQ base (product n ys es w ws i (length bs))) (drop f bs);
-        work = zeros (length ws);
+        y-ward = grid r r (λ (p : ℕ). lessProduct n ys es (drop e bs) v xs first (getD (drop e bs) p 0));
+        p-ward = map (λ (i : ℕ). injectedP base (product n ys es w ws i c)) (drop f bs);
+        q-ward = map (λ (i : ℕ). injectedQ base (product n ys es w ws i c)) (drop f bs);
+        work = zeros long;
       };
     }
 
 -- ---- extended
+
+-- the answer of a study whose corrections are not finite, by what its own work meets
+unfoldable pub uncorrectedAnswer : ℕ → WardAnswer
+uncorrectedAnswer zero = Refused computedNotFinite
+uncorrectedAnswer (suc k) = Refused (suc k)
 
 abbrev pub extendedOf : Study → List Float → ExtendedStudy
 extendedOf S vs = record { study = S; v-ext = vs }
@@ -82,3 +94,10 @@ extendedOf S vs = record { study = S; v-ext = vs }
 -- what the formulas of the correction read: a matrix, the external buses, their voltages and the base
 abbrev pub correctionInput : ℕ → List Float → List ℕ → List Float → Float → ExtendedStudy
 correctionInput n ys es vs base = extendedOf (studyOf n ys [] es [] base [] []) vs
+
+-- the sums of boundary bus i, and their mean; they tell of every number on the way
+pub record CorrectionFinite (X : ExtendedStudy) (i : ℕ) : Type 0 where
+  pub weights : T (finite (weightSum X i))
+  pub weighted : T (finite (weightedSum X i))
+  pub correction : T (finite (voltageCorrection X i))
+  pub compensation : T (finite (qCompensation X i))

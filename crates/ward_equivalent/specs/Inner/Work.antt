@@ -43,7 +43,7 @@ productTo n ys es w ws bus c count = sumUp count (λ (k : ℕ). cmul (entryAt n 
 abbrev pub product : ℕ → List Float → List ℕ → ℕ → List Float → ℕ → ℕ → Complex
 product n ys es w ws bus c = productTo n ys es w ws bus c (length es)
 
--- the equivalent's entry between bus i and the bus at place q of ks, whose column of X is q places behind the system's
-unfoldable pub lessProduct : ℕ → List Float → List ℕ → List ℕ → ℕ → List Float → ℕ → ℕ → Complex
+-- the equivalent's entry between bus i and the bus at place q of ks; the columns of X begin at column `first` of the work slice's rows
+unfoldable pub lessProduct : ℕ → List Float → List ℕ → List ℕ → ℕ → List Float → ℕ → ℕ → ℕ → Complex
 unfolding productTo
-lessProduct n ys es ks w ws i q = csub (entryAt n ys i (getD ks q 0)) (product n ys es w ws i (length es + q))
+lessProduct n ys es ks w ws first i q = csub (entryAt n ys i (getD ks q 0)) (product n ys es w ws i (first + q))

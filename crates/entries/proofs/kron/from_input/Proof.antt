@@ -6,4 +6,5 @@ use Rattle.entries.proofs.kron.from_input.Tie as tie
 
 pub from-input-spec : {M : Type 1} → statement M
 unfolding fromInput
-from-input-spec = tie.close (tie.spec (λ c. search refusing depth 9) (λ c. search refusing depth 9) (λ c. search refusing depth 9))
+from-input-spec = tie.close (tie.spec (λ c. search refusing depth 12) (λ c. search refusing depth 12) (λ c. search refusing depth 12)
+    (λ c. search refusing depth 12))

@@ -1,8 +1,8 @@
--- `kron_reduction::removal::remove_one` meets its contract: the bus is not found, its own entry is too small, or the rows and the places are closed up.
+-- `kron_reduction::removal::remove_one` meets its contract: the bus is not found, the removal of its row is refused, or the rows and the places are closed up.
 use Rattle.prelude.proofs.Prelude.{_≡_, sym, ap, _∙_, ℕ, _<_, arith, needs, take, sub-zero}
 use Rattle.lists.specs.declared.Found.the-variants.{At}
 use Rattle.lists.specs.Buses.{foundIn}
-use Rattle.kron_reduction.proofs.Taking.{holds-room, took-lt, took-absent, took-small, took}
+use Rattle.kron_reduction.proofs.Taking.{holds-room, took-lt, took-absent, took-refused, took}
 use Rattle.kron_reduction.proofs.removal.remove_one.Statement.{statement}
 use Rattle.kron_reduction.proofs.removal.remove_one.Tie as tie
 
@@ -29,13 +29,13 @@ module _ (c : tie.After-known-told) where
   at-lt : at < start .args .n
   at-lt = took-lt _ _ _ (start .pre .0) _ _ found
 
-too-small-requires : tie.Need-too-small-requires
-too-small-requires c κs = (start (c .before) .pre .0 .room, at-lt (c .before), start (c .before) .pre .0 .fits)
+row-refusal-requires : tie.Need-row-refusal-requires
+row-refusal-requires c κs = let s = start (c .before) in (s .pre .0 .room, at-lt (c .before), s .pre .0 .fits, s .pre .2)
 
 returns-2 : tie.Need-returns-2
 returns-2 c =
     let k = c .before .before .before in
-    took-small _ _ _ (start k .pre .0) _ _ (found k) (sym (c .before .too-small .ensures) ∙ c .if1 .taken)
+    took-refused _ _ _ (start k .pre .0) _ _ (found k) _ (c .before .row-refusal .ensures) (c .if1 .taken)
 
 remove-row-requires : tie.Need-remove-row-requires
 remove-row-requires c κs =
@@ -52,11 +52,11 @@ returns-3 : tie.Need-returns-3
 returns-3 c =
     let closed = c .before .before .close-places in let removed = c .before .before .before .before .before .before .before .before in
     let test = removed .before .before .before in let k = test .before .before .before in
-    took _ _ _ (start k .pre .0) _ _ (found k) (sym (test .before .too-small .ensures) ∙ test .if1 .left) _ _ (closed .kept .0) (closed .ensures) (removed .remove-row .ensures)
+    took _ _ _ (start k .pre .0) _ _ (found k) (sym (test .if1 .left) ∙ test .before .row-refusal .ensures) _ _ (closed .kept .0) (closed .ensures) (removed .remove-row .ensures)
 
 pub remove-one-spec : {M : Type 1} → statement M
 remove-one-spec = tie.close (tie.spec (λ c. search needs) (λ c. search needs) part-find-bus-end (λ c κs. search needs) (λ c. search needs)
     (λ c. search needs) (λ c. search needs)
     (λ c. took-absent _ _ _ (c .before .before .before .before .before .before .before .before .pre .0) _ (looked (c .before .before) ∙ c .enum-told .given .1))
-    too-small-requires (λ c. search needs) (λ c. search needs) returns-2 remove-row-requires
+    row-refusal-requires (λ c. search needs) (λ c. search needs) returns-2 remove-row-requires
     close-places-requires (λ c. search needs) (λ c. search needs) (λ c. search needs) returns-3)

@@ -1,19 +1,37 @@
 -- `kron_reduction::thevenin::inverted_across` meets its contract: the columns beside the matrix are its inverse's.
-use Rattle.prelude.proofs.Prelude.{_≡_, refl, sym, ap, _∙_, true, not, ℕ, _+_, _<_, arith, needs, not-false}
+use Rattle.prelude.proofs.Prelude.{_≡_, sym, ap, _∙_, true, ℕ, _+_, _<_, arith, needs, eqb}
+use Rattle.binary64.specs.Values.{allFinite}
 use Rattle.complex.specs.{Matrix, entryAt}
+use Rattle.complex.proofs.Answers.{pair-tells, pair-tells-not}
+use Rattle.complex.proofs.FiniteEntries.{slice-entries}
 use Rattle.refusals.proofs.Refusing.{products}
-use Rattle.solver.specs.Solving.{isSingular, inverse, unitColumn}
-use Rattle.solver.specs.Inner.Work.{rightSides}
-use Rattle.solver.proofs.Solutions.{singular-told, solution-is}
+use Rattle.refusals.specs.declared.Allowance.the-variants.{Unlimited}
+use Rattle.refusals.specs.Work.{workRefusal}
+use Rattle.solver.specs.Solving.{inverse, unitColumn}
+use Rattle.solver.specs.Steps.{stepsOfInverse}
+use Rattle.solver.specs.Inner.Work.{isDone, rightSides}
+use Rattle.solver.proofs.Told.{done-left, number-none}
+use Rattle.solver.proofs.Allowances.{inverse-refused}
+use Rattle.solver.proofs.Solutions.{ended-is, solution-is, filled-finite, identity-finite}
 use Rattle.kron_reduction.specs.declared.Impedance.the-variants.{Value}
-use Rattle.kron_reduction.specs.Reading.{impedance}
-use Rattle.kron_reduction.proofs.Across.{across-same}
+use Rattle.kron_reduction.specs.Reading.{theveninOf, ofThevenin}
+use Rattle.kron_reduction.proofs.Across.{across-same, numbers-same, inverse-met, impedance-value, impedance-lost}
 use Rattle.kron_reduction.proofs.thevenin.inverted_across.Statement.{statement}
 use Rattle.kron_reduction.proofs.thevenin.inverted_across.Tie as tie
 
+eliminate-requires : tie.Need-eliminate-requires
+eliminate-requires c κs =
+    let f = c .before .before .before .fill-identity in let s = c .before .before .before .before .before .before .before in let a = s .args in (
+      omega arith,
+      omega (arith, s .pre .0),
+      search needs,
+      filled-finite (a .n) (a .n) (entryAt (a .n) (a .mat .now)) (λ (r k : ℕ). unitColumn k r) _ (f .ensures) (search needs)
+          (slice-entries (a .n) (a .n) (a .mat .now) (s .pre .3) (s .pre .5)) (identity-finite (a .n) (a .n)),
+    )
+
 -- the elimination, and what it began with
-module _ (c : tie.After-is-done) where
-  abbrev run : tie.After-gauss-jordan
+module _ (c : tie.After-number-of) where
+  abbrev run : tie.After-eliminate
   run = c .before .before .before
 
   abbrev filled : tie.After-fill-identity
@@ -25,35 +43,56 @@ module _ (c : tie.After-is-done) where
   abbrev n : ℕ
   n = start .args .n
 
+  abbrev p : ℕ
+  p = start .args .p
+
+  abbrev q : ℕ
+  q = start .args .q
+
   abbrev A : Matrix
   A = entryAt n (start .args .mat .now)
 
-  abbrev R : Matrix
-  R r k = unitColumn k r
+  -- what the slice holds beside the matrix
+  abbrev Z : Matrix
+  Z = rightSides n (entryAt (n + n) (run .eliminate .last .0))
 
-  says : isSingular n A ≡ not (c .is-done .result)
-  says = sym (ap not (c .is-done .ensures) ∙ singular-told n n A R (filled .fill-identity .last .0) (run .gauss-jordan .last .0) (filled .fill-identity .ensures) _ _ (run .gauss-jordan .ensures) (omega arith))
+  told : c .number-of .result ≡ workRefusal Unlimited (stepsOfInverse n A)
+  unfolding stepsOfInverse
+  told =
+      c .number-of .ensures
+      ∙ inverse-refused n A (run .eliminate .result) (ended-is n n A (λ (r k : ℕ). unitColumn k r) _ (filled .fill-identity .ensures) _ _ (run .eliminate .last .0) (run .eliminate .ensures))
 
-  solved : c .is-done .result ≡ true → (i j : ℕ) → i < n → j < n → rightSides n (entryAt (n + n) (run .gauss-jordan .last .0)) i j ≡ inverse n A i j
-  solved d i j h k = solution-is n n A R (filled .fill-identity .last .0) (run .gauss-jordan .last .0) (filled .fill-identity .ensures) _ _ (run .gauss-jordan .ensures) (sym (c .is-done .ensures) ∙ d) i j h k
+  module _ (z : c .number-of .result ≡ 0) where
+    at : (i j : ℕ) → i < n → j < n → Z i j ≡ inverse n A i j
+    at i j h k =
+        let done : isDone (run .eliminate .result) ≡ true = sym (number-none (run .eliminate .result)) ∙ ap (λ (k : ℕ). eqb k 0) (sym (c .number-of .ensures) ∙ z) in
+        let (left, e) = done-left (run .eliminate .result) done in
+        solution-is n n A (λ (r k : ℕ). unitColumn k r) _ (filled .fill-identity .ensures) _ _ _ (run .eliminate .ensures) left e i j h k
+
+    numbers : ofThevenin Z p q ≡ ofThevenin (inverse n A) p q
+    numbers = let hp = start .pre .1 in let hq = start .pre .2 in numbers-same Z (inverse n A) p q (at p p hp hp) (at q q hq hq) (at p q hp hq)
+
+    value : theveninOf Z p q ≡ theveninOf (inverse n A) p q
+    value = let hp = start .pre .1 in let hq = start .pre .2 in across-same Z (inverse n A) p q (at p p hp hp) (at q q hq hq) (at p q hp hq)
 
 returns : tie.Need-returns
-unfolding impedance
-returns c = rw (says (c .before), c .if1 .taken) refl
+returns c = inverse-met _ (n (c .before)) (A (c .before)) (p (c .before)) (q (c .before)) _ (told (c .before)) (c .if1 .taken)
 
 returns-2 : tie.Need-returns-2
-unfolding impedance
 returns-2 c =
-    let g = c .before .before .before in let left = c .before .before .if1 .left in
-    let p = start g .args .p in
-    let q = start g .args .q in
-    let hp : p < n g = start g .pre .1 in
-    let hq : q < n g = start g .pre .2 in
-    let at = solved g (not-false _ left) in
-    rw (says g, left)
-    (ap Value (c .seen-across .ensures ∙ across-same (rightSides (n g) (entryAt (n g + n g) (run g .gauss-jordan .last .0))) (inverse (n g) (A g)) p q (at p p hp hp) (at q q hq hq) (at p q hp hq)))
+    let t = c .before .before .before .before .before in let d = t .before in
+    let none = t .if1 .left in
+    let h = pair-tells (ofThevenin (Z d) (p d) (q d)) (theveninOf (Z d) (p d) (q d)) _ (sym (c .before .z .given .1) ∙ c .before .before .before .seen-across .ensures) in
+    ap Value (h .1 ∙ value d none) ∙ impedance-value _ (n d) (A d) (p d) (q d) (theveninOf (inverse (n d) (A d)) (p d) (q d)) (told d) none (ap allFinite (sym (numbers d none)) ∙ h .0)
+
+returns-3 : tie.Need-returns-3
+returns-3 c =
+    let t = c .before .before .before .before in let d = t .before in
+    let none = t .if1 .left in
+    let h = pair-tells-not (ofThevenin (Z d) (p d) (q d)) (theveninOf (Z d) (p d) (q d)) (sym (c .enum-told .given .1) ∙ c .before .before .seen-across .ensures) in
+    impedance-lost _ (n d) (A d) (p d) (q d) _ (told d) none (ap allFinite (sym (numbers d none)) ∙ h)
 
 pub inverted-across-spec : {M : Type 1} → statement M
 inverted-across-spec = tie.close (tie.spec (λ c κs. search needs)
-    (λ c. omega (arith, c .before .before .before .before .before .before .before .pre .0)) (λ c. search products) (λ c κs. search needs)
-    (λ c κs. search needs) (λ c. search needs) returns (λ c κs. search needs) (λ c. search needs) returns-2)
+    (λ c. omega (arith, c .before .before .before .before .before .before .before .pre .0)) (λ c. search products) eliminate-requires
+    (λ c κs. search needs) (λ c. search needs) returns (λ c κs. search needs) (λ c. search needs) (λ c. search needs) (λ c. search needs) returns-2 (λ c. search needs) returns-3)

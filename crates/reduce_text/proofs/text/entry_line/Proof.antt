@@ -39,14 +39,15 @@ returns-4 c =
 
 returns-5 : tie.Need-returns-5
 returns-5 c =
-    let h₂ = c .before .before .before in let r = h₂ .before .before .before in let h = r .before .before in let f = h .before .before in
+    let i = c .before in let h₂ = i .before .before .before in let r = h₂ .before .before .before in let h = r .before .before in let f = h .before .before in
     let e = f .before .before in let l = e .before .before .args .line .now in
-    sym
+    c .entry-of .ensures
+    ∙ sym
     (entry-both l (e .if1 .left) (f .if2 .left)
     ∙ ap (λ (w : Number). both w (hexOf (drop 17 l))) (sym (h .hexadecimal .ensures) ∙ r .re .given .1)
-    ∙ ap (λ (w : Number). both (Is (r .re .given .0 .0)) w) (second l (e .if1 .left) ∙ sym (h₂ .hexadecimal2 .ensures) ∙ c .before .im .given .1))
+    ∙ ap (λ (w : Number). both (Is (r .re .given .0 .0)) w) (second l (e .if1 .left) ∙ sym (h₂ .hexadecimal2 .ensures) ∙ i .before .im .given .1))
 
 pub entry-line-spec : {M : Type 1} → statement M
 entry-line-spec = tie.close (tie.spec returns (λ c. search needs) returns-2 (λ c. search needs) (λ c. search needs) (λ c. search needs)
     (λ c κs. search needs) (λ c. search needs) (λ c. search needs) returns-3 (λ c. search needs) (λ c. search needs) (λ c. search needs)
-    (λ c κs. search needs) (λ c. search needs) (λ c. search needs) returns-4 returns-5)
+    (λ c κs. search needs) (λ c. search needs) (λ c. search needs) returns-4 (λ c κs. search needs) returns-5)

@@ -32,14 +32,19 @@ module _ (c : tie.After-sqmag) where
   rows : (i j : ℕ) → j < s .args .w → B i j ≡ pivoted operations (s .args .n) (s .args .c) A i j
   rows = placed (s .args .n) (s .args .w) (s .args .c) p A B (entry front) (c .before .before .before .before .before .before .before .before .before .before .pivot-row .ensures .0) (swap .swap .ensures .0) (swap .swap .ensures .1)
 
+  long : length (swap .swap .last .0) ≡ 2 * (s .args .n * s .args .w)
+  long = swap .swap .kept .0 ∙ s .pre .0 .full
+
   answer : (b : Bool) → lt (c .sqmag .result) divisionLimit ≡ b → b ≡ operations .small (pivoted operations (s .args .n) (s .args .c) A (s .args .c) (s .args .c))
   answer b e =
-      let long : length front ≡ 2 * s .args .w = swap .swap .kept .1 .1 .1 .1 .1 .0 ∙ front-long (s .args .w) (s .args .row .now) (s .pre .2) in
+      let wide : length front ≡ 2 * s .args .w = swap .swap .kept .1 .1 .1 .1 .1 .0 ∙ front-long (s .args .w) (s .args .row .now) (s .pre .2) in
       weighed (s .args .n) (s .args .w) (s .args .c) p A B (entry front) (c .before .before .before .before .before .before .before .before .before .before .pivot-row .ensures .0) (swap .swap .ensures .0) (swap .swap .ensures .1) (s .pre .0 .wide) (s .pre .1) (c .before .get .result) (c .sqmag .result) b (c .before .get .ensures ∙ entry-append-left front _ (s .args .c) (omega (arith, s .pre .0 .wide, s .pre .1))) (c .sqmag .ensures) e
 
 returns : tie.Need-returns
 unfolding divisionLimit
-returns c = column-small _ _ _ _ _ _ (answer (c .before) true (c .if1 .taken)) (λ (i j : ℕ) h k. rows (c .before) i j k)
+returns c =
+    let t = c .before in
+    column-small _ _ _ _ (s t .pre .0 .wide) (s t .pre .1) _ _ (s t .pre .0 .full) (long t) (rows t) (answer t true (c .if1 .taken))
 
 clear-column-requires : tie.Need-clear-column-requires
 clear-column-requires c κs =
@@ -53,7 +58,7 @@ returns-2 : tie.Need-returns-2
 unfolding divisionLimit
 returns-2 c =
     let t = c .before .before .before .before .before .before .before .before in let x = c .before .before .before .before .clear-column in
-    column-cleared _ _ _ _ _ _ (s t .pre .0 .wide) (s t .pre .1) (answer t false (c .before .before .before .before .before .before .before .if1 .left)) (B t) (rows t) _ (x .ensures .0) (x .ensures .1)
+    column-cleared _ _ _ _ (s t .pre .0 .wide) (s t .pre .1) _ _ (s t .pre .0 .full) (long t) (rows t) (answer t false (c .before .before .before .before .before .before .before .if1 .left)) _ _ (x .ensures .0) (x .ensures .1)
 
 pub column-spec : {M : Type 1} → statement M
 column-spec = tie.close (tie.spec (λ c κs. search needs) (λ c. search needs) (λ c. search needs) (λ c. search needs) (λ c. search needs)

@@ -7,10 +7,10 @@ use Rattle.ward_equivalent.proofs.rows.add_products.Statement.{statemen
 use Rattle.ward_equivalent.proofs.rows.add_products.Tie as tie
 
 abbrev Inv-loop : tie.InvT-loop
-Inv-loop y n bus outer work w r to₀ k₀ to k = (k ≤ length outer) × (length to ≡ 2 * r) × ((q : ℕ) → q < r → entry to q ≡ productTo n y outer w work bus (length outer + q) k)
+Inv-loop y n bus outer work w first r to₀ k₀ to k = (k ≤ length outer) × (length to ≡ 2 * r) × ((q : ℕ) → q < r → entry to q ≡ productTo n y outer w work bus (first + q) k)
 
 abbrev μ-loop : tie.MeasureT-loop
-μ-loop y n bus outer work w r to₀ k₀ to k = length outer - k
+μ-loop y n bus outer work w first r to₀ k₀ to k = length outer - k
 
 loop-holds : tie.Need-loop-holds Inv-loop μ-loop
 loop-holds c =
@@ -26,9 +26,9 @@ loop-again : tie.Need-loop-again Inv-loop μ-loop
 loop-again c =
     let x = c .before .before .add-term in let t = c .before .before .before .before in let l = t .before .loop in
     let a = c .before .before .before .before .before .before .before .before .before .before .args in
-    let e = length (a .outer .now) in (
+    let e = a .first in (
       omega arith,
-      x .kept .1 .1 .1 .1 .1 .1 .1 .1 .0 ∙ l .inv .1,
+      x .kept .1 .1 .1 .1 .1 .1 .1 .1 .1 .0 ∙ l .inv .1,
       λ (q : ℕ) (h : q < a .r).
           x .ensures q h
           ∙ ap (λ (u : Complex). cadd u (cmul (entryAt (a .n) (a .y .now) (a .bus) (getD (a .outer .now) (l .k) 0)) (entryAt (a .w) (a .work .now) (l .k) (e + q)))) (l .inv .2 q h)
@@ -41,8 +41,8 @@ same-length c = c .before .loop .inv .1 ∙ sym (c .before .before .before .befo
 returns : tie.Need-returns Inv-loop μ-loop
 returns c =
     let l = c .before .loop in let a = c .before .before .before .before .before .before .args in
-    let e = length (a .outer .now) in
-    let end : l .k ≡ e = omega arith in
+    let e = a .first in
+    let end : l .k ≡ length (a .outer .now) = omega arith in
     λ (q : ℕ) (h : q < a .r). l .inv .2 q h ∙ ap (productTo (a .n) (a .y .now) (a .outer .now) (a .w) (a .work .now) (a .bus) (e + q)) end
 
 pub add-products-spec : {M : Type 1} → statement M

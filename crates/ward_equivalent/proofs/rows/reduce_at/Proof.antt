@@ -15,8 +15,8 @@ returns : tie.Need-returns
 returns c =
     let x = c .before .before .reduce-row in let lies = c .before .before .before .before .before .span-of .ensures in
     let s = c .before .before .before .before .before .before .before .before .before .before .before in let a = s .args in
-    row-written lies (a .to .now) (x .last .1 .1 .1 .1 .1 .1 .1 .0) (s .pre .5) (x .kept .1 .1 .1 .1 .1 .1 .1 .0)
-    (lessProduct (a .n) (a .y .now) (a .outer .now) (a .kept .now) (a .w) (a .work .now) (getD (a .kept .now) (a .p) 0)) (x .ensures)
+    row-written lies (a .to .now) (x .last .1 .1 .1 .1 .1 .1 .1 .1 .0) (s .pre .5) (x .kept .1 .1 .1 .1 .1 .1 .1 .1 .0)
+    (lessProduct (a .n) (a .y .now) (a .outer .now) (a .kept .now) (a .w) (a .work .now) (a .first) (getD (a .kept .now) (a .p) 0)) (x .ensures)
 
 pub reduce-at-spec : {M : Type 1} → statement M
 reduce-at-spec = tie.close (tie.spec (λ c κs. search needs) (λ c. search needs) (λ c. search needs) (λ c. search needs) (λ c. search needs)

@@ -11,7 +11,7 @@ add-products-requires : tie.Need-add-products-requires
 add-products-requires c κs =
     let s = c .before .before .before .before .before .before .before .before .before .before in let a = s .args in
     let x = c .before .before .before .clear in
-    let e = length (a .outer .now) in (
+    let e = a .first in (
       s .pre .0,
       s .pre .2,
       s .pre .3,

@@ -7,16 +7,16 @@ use Rattle.ward_equivalent.proofs.rows.reduced.Statement.{statement}
 use Rattle.ward_equivalent.proofs.rows.reduced.Tie as tie
 
 abbrev Inv-loop : tie.InvT-loop
-Inv-loop y n outer kept work w to₀ p₀ to p =
-    (p ≤ length kept) × (length to ≡ 2 * (length kept * length kept)) × RowsPassed (length kept) to (λ (i : ℕ). lessProduct n y outer kept w work (getD kept i 0)) (entryAt (length kept) to₀) p
+Inv-loop y n outer kept work w first to₀ p₀ to p =
+    (p ≤ length kept) × (length to ≡ 2 * (length kept * length kept)) × RowsPassed (length kept) to (λ (i : ℕ). lessProduct n y outer kept w work first (getD kept i 0)) (entryAt (length kept) to₀) p
 
 abbrev μ-loop : tie.MeasureT-loop
-μ-loop y n outer kept work w to₀ p₀ to p = length kept - p
+μ-loop y n outer kept work w first to₀ p₀ to p = length kept - p
 
 loop-holds : tie.Need-loop-holds Inv-loop μ-loop
 loop-holds c =
     let s = c .before .before .before .before .before in let a = s .args in
-    (omega arith, s .pre .4, rows-none (length (a .kept .now)) (a .to .now) (λ (i : ℕ). lessProduct (a .n) (a .y .now) (a .outer .now) (a .kept .now) (a .w) (a .work .now) (getD (a .kept .now) i 0)))
+    (omega arith, s .pre .4, rows-none (length (a .kept .now)) (a .to .now) (λ (i : ℕ). lessProduct (a .n) (a .y .now) (a .outer .now) (a .kept .now) (a .w) (a .work .now) (a .first) (getD (a .kept .now) i 0)))
 
 reduce-at-requires : tie.Need-reduce-at-requires Inv-loop μ-loop
 reduce-at-requires c κs =
@@ -29,9 +29,9 @@ loop-again c =
     let a = c .before .before .before .before .before .before .before .before .before .before .before .args in
     let r = length (a .kept .now) in (
       omega arith,
-      x .kept .1 .1 .1 .1 .1 .1 .1 .0 ∙ l .inv .1,
-      rows-more r (l .to) (x .last .1 .1 .1 .1 .1 .1 .1 .0) (λ (i : ℕ). lessProduct (a .n) (a .y .now) (a .outer .now) (a .kept .now) (a .w) (a .work .now) (getD (a .kept .now) i 0)) (entryAt r (a .to .now)) (l .p)
-          (lessProduct (a .n) (a .y .now) (a .outer .now) (a .kept .now) (a .w) (a .work .now) (getD (a .kept .now) (l .p) 0)) (x .ensures) (λ (q : ℕ) (h : q < r). refl) (l .inv .2),
+      x .kept .1 .1 .1 .1 .1 .1 .1 .1 .0 ∙ l .inv .1,
+      rows-more r (l .to) (x .last .1 .1 .1 .1 .1 .1 .1 .1 .0) (λ (i : ℕ). lessProduct (a .n) (a .y .now) (a .outer .now) (a .kept .now) (a .w) (a .work .now) (a .first) (getD (a .kept .now) i 0)) (entryAt r (a .to .now)) (l .p)
+          (lessProduct (a .n) (a .y .now) (a .outer .now) (a .kept .now) (a .w) (a .work .now) (a .first) (getD (a .kept .now) (l .p) 0)) (x .ensures) (λ (q : ℕ) (h : q < r). refl) (l .inv .2),
     )
 
 same-length : tie.Need-same-length Inv-loop μ-loop
