@@ -1,7 +1,7 @@
 -- Studies that meet the premises of `wardRows`, one of each kind: the row of bus 3 has zeros towards both external buses and keeps its values,
 -- the row of bus 2 changes and gets an injection. A bus is told by its row in the matrix, in the study's lists by number.
-use Rattle.prelude.proofs.Prelude.{not, List, [], _∷_, _++_, ℕ, T, getD, nan, lit<, ofBits, sub, mul, div, lt, eq, ofInt}
-use Rattle.complex.specs.{cadd, csub, cmul, cdiv, complexInv, one, entry, magnitude, entryAt, zeros, Zero}
+use Rattle.prelude.proofs.Prelude.{not, List, [], _∷_, ℕ, T, getD, nan, lit<, ofBits, sub, mul, div, lt, eq, ofInt}
+use Rattle.complex.specs.{cadd, csub, cmul, cdiv, complexInv, entry, magnitude, entryAt, zeros, Zero}
 use Rattle.binary64.specs.Root.{root}
 use Rattle.lists.specs.Buses.{upTo, allBelow}
 use Rattle.binary64.specs.Values.{isZero, allFinite}

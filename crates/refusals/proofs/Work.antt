@@ -5,6 +5,7 @@
 --     meets-numbers     20 where one of the numbers in front is not finite
 --     all-finite        where nothing is met, every number computed is finite
 --     finite-meets      where every number computed is finite, what is met is by the other steps alone
+--     unlost-meets      the same where the work without a limit does not meet 20
 --     larger-work       the first of allowances, without a limit included
 --     allowed-met       an allowance is the number that stands for it
 use Rattle.prelude.proofs.Prelude.{_≡_, refl, sym, ap, _∙_, Bool, true, false, _&&_, not, cond, List, [], _∷_, _++_, ℕ, zero, suc, _+_, _-_, _≤_, arith, T, eqb, Float, sub-zero, add-zero, ne-eqb, finite}
@@ -103,18 +104,36 @@ marks (reduces ∷ es) = reduces ∷ marks es
 marks (entryTooSmall ∷ es) = entryTooSmall ∷ marks es
 marks (pivotTooSmall ∷ es) = pivotTooSmall ∷ marks es
 
-pub finite-meets : (m : ℕ) (es : List Step) → T (allFinite (numbersIn es)) → meets m es ≡ meets m (marks es)
-unfolding meets numbersIn allFinite marks
-finite-meets m [] h = refl
-finite-meets m (computes x ∷ es) h = go (finite x) h (finite-meets m es)
+pub finite-unlost : (m : ℕ) (es : List Step) → T (allFinite (numbersIn es)) → meets m es ≡ 20 → ⊥
+unfolding meets numbersIn allFinite
+finite-unlost m [] h e = omega arith
+finite-unlost m (computes x ∷ es) h e = go (finite x) h e (finite-unlost m es)
   where
-    go : (b : Bool) → T (b && allFinite (numbersIn es)) → (T (allFinite (numbersIn es)) → meets m es ≡ meets m (marks es)) → cond b (meets m es) 20 ≡ meets m (marks es)
-    go true all rest = rest all
-    go false all rest = absurd all
-finite-meets zero (reduces ∷ es) h = refl
-finite-meets (suc m) (reduces ∷ es) h = finite-meets m es h
-finite-meets m (entryTooSmall ∷ es) h = refl
-finite-meets m (pivotTooSmall ∷ es) h = refl
+    go : (b : Bool) → T (b && allFinite (numbersIn es)) → cond b (meets m es) 20 ≡ 20 → (T (allFinite (numbersIn es)) → meets m es ≡ 20 → ⊥) → ⊥
+    go true all same rest = rest all same
+    go false all same rest = all
+finite-unlost zero (reduces ∷ es) h e = omega arith
+finite-unlost (suc m) (reduces ∷ es) h e = finite-unlost m es h e
+finite-unlost m (entryTooSmall ∷ es) h e = omega arith
+finite-unlost m (pivotTooSmall ∷ es) h e = omega arith
+
+-- the same where the work without a limit does not meet 20: what comes behind its end is not computed
+pub unlost-meets : (m : ℕ) (es : List Step) → (meets (reductions es) es ≡ 20 → ⊥) → meets m es ≡ meets m (marks es)
+unfolding meets reductions marks
+unlost-meets m [] n = refl
+unlost-meets m (computes x ∷ es) n = go (finite x) n (unlost-meets m es)
+  where
+    go : (b : Bool) → (cond b (meets (reductions es) es) 20 ≡ 20 → ⊥) → ((meets (reductions es) es ≡ 20 → ⊥) → meets m es ≡ meets m (marks es))
+        → cond b (meets m es) 20 ≡ meets m (marks es)
+    go true other rest = rest other
+    go false other rest = absurd (other refl)
+unlost-meets zero (reduces ∷ es) n = refl
+unlost-meets (suc m) (reduces ∷ es) n = unlost-meets m es n
+unlost-meets m (entryTooSmall ∷ es) n = refl
+unlost-meets m (pivotTooSmall ∷ es) n = refl
+
+pub finite-meets : (m : ℕ) (es : List Step) → T (allFinite (numbersIn es)) → meets m es ≡ meets m (marks es)
+finite-meets m es h = unlost-meets m es (finite-unlost (reductions es) es h)
 
 pub marks-both : (es fs : List Step) → marks (es ++ fs) ≡ marks es ++ marks fs
 unfolding marks

@@ -15,7 +15,7 @@ use Rattle.ward_equivalent.specs.declared.answers.WardAnswer.{WardAnswer
 use Rattle.ward_equivalent.specs.declared.answers.WardAnswer.the-variants.{Done, Refused}
 use Rattle.ward_equivalent.specs.Ward.{Study, Outputs, givenOf, externals, retained, listed}
 use Rattle.ward_equivalent.specs.Extended.{ExtendedStudy, ExtendedOutputs}
-use Rattle.ward_equivalent.specs.Steps.{ofEach, ofCorrection, stepsOf, ofStudy, stepsOfExtended}
+use Rattle.ward_equivalent.specs.Steps.{ofEach, ofCorrection, stepsOf, stepsOfExtended}
 use Rattle.ward_equivalent.specs.Studied.{summary, wardAnswer, wardNumber, outputsAfter, AfterWard, studied, extendedOutputsAfter, AfterExtended, studiedExtended}
 use Rattle.ward_equivalent.specs.Numbers.{NumberedStudy, NumberedExtended, lengthsOf, extendedLengthsOf, inRows, extendedInRows, busRefusal, wardShapeRefusal, wardRefusal, extendedShapeRefusal, extendedRefusal, afterCompute, afterComputeExtended}
 use Rattle.ward_equivalent.specs.Allowances.{mostRows, StudyAllowances}
@@ -206,10 +206,10 @@ unfolding afterComputeExtended studiedExtended summary
 within-extended X m o s h =
     answer-within (stepsOfExtended (extendedInRows X)) (summary (extendedInRows X .study)) s (extendedRefusal X o) m (sym (extended-count (extendedInRows X))) (sym h)
 
-met-first : (S : Study) (m : ℕ) → T (not (eqb (externals S) 0)) → T (allFinite (ofStudy S))
+met-first : (S : Study) (m : ℕ) → T (not (eqb (externals S) 0)) → (workRefusal Unlimited (stepsOf S) ≡ 20 → ⊥)
     → workRefusal (Rows m) (stepsOf S) ≡ cond (singularStudy S) (cond (ltb m (rowsOfSolve S)) 18 13) (cond (ltb m ((length (retained S) + 1) * rowsOfSolve S)) 18 0)
 unfolding workRefusal granted
-met-first S m some computed = study-met S (pick (eqb (externals S) 0) some) computed m
+met-first S m some unlost = study-met S (pick (eqb (externals S) 0) some) unlost m
   where
     pick : (b : Bool) → T (not b) → b ≡ false
     pick true h = absurd h

@@ -1,25 +1,24 @@
 -- One solve in the front of the work slice: it ends as its steps do, and its solution stands behind the system.
-use Rattle.prelude.proofs.Prelude.{_≡_, refl, sym, ap, _∙_, subst, Bool, false, true, List, [], _++_, ℕ, _+_, _*_, _<_, _≤_, arith, T, length, getD, Float, nan, le-ltb}
+use Rattle.prelude.proofs.Prelude.{_≡_, refl, sym, ap, _∙_, subst, Bool, false, true, List, _++_, ℕ, _+_, _*_, _<_, arith, T, length, getD, Float, le-ltb}
 use Rattle.binary64.specs.Values.{allFinite}
-use Rattle.complex.specs.{Complex, Matrix, entry, entryAt, grid}
+use Rattle.complex.specs.{Complex, entry, entryAt, grid}
 use Rattle.complex.proofs.Matrices.{entry-grid}
 use Rattle.complex.proofs.Sticky.{Finite}
 use Rattle.complex.proofs.FiniteEntries.{AllFinite, slice-entries}
 use Rattle.refusals.specs.Work.{computing}
 use Rattle.solver.specs.declared.elimination.Eliminated.{Eliminated}
-use Rattle.solver.specs.declared.elimination.Eliminated.the-variants.{Done, NotFinite}
+use Rattle.solver.specs.declared.elimination.Eliminated.the-variants.{Done}
 use Rattle.solver.specs.GaussJordan.{augmented}
 use Rattle.solver.specs.Solving.{operations, solve}
 use Rattle.solver.specs.Steps.{stepsOfSolve}
 use Rattle.solver.specs.Inner.Work.{Ended, Met, rightSides}
 use Rattle.solver.proofs.Solutions.{ended-is, solution-is, filled-finite}
-use Rattle.ward_equivalent.specs.Arithmetic.{current}
 use Rattle.ward_equivalent.specs.Ward.{yEE, admittance}
 use Rattle.ward_equivalent.specs.Steps.{stepsOfColumn, ofCurrents, stepsOfCurrents}
 use Rattle.ward_equivalent.specs.Inner.Work.{Listing, workRow, workMatrix}
 use Rattle.ward_equivalent.specs.Inner.Sequence.{solvesInput, columnsInput, externalPart, externalColumn, externalCurrents, CurrentsApart}
 use Rattle.ward_equivalent.proofs.Places.{listed-below}
-use Rattle.ward_equivalent.proofs.Parts.{ended-numbers, ended-lost}
+use Rattle.ward_equivalent.proofs.Parts.{ended-numbers}
 use Rattle.ward_equivalent.proofs.Tells.{currents-tell, currents-told}
 
 -- the last column, taken out

@@ -1,9 +1,9 @@
 -- Where all entries of the matrix, of the solutions and the base are below 2^200 in size, no entry of the equivalent and no injection
 -- overflows: a product is at most 2^401, a sum of at most 256 of them 2^657, an entry 2^658, an injection 2^857.
-use Rattle.prelude.proofs.Prelude.{_≡_, refl, sym, ap, _∙_, List, ℕ, zero, suc, _+_, _*_, _≤_, _<_, arith, T, lit≤, length, getD, Float, nan, neg, finite, zero-mul, inf, fin, up, down, _^_, subst}
+use Rattle.prelude.proofs.Prelude.{_≡_, refl, sym, List, ℕ, zero, suc, _+_, _*_, _≤_, _<_, arith, T, lit≤, length, Float, nan, neg, finite, zero-mul, inf, fin, up, down, _^_, subst}
 use Rattle.binary64.proofs.Floats.{Zero}
 use Rattle.binary64.proofs.Magnitudes.{neg-within}
-use Rattle.complex.specs.{Complex, plus0, _⊗_, cadd, csub, cmul, entry, entryAt}
+use Rattle.complex.specs.{Complex, plus0, _⊗_, csub, cmul, entry, entryAt}
 use Rattle.complex.specs.Inner.Ordinary.{ordinary, allOrdinary}
 use Rattle.complex.proofs.Matrices.{entry-within}
 use Rattle.complex.proofs.Sticky.{Finite}

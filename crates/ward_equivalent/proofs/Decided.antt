@@ -1,6 +1,6 @@
 -- The decision: what the work of a study met, and that the solutions it left give the study's equivalent.
-use Rattle.prelude.proofs.Prelude.{_≡_, refl, sym, ap, _∙_, subst, false, List, ℕ, zero, suc, _+_, _-_, _*_, _≤_, _<_, arith, T, length, getD, take, drop, Float, sub-zero, length-take-le, length-drop, take-all, drop-drop, getD-drop}
-use Rattle.complex.specs.{Complex, entryAt, zeros}
+use Rattle.prelude.proofs.Prelude.{_≡_, refl, sym, ap, _∙_, subst, List, ℕ, zero, suc, _+_, _-_, _*_, _≤_, _<_, arith, T, length, getD, take, drop, Float, length-take-le, length-drop, take-all, drop-drop, getD-drop}
+use Rattle.complex.specs.{entryAt, zeros}
 use Rattle.complex.proofs.Entries.{entry-take}
 use Rattle.complex.proofs.Matrices.{entry-within}
 use Rattle.refusals.specs.declared.Allowance.the-variants.{Rows}
@@ -8,8 +8,7 @@ use Rattle.refusals.specs.Work.{meets, reductions}
 use Rattle.solver.specs.declared.elimination.Eliminated.{Eliminated}
 use Rattle.solver.specs.declared.elimination.Eliminated.the-variants as ends
 use Rattle.solver.specs.Solving.{solve}
-use Rattle.solver.specs.Inner.Work.{numberOf, isDone, Ended}
-use Rattle.solver.proofs.Told.{same-left, not-done}
+use Rattle.solver.specs.Inner.Work.{numberOf, Ended}
 use Rattle.ward_equivalent.specs.declared.sequence.Decided.{Decided}
 use Rattle.ward_equivalent.specs.declared.sequence.Decided.the-variants.{Together, Apart, Refused}
 use Rattle.ward_equivalent.specs.declared.answers.WardAnswer.the-variants as answers
@@ -21,7 +20,7 @@ use Rattle.ward_equivalent.specs.Inner.Listed.{cut, outputsFrom, uncorre
 use Rattle.ward_equivalent.specs.Inner.Work.{product}
 use Rattle.ward_equivalent.specs.Inner.Sequence.{keptStudy, externalPart, externalColumn, ColumnsApart, CurrentsApart, AllTogether, decidedNumber, Decides}
 use Rattle.ward_equivalent.proofs.Solved.{product-column, product-currents}
-use Rattle.ward_equivalent.proofs.Studied.{accepted, studied-done, studied-refused, filled-ward}
+use Rattle.ward_equivalent.proofs.Studied.{studied-done, studied-refused, filled-ward}
 use Rattle.ward_equivalent.proofs.Kept.{column-product, currents-product}
 
 -- ---- the answers of `Decided`

@@ -1,7 +1,7 @@
 -- What an accepted study writes is finite, and what is accepted.
-use Rattle.prelude.proofs.Prelude.{_≡_, refl, sym, ap, _∙_, subst, Bool, true, false, not, cond, List, [], _∷_, _++_, ℕ, zero, suc, _+_, _*_, _≤_, _<_, arith, T, eqb, ltb, is-true, and-r, length, getD, map, Float, finite, eqb→eq, eqb-true, eq-eqb, le-ltb, ofBits}
+use Rattle.prelude.proofs.Prelude.{_≡_, refl, sym, ap, _∙_, subst, Bool, true, false, not, cond, List, [], _∷_, _++_, ℕ, suc, _+_, _<_, arith, T, eqb, ltb, is-true, and-r, length, getD, map, Float, finite, eq-eqb, le-ltb, ofBits}
 use Rattle.binary64.specs.Values.{allFinite}
-use Rattle.complex.specs.{plus0, csub, rows, zeros}
+use Rattle.complex.specs.{plus0, csub, zeros}
 use Rattle.complex.proofs.Finite.{none, all-more, all-left}
 use Rattle.complex.proofs.Sticky.{Finite}
 use Rattle.complex.proofs.FiniteEntries.{Each, rows-finite, slice-entries}
@@ -13,7 +13,7 @@ use Rattle.lists.specs.Buses.{allBelow}
 use Rattle.lists.proofs.Buses.{below-all, getD-in}
 use Rattle.ward_equivalent.specs.Ward.{Study, Outputs, givenOf, externals, retained, listed, admittance, equivalent, rowTimes, solvedColumn, boundaryCurrent, injectionP, injectionQ, ratio}
 use Rattle.ward_equivalent.specs.Arithmetic.{injectedP, injectedQ}
-use Rattle.ward_equivalent.specs.Extended.{ExtendedStudy, ExtendedOutputs, voltageCorrection, qCompensation}
+use Rattle.ward_equivalent.specs.Extended.{ExtendedOutputs, voltageCorrection, qCompensation}
 use Rattle.ward_equivalent.specs.Steps.{stepsOf, ofStudy, stepsOfExtended, ofExtended}
 use Rattle.ward_equivalent.specs.Studied.{acceptedOutputs, summary}
 use Rattle.ward_equivalent.specs.Numbers.{NumberedStudy, NumberedExtended, inRows, extendedInRows, wardShapeRefusal, wardRefusal, extendedShapeRefusal, extendedRefusal, AcceptedStudy, AcceptedExtended, afterCompute, afterComputeExtended}

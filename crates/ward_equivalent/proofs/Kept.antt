@@ -3,7 +3,7 @@
 --     columns-more     one more solve
 --     column-product, currents-product   what the rows of Y_re give with the solutions
 --     behind-lost, behind-then, all-then, all-first   the study's steps, part by part
-use Rattle.prelude.proofs.Prelude.{_≡_, refl, sym, ap, _∙_, subst, Bool, true, false, cond, _⊎_, inl, inr, List, [], _∷_, _++_, append-assoc, append-nil, take-append-drop, ℕ, zero, suc, _+_, _-_, _*_, _≤_, _<_, arith, T, eqb, length, getD, take, drop, Float, nan, finite, sub-zero, take-all, take-at, take-suc, length-drop, length-append, length-take-le, drop-of-length-le, eq-eqb, ne-eqb, add-one, eqb-true, eq-or-lt-of-le, mul-le-mul}
+use Rattle.prelude.proofs.Prelude.{_≡_, refl, sym, ap, _∙_, subst, Bool, true, false, cond, _⊎_, inl, inr, List, [], _∷_, _++_, append-assoc, append-nil, take-append-drop, ℕ, zero, suc, _+_, _-_, _*_, _≤_, _<_, arith, T, eqb, length, getD, take, drop, Float, nan, finite, sub-zero, take-all, take-suc, length-drop, length-append, length-take-le, drop-of-length-le, eq-eqb, ne-eqb, add-one, eqb-true, eq-or-lt-of-le, mul-le-mul}
 use lib.Seq.{drop-at}
 use borrow.Author.Tests.{eqb-false}
 use native.Mathlib.Nat.{mul-add}
@@ -18,18 +18,18 @@ use Rattle.lists.proofs.Parts.{back}
 use Rattle.lists.proofs.Order.{lt-or-ge}
 use Rattle.refusals.specs.Refusals.{limit}
 use Rattle.refusals.proofs.Refusing.{product-fits}
-use Rattle.refusals.specs.Work.{Step, computing, meets, reductions}
+use Rattle.refusals.specs.Work.{Step, computing}
 use Rattle.solver.specs.declared.elimination.Eliminated.{Eliminated}
 use Rattle.solver.specs.declared.elimination.Eliminated.the-variants.{Done, NotFinite}
 use Rattle.solver.specs.Solving.{solve}
-use Rattle.solver.specs.Inner.Work.{isDone, numberOf, Ended, placed}
-use Rattle.solver.proofs.BlockParts.{placed-in, placed-left, placed-right, placed-same}
-use Rattle.ward_equivalent.specs.Arithmetic.{sumUp, current, injectedP, injectedQ}
-use Rattle.ward_equivalent.specs.Ward.{Study, externals, retained, admittance, yEE, rowTimes, solvedColumn, solvedCurrents, boundaryCurrent, injectionP, injectionQ}
+use Rattle.solver.specs.Inner.Work.{isDone, Ended, placed}
+use Rattle.solver.proofs.BlockParts.{placed-in, placed-left, placed-right}
+use Rattle.ward_equivalent.specs.Arithmetic.{current, injectedP, injectedQ}
+use Rattle.ward_equivalent.specs.Ward.{Study, retained, admittance, yEE, rowTimes, solvedColumn, solvedCurrents, boundaryCurrent, injectionP, injectionQ}
 use Rattle.ward_equivalent.specs.Steps.{ofEach, ofRowTimes, stepsOfColumn, ofEquivalent, ofCurrents, stepsOfCurrents, ofInjection, ofInjections, ofRatio, stepsOf}
 use Rattle.ward_equivalent.specs.Calls.{studyOf}
 use Rattle.ward_equivalent.specs.Inner.Work.{productTo, product, lessProduct}
-use Rattle.ward_equivalent.specs.Inner.Sequence.{solvesInput, columnsInput, keptStudy, stepsOfInjections, stepsBehind, externalPart, externalColumn, externalCurrents, FinitePair, ColumnsApart, CurrentsApart}
+use Rattle.ward_equivalent.specs.Inner.Sequence.{solvesInput, columnsInput, keptStudy, stepsOfInjections, stepsBehind, externalPart, externalColumn, FinitePair, ColumnsApart, CurrentsApart}
 use Rattle.ward_equivalent.proofs.Solved.{sum-same}
 use Rattle.ward_equivalent.proofs.Parts.{ended-none, ended-then, ended-first, ended-same, ended-alone, ended-lost-alone, parts-lost, parts-then}
 use Rattle.ward_equivalent.proofs.Tells.{entries-tell, entries-told, injections-tell, injections-told, InjectionFinite}

@@ -1,10 +1,10 @@
--- What the steps of a study meet where every number is finite. All its solves have one system, so that each counts and meets the same.
+-- What the steps of a study meet where no number that the work reaches is lost. All its solves have one system, so that each counts and meets the same.
 --     study-met   13 or 18 of the first solve where the system is singular, else 18 where all solves together exceed the allowance
 use Rattle.prelude.proofs.Prelude.{_≡_, refl, sym, ap, _∙_, Bool, true, false, cond, List, [], _∷_, _++_, append-assoc, ℕ, _+_, _*_, arith, T, eqb, ltb, length, Float}
 use Rattle.binary64.specs.Values.{allFinite}
 use Rattle.complex.specs.{Complex}
 use Rattle.refusals.specs.Work.{Step, computing, meets, reductions}
-use Rattle.refusals.proofs.Work.{meets-first, finite-meets, marks, marks-both, marks-numbers, none-marked, none-counted}
+use Rattle.refusals.proofs.Work.{meets-first, finite-meets, unlost-meets, marks, marks-both, marks-numbers, none-marked, none-counted}
 use Rattle.solver.specs.GaussJordan.{gaussJordan, augmented}
 use Rattle.solver.specs.Solving.{operations}
 use Rattle.solver.specs.Steps.{workings, stepsOfSolve}
@@ -90,10 +90,9 @@ module _ (S : Study) where
     unfolding stepsOf
     singular-met some m = rw some (solves-met m (retained S) (ofEquivalent S ++ ofCurrents S (externals S)) (ofInjections S ++ ofRatio (length (retained S)) (S .size)))
 
-  pub study-met : eqb (externals S) 0 ≡ false → T (allFinite (ofStudy S)) → (m : ℕ)
+  pub study-met : eqb (externals S) 0 ≡ false → (meets (reductions (stepsOf S)) (stepsOf S) ≡ 20 → ⊥) → (m : ℕ)
       → meets m (stepsOf S) ≡ cond (singularStudy S) (cond (ltb m (rowsOfSolve S)) 18 13) (cond (ltb m ((length (retained S) + 1) * rowsOfSolve S)) 18 0)
-  unfolding ofStudy
-  study-met some computed m = finite-meets m (stepsOf S) computed ∙ pick (singularStudy S) refl
+  study-met some unlost m = unlost-meets m (stepsOf S) unlost ∙ pick (singularStudy S) refl
     where
       pick : (b : Bool) → singularStudy S ≡ b → meets m (marks (stepsOf S)) ≡ cond b (cond (ltb m (rowsOfSolve S)) 18 13) (cond (ltb m ((length (retained S) + 1) * rowsOfSolve S)) 18 0)
       pick true e = singular-met e some m

@@ -12,7 +12,7 @@ use Rattle.lists.proofs.Naming.{rowsIn-append, below-within, repeats-rows}
 use Rattle.ward_equivalent.specs.declared.answers.WardAnswer.the-variants.{Refused}
 use Rattle.ward_equivalent.specs.declared.lengths.Lengths.{Lengths}
 use Rattle.ward_equivalent.specs.Lengths.{lengthRefusal}
-use Rattle.ward_equivalent.specs.Ward.{Study, Outputs, givenOf, externals, listed}
+use Rattle.ward_equivalent.specs.Ward.{Study, Outputs, givenOf, externals}
 use Rattle.ward_equivalent.specs.Studied.{wardAnswer, outputsAfter, workAfter, studied}
 use Rattle.ward_equivalent.specs.Extended.{ExtendedStudy, ExtendedOutputs}
 use Rattle.ward_equivalent.specs.Studied.{extendedOutputsAfter, studiedExtended}

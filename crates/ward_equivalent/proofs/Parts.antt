@@ -1,7 +1,7 @@
 -- Work in the order of its steps: parts one after the other, numbers before and behind them.
 --     ended-then, ended-first   a part that is done and the next; a part that is not done ends the whole
 --     ended-numbers, ended-lost, ended-behind, ended-lost-behind   numbers that are finite or not
-use Rattle.prelude.proofs.Prelude.{_≡_, refl, sym, ap, _∙_, subst, Bool, true, false, cond, List, [], _∷_, _++_, append-assoc, append-nil, ℕ, _+_, _-_, arith, T, Float, is-true}
+use Rattle.prelude.proofs.Prelude.{_≡_, refl, sym, ap, _∙_, subst, Bool, false, cond, List, [], _∷_, _++_, append-assoc, ℕ, _+_, _-_, arith, T, Float, is-true}
 use Rattle.binary64.specs.Values.{allFinite}
 use Rattle.refusals.specs.Work.{Step, computes, computing, reductions, meets}
 use Rattle.refusals.proofs.Work.{meets-after, meets-first, meets-numbers, numbers-met, count-both, count-numbers, none-counted}

@@ -1,12 +1,12 @@
 -- The numbers of the ratio are finite: both counts are whole numbers within the limit, and the divisor is at least 1.
-use Rattle.prelude.proofs.Prelude.{_≡_, refl, sym, ap, _∙_, subst, false, [], _∷_, ℕ, _+_, _*_, _^_, _≤_, _<_, arith, T, lit<, lit≤, le-trans, le-of-eq, mul-le-mul-right, Float, nan, inf, fin, binary64, up, down, ofBits, round}
+use Rattle.prelude.proofs.Prelude.{refl, sym, _∙_, false, ℕ, _*_, _^_, _≤_, _<_, arith, T, lit≤, le-trans, le-of-eq, mul-le-mul-right, Float, nan, inf, fin, binary64, up, down, ofBits}
 use native.Mathlib.Nat.{mul-one, one-mul}
 use lib.IntN.{pos}
 use lib.Ieee.{ofInt}
 use lib.Ieee.Exact.{HasValue}
 use lib.Ieee.Back.{round-whole}
 use Rattle.binary64.specs.Values.{allFinite}
-use Rattle.binary64.proofs.Magnitudes.{Within, Beyond}
+use Rattle.binary64.proofs.Magnitudes.{Beyond}
 use Rattle.complex.specs.{one, _⊖_, _⊘_}
 use Rattle.complex.proofs.Finite.{none, all-more}
 use Rattle.complex.proofs.Sizes.{In, in-finite, div-in, sub-in}

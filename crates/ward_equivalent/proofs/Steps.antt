@@ -1,10 +1,10 @@
 -- What the steps of a study compute and count. All its solves have one system, so that each counts the same.
 --     study-count  the row reductions are retained + 1 times those of one solve
-use Rattle.prelude.proofs.Prelude.{_≡_, refl, sym, ap, _∙_, subst, Bool, true, false, cond, List, [], _∷_, _++_, ℕ, suc, _+_, _-_, _*_, _≤_, arith, T, eqb, ltb, length, Float, eqb-true, mul-le-mul-left, finite, lit<}
+use Rattle.prelude.proofs.Prelude.{_≡_, refl, sym, ap, _∙_, subst, Bool, true, false, cond, List, [], _∷_, _++_, ℕ, suc, _+_, _-_, _*_, _≤_, arith, T, eqb, length, Float, eqb-true, mul-le-mul-left, finite, lit<}
 use native.Mathlib.Nat.{suc-mul, mul-zero}
 use Rattle.binary64.specs.Values.{allFinite}
 use Rattle.complex.proofs.Finite.{all-left, all-right, all-at}
-use Rattle.refusals.specs.Work.{Step, computing, numbersIn, reductions, meets}
+use Rattle.refusals.specs.Work.{Step, computing, numbersIn, reductions}
 use Rattle.refusals.proofs.Work.{count-both, count-numbers, none-counted, numbers-both, numbers-alone, numbers-back}
 use Rattle.solver.specs.GaussJordan.{pairs}
 use Rattle.solver.specs.Solving.{operations, isSingular}

@@ -1,5 +1,5 @@
 -- What a study with right lists leaves: refused, or the equivalent that the solutions in the work slice give.
-use Rattle.prelude.proofs.Prelude.{_≡_, refl, sym, ap, _∙_, subst, Bool, false, List, [], _∷_, _++_, ℕ, zero, suc, _+_, _-_, _*_, _≤_, _<_, arith, eqb, length, getD, take, drop, Float, map, ne-eqb, length-drop, take-append-drop, length-take-le, getD-drop, drop-drop}
+use Rattle.prelude.proofs.Prelude.{_≡_, refl, sym, ap, _∙_, subst, false, List, [], _∷_, _++_, ℕ, zero, suc, _+_, _-_, _*_, _≤_, _<_, arith, eqb, length, getD, take, drop, Float, map, ne-eqb, length-drop, take-append-drop, length-take-le, getD-drop, drop-drop}
 use lib.Dec.{eqb·suc-zero}
 use Rattle.complex.specs.{plus0, csub, Matrix, entryAt, rows, grid, zeros}
 use Rattle.complex.proofs.Matrices.{entry-grid, rows-ext, length-grid, grid-ext, length-rows, entry-rows}

@@ -4,17 +4,16 @@
 --     injection-tells   of an injection's
 --     correction-tells  of a correction's
 --     ratio-finite      the ratio's numbers are finite
-use Rattle.prelude.proofs.Prelude.{_≡_, refl, sym, ap, _∙_, subst, Bool, true, false, cond, _&&_, and-i, and-l, and-r, List, [], _∷_, _++_, ℕ, zero, suc, _+_, _*_, _≤_, _<_, arith, T, eqb, length, getD, Float, binary64, neg, finite, inl, inr, eq-or-lt-of-le}
-use lib.IntN.{pos}
-use lib.Ieee.{inf, fin, nan, ofInt, ofBits}
+use Rattle.prelude.proofs.Prelude.{_≡_, refl, sym, ap, _∙_, subst, Bool, true, false, _&&_, and-i, and-l, and-r, List, [], _∷_, _++_, ℕ, zero, suc, _+_, _<_, arith, T, eqb, length, getD, Float, binary64, neg, finite, inl, inr, eq-or-lt-of-le}
+use lib.Ieee.{inf, fin, nan, ofBits}
 use Rattle.binary64.specs.Values.{allFinite}
 use Rattle.binary64.proofs.Operands.{add-operands, mul-operands}
-use Rattle.complex.specs.{Complex, plus0, _⊕_, _⊗_, cadd, csub, cmul, ofParts, ofProduct, ofSum, ofDifference, ofSqmag, magnitude}
+use Rattle.complex.specs.{Complex, plus0, _⊗_, cadd, csub, cmul, ofParts, ofProduct, ofSum, ofDifference, ofSqmag, magnitude}
 use Rattle.complex.proofs.Finite.{none, all-more, all-join, all-left, all-right, first-of, rest-of}
 use Rattle.complex.proofs.Sticky.{Finite, same-test, parts-all, all-parts, sum-given, terms-given, product-finite}
 use Rattle.complex.proofs.Roots.{magnitude-tells}
 use Rattle.ward_equivalent.specs.Arithmetic.{sumUp, current, injectedP, injectedQ}
-use Rattle.ward_equivalent.specs.Ward.{Study, externals, externalAt, retained, admittance, equivalent, rowTimes, solvedColumn, boundaryCurrent, solvedCurrents, injectionP, injectionQ}
+use Rattle.ward_equivalent.specs.Ward.{Study, externals, externalAt, retained, admittance, rowTimes, solvedColumn, boundaryCurrent, solvedCurrents, injectionP, injectionQ}
 use Rattle.ward_equivalent.specs.Extended.{ExtendedStudy, addUp, deviation, boundaryTie, weight, weightSum, weightedSum, voltageCorrection, reactive, qCompensation}
 use Rattle.ward_equivalent.specs.Steps.{ofEach, ofProducts, ofRowTimes, ofEquivalentEntry, ofEquivalent, ofCurrents, ofInjection, ofInjections, ofSums, ofTies, ofCorrection}
 use Rattle.ward_equivalent.specs.Inner.Listed.{CorrectionFinite}

@@ -1,9 +1,8 @@
 -- A loop that tests one after the other, and what its answer tells.
 use Rattle.prelude.proofs.Prelude.{_≡_, sym, ap, _∙_, subst, Bool, true, false, not, inl, inr, ℕ, _+_, _<_, arith, T, Float, finite, not-true, not-false, eq-or-lt-of-le}
-use Rattle.complex.specs.{Complex}
 use Rattle.ward_equivalent.specs.declared.sequence.Tried.{Tried}
 use Rattle.ward_equivalent.specs.declared.sequence.Tried.the-variants.{Left, Wild}
-use Rattle.ward_equivalent.specs.Inner.Sequence.{Tells, FinitePair}
+use Rattle.ward_equivalent.specs.Inner.Sequence.{Tells}
 
 pub tells-lost : (claim : Type 0) → (claim → ⊥) → Tells false claim
 tells-lost claim h = record { holds = λ t. absurd t; fails = λ _. h }

@@ -1,28 +1,26 @@
 -- One elimination for all right sides, where it decides: every number of the study's work is finite, and it meets nothing but 18.
-use Rattle.prelude.proofs.Prelude.{_≡_, refl, sym, ap, _∙_, subst, Bool, true, false, cond, List, [], _∷_, _++_, ℕ, zero, suc, _+_, _-_, _*_, _≤_, _<_, arith, T, eqb, ltb, length, getD, take, drop, Float, nan, lt-ltb, le-ltb, length-take-le, length-drop, getD-drop, getD-take, mul-le-mul}
+use Rattle.prelude.proofs.Prelude.{_≡_, refl, sym, ap, _∙_, subst, Bool, true, false, cond, List, [], _∷_, _++_, ℕ, suc, _+_, _-_, _*_, _≤_, _<_, arith, T, eqb, ltb, length, getD, take, drop, Float, nan, lt-ltb, le-ltb, length-take-le, getD-drop, mul-le-mul}
 use mir.Syntax.{w64}
 use mir.Val.{Fits}
 use Rattle.binary64.specs.Values.{allFinite}
-use Rattle.complex.specs.{Complex, cmul, csub, entryAt, grid}
-use Rattle.complex.specs.Inner.Ordinary.{ordinary, allOrdinary}
+use Rattle.complex.specs.{csub, entryAt}
 use Rattle.complex.proofs.Finite.{none, all-join}
 use Rattle.complex.proofs.Matrices.{length-grid}
 use Rattle.complex.proofs.Sticky.{Finite}
 use Rattle.complex.proofs.Sizes.{Both}
 use Rattle.complex.proofs.FiniteEntries.{slice-entries}
-use Rattle.refusals.specs.Refusals.{limit}
-use Rattle.refusals.specs.Work.{Step, computing, numbersIn, meets, reductions}
-use Rattle.refusals.proofs.Work.{all-finite, numbers-both, numbers-back, numbers-alone}
+use Rattle.refusals.specs.Work.{Step, computing, numbersIn, reductions, meets}
+use Rattle.refusals.proofs.Work.{all-finite, finite-unlost, numbers-both, numbers-back, numbers-alone}
 use Rattle.refusals.proofs.Refusing.{product-fits}
 use Rattle.solver.specs.GaussJordan.{augmented, pairs}
-use Rattle.solver.specs.Solving.{operations, isSingular, solve}
+use Rattle.solver.specs.Solving.{operations, solve}
 use Rattle.solver.specs.Steps.{workings, stepsOfRun, stepsOfSolve}
 use Rattle.solver.proofs.StepsSame.{run-steps-same}
 use Rattle.solver.proofs.Steps.{run-count, run-met}
 use Rattle.solver.proofs.Pairs.{pairs-bound}
 use Rattle.solver.proofs.ChosenSteps.{alone-numbers}
 use Rattle.ward_equivalent.specs.declared.sequence.Decided.the-variants.{Together, Refused}
-use Rattle.ward_equivalent.specs.Arithmetic.{current, injectedP, injectedQ}
+use Rattle.ward_equivalent.specs.Arithmetic.{current}
 use Rattle.ward_equivalent.specs.Ward.{Study, externals, externalAt, retained, admittance, yEE, rowTimes, solvedColumn, solvedCurrents, boundaryCurrent}
 use Rattle.ward_equivalent.specs.Steps.{ofEach, stepsOfColumn, ofEquivalent, ofCurrents, stepsOfCurrents, ofInjections, ofRatio, stepsOf, ofStudy}
 use Rattle.ward_equivalent.specs.Inner.Work.{workRow, workMatrix}
@@ -33,7 +31,7 @@ use Rattle.ward_equivalent.proofs.Solved.{rights, augmented-beside, piv
 use Rattle.ward_equivalent.proofs.Studied.{any, kept, retained-cut}
 use Rattle.ward_equivalent.proofs.Steps.{rowsOfSolve, singularStudy, study-count}
 use Rattle.ward_equivalent.proofs.Meeting.{study-met}
-use Rattle.ward_equivalent.proofs.Tells.{each-finite, entries-tell, injections-tell, currents-tell}
+use Rattle.ward_equivalent.proofs.Tells.{entries-tell, injections-tell, currents-tell}
 use Rattle.ward_equivalent.proofs.Ratio.{ratio-finite}
 use Rattle.ward_equivalent.proofs.Bounds.{entry-in, entry-below, injection-below}
 use Rattle.ward_equivalent.proofs.Decided.{refused-decided, together-decided}
@@ -226,8 +224,9 @@ module _ (n : ℕ) (ys : List Float) (bs : List ℕ) (e f : ℕ) (base : Float) 
       ap (λ (k : ℕ). k * (allowed - left)) solves ∙ ap (λ (k : ℕ). (length (retained S) + 1) * k) rows-are
 
   met-is : meets allowed (stepsOf S) ≡ cond (ltb allowed ((length (retained S) + 1) * rowsOfSolve S)) 18 0
+  unfolding numbersIn ofStudy
   met-is =
-      study-met S none-external all-computed allowed
+      study-met S none-external (finite-unlost (reductions (stepsOf S)) (stepsOf S) all-computed) allowed
       ∙ ap (λ (b : Bool). cond b (cond (ltb allowed (rowsOfSolve S)) 18 13) (cond (ltb allowed ((length (retained S) + 1) * rowsOfSolve S)) 18 0)) regular
 
   -- and so many fit

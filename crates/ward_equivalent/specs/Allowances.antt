@@ -4,10 +4,9 @@ use mathlib.Core.Path.{_≡_}
 use mathlib.Core.Bool.{not, cond}
 use lib.Dec.{T, eqb, ltb}
 use lib.ListN.{length}
-use Rattle.binary64.specs.Values.{allFinite}
 use Rattle.refusals.specs.declared.Allowance.{Allowance}
 use Rattle.refusals.specs.declared.Allowance.the-variants.{Unlimited, Rows}
-use Rattle.refusals.specs.Refusals.{singular, beyondAllowance, refuse}
+use Rattle.refusals.specs.Refusals.{singular, beyondAllowance, computedNotFinite, refuse}
 use Rattle.refusals.specs.Work.{reductions, workRefusal, _noMoreThan_}
 use Rattle.solver.specs.GaussJordan.{pairs}
 use Rattle.solver.specs.Solving.{operations, isSingular}
@@ -15,7 +14,7 @@ use Rattle.ward_equivalent.specs.declared.answers.WardSummary.{WardSumma
 use Rattle.ward_equivalent.specs.declared.answers.WardAnswer.the-variants.{Done, Refused}
 use Rattle.ward_equivalent.specs.Ward.{Study, Outputs, externals, retained, yEE}
 use Rattle.ward_equivalent.specs.Extended.{ExtendedOutputs}
-use Rattle.ward_equivalent.specs.Steps.{stepsOf, ofStudy}
+use Rattle.ward_equivalent.specs.Steps.{stepsOf}
 use Rattle.ward_equivalent.specs.Numbers.{NumberedStudy, NumberedExtended, afterCompute, afterComputeExtended}
 
 -- the most rows that a study can reduce: retained + 1 solves of e external buses each
@@ -27,9 +26,10 @@ pub record StudyAllowances : Type 0 where
   -- the solves of a study reduce equally many rows: the pairs of column and other row whose factor is not skipped as Y_ee is eliminated
   pub counts-pairs : (S : Study) → reductions (stepsOf S) ≡ (length (retained S) + 1) * pairs operations (externals S) (yEE S)
   pub at-most : (S : Study) → reductions (stepsOf S) ≤ mostRows S
-  -- Where every number computed is finite, the first solve meets 18, or 13 where Y_ee is singular; else 18 comes where all solves together
-  -- exceed the allowance.
-  pub meets-first : (S : Study) (allowed : ℕ) → T (not (eqb (externals S) 0)) → T (allFinite (ofStudy S))
+  -- Where the work without a limit does not meet 20: the first solve meets 18, or 13 where Y_ee is singular; else 18 comes where all solves
+  -- together exceed the allowance.
+  pub meets-first : (S : Study) (allowed : ℕ) → T (not (eqb (externals S) 0))
+      → (workRefusal Unlimited (stepsOf S) ≡ computedNotFinite → ⊥)
       → let count = pairs operations (externals S) (yEE S) in
       workRefusal (Rows allowed) (stepsOf S)
       ≡ cond (isSingular (externals S) (yEE S)) (refuse (ltb allowed count) beyondAllowance singular)

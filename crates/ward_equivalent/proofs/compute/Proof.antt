@@ -13,7 +13,6 @@ use Rattle.refusals.specs.declared.Allowance.the-variants.{Rows}
 use Rattle.ward_equivalent.proofs.Allowances.{allowed-study}
 use Rattle.ward_equivalent.proofs.Told.{Fitting, lengths-pass}
 use Rattle.ward_equivalent.proofs.Naming.{front-joined}
-use Rattle.ward_equivalent.proofs.Tests.{told-true}
 use Rattle.ward_equivalent.proofs.Named.{rows-listed, cut-rows, told-first, told-then, answered, answered-lost, answered-refused}
 use Rattle.ward_equivalent.proofs.compute.Statement.{statement}
 use Rattle.ward_equivalent.proofs.compute.Tie as tie

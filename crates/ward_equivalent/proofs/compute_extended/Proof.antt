@@ -15,7 +15,6 @@ use Rattle.refusals.specs.declared.Allowance.the-variants.{Rows}
 use Rattle.ward_equivalent.proofs.Allowances.{allowed-extended}
 use Rattle.ward_equivalent.proofs.Told.{Fitting, lengths-pass}
 use Rattle.ward_equivalent.proofs.Naming.{front-joined}
-use Rattle.ward_equivalent.proofs.Tests.{told-true}
 use Rattle.ward_equivalent.proofs.Named.{without, rows-listed, rows-boundary, cut-rows, told-first, told-then, answeredX, answered-lostX, answered-refusedX}
 use Rattle.ward_equivalent.proofs.compute_extended.Statement.{statement}
 use Rattle.ward_equivalent.proofs.compute_extended.Tie as tie

@@ -1,5 +1,5 @@
 -- `ward_equivalent::corrections::corrected_in` meets its contract.
-use Rattle.prelude.proofs.Prelude.{_≡_, refl, sym, ap, _∙_, ℕ, _-_, arith, needs, T, length, take, drop, sub-zero, length-drop, length-take-le, not-true}
+use Rattle.prelude.proofs.Prelude.{_≡_, refl, sym, ap, _∙_, _-_, arith, needs, T, length, take, drop, sub-zero, length-drop, length-take-le, not-true}
 use Rattle.binary64.specs.Values.{allFinite}
 use Rattle.lists.proofs.Scans.{rest-is}
 use Rattle.ward_equivalent.specs.Extended.{ExtendedStudy, ExtendedOutputs}

@@ -1,5 +1,5 @@
 -- `ward_equivalent::corrections::finite_tie` meets its contract.
-use Rattle.prelude.proofs.Prelude.{_≡_, sym, ap, _∙_, _&&_, finite, needs, not-true, not-false}
+use Rattle.prelude.proofs.Prelude.{sym, _∙_, _&&_, finite, needs, not-true, not-false}
 use Rattle.ward_equivalent.proofs.Tells.{lost-first, lost-second, all-four}
 use Rattle.ward_equivalent.proofs.corrections.finite_tie.Statement.{statement}
 use Rattle.ward_equivalent.proofs.corrections.finite_tie.Tie as tie

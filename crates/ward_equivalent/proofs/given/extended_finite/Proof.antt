@@ -1,5 +1,5 @@
 -- `ward_equivalent::given::extended_finite` meets its contract.
-use Rattle.prelude.proofs.Prelude.{_≡_, sym, ap, _∙_, _∷_, _++_, Bool, _&&_, needs, not-true, not-false}
+use Rattle.prelude.proofs.Prelude.{sym, ap, _∙_, _∷_, _++_, Bool, _&&_, needs, not-true, not-false}
 use Rattle.binary64.specs.Values.{allFinite}
 use Rattle.ward_equivalent.proofs.Tells.{both-finite, lost-first}
 use Rattle.ward_equivalent.proofs.given.extended_finite.Statement.{statement}

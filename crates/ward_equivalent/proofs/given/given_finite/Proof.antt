@@ -1,5 +1,5 @@
 -- `ward_equivalent::given::given_finite` meets its contract.
-use Rattle.prelude.proofs.Prelude.{_≡_, sym, ap, _∙_, Bool, _&&_, finite, needs, not-true, not-false}
+use Rattle.prelude.proofs.Prelude.{sym, _∙_, _&&_, finite, needs, not-true, not-false}
 use Rattle.binary64.specs.Values.{allFinite}
 use Rattle.ward_equivalent.proofs.Tells.{given-is, lost-first, lost-second, all-four}
 use Rattle.ward_equivalent.proofs.given.given_finite.Statement.{statement}

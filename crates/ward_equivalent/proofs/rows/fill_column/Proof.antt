@@ -1,5 +1,5 @@
 -- `ward_equivalent::rows::fill_column` meets its contract. The invariant: the rows before row k are filled, the others as they were.
-use Rattle.prelude.proofs.Prelude.{_≡_, refl, sym, ap, _∙_, subst, ℕ, _+_, _-_, _*_, _≤_, _<_, arith, needs, length, getD}
+use Rattle.prelude.proofs.Prelude.{_≡_, sym, ap, _∙_, ℕ, _+_, _-_, _*_, _≤_, _<_, arith, needs, length, getD}
 use Rattle.complex.specs.{Complex, entryAt}
 use Rattle.solver.proofs.Passed.{RowsPassed, rows-none, rows-more}
 use Rattle.ward_equivalent.specs.Inner.Work.{workRow}

@@ -1,10 +1,10 @@
 -- `ward_equivalent::sequence::behind_columns` meets its contract.
-use Rattle.prelude.proofs.Prelude.{_≡_, refl, sym, ap, _∙_, subst, false, List, _++_, ℕ, _+_, _-_, _*_, _≤_, _<_, arith, needs, eqb, length, take, drop, Float, not-true, ne-eqb, sub-zero, length-drop}
+use Rattle.prelude.proofs.Prelude.{_≡_, refl, ap, _∙_, subst, false, List, ℕ, _+_, _-_, _*_, arith, needs, eqb, length, take, drop, Float, not-true, ne-eqb, length-drop}
 use Rattle.complex.specs.{entryAt}
 use Rattle.lists.proofs.Scans.{rest-is}
 use Rattle.solver.specs.Inner.Work.{isDone, Ended}
 use Rattle.solver.proofs.Told.{not-done}
-use Rattle.ward_equivalent.specs.Inner.Sequence.{stepsOfInjections, ColumnsApart, CurrentsApart}
+use Rattle.ward_equivalent.specs.Inner.Sequence.{stepsOfInjections}
 use Rattle.ward_equivalent.proofs.Solved.{listing-take, listing-drop}
 use Rattle.ward_equivalent.proofs.Tests.{told-true}
 use Rattle.ward_equivalent.proofs.Kept.{front-part, part-rest, entered, not-entered, behind-lost, behind-then, front-behind, front-apart}

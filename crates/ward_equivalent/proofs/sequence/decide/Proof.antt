@@ -1,5 +1,5 @@
 -- `ward_equivalent::sequence::decide` meets its contract.
-use Rattle.prelude.proofs.Prelude.{_≡_, _∙_, _+_, _-_, _*_, arith, needs, length}
+use Rattle.prelude.proofs.Prelude.{_∙_, _-_, arith, needs}
 use Rattle.ward_equivalent.specs.Inner.Sequence.{TogetherDone}
 use Rattle.ward_equivalent.proofs.Together.{left-within, total-fits, decided-beyond, decided-done}
 use Rattle.ward_equivalent.proofs.sequence.decide.Statement.{statement}

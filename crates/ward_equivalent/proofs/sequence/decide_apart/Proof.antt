@@ -1,5 +1,5 @@
 -- `ward_equivalent::sequence::decide_apart` meets its contract.
-use Rattle.prelude.proofs.Prelude.{_≡_, refl, sym, ap, _∙_, ℕ, _+_, _-_, _*_, _≤_, arith, needs, length, take, drop, sub-zero, length-drop, length-take-le}
+use Rattle.prelude.proofs.Prelude.{_≡_, refl, sym, ap, _∙_, ℕ, _+_, _-_, _*_, arith, needs, length, take, drop, sub-zero, length-drop, length-take-le}
 use Rattle.lists.proofs.Scans.{rest-is}
 use Rattle.solver.specs.Inner.Work.{numberOf}
 use Rattle.ward_equivalent.proofs.Solved.{listing-take, listing-drop}

@@ -1,5 +1,5 @@
 -- `ward_equivalent::sequence::entries_finite` meets its contract. The invariant: the rows before row p are finite.
-use Rattle.prelude.proofs.Prelude.{_≡_, ℕ, _-_, _≤_, _<_, arith, needs, length, getD, not-true}
+use Rattle.prelude.proofs.Prelude.{ℕ, _-_, _≤_, _<_, arith, needs, length, getD, not-true}
 use Rattle.ward_equivalent.specs.Inner.Work.{lessProduct}
 use Rattle.ward_equivalent.specs.Inner.Sequence.{FinitePair}
 use Rattle.ward_equivalent.proofs.Places.{listed-below}

@@ -1,6 +1,5 @@
 -- `ward_equivalent::sequence::injections_finite` meets its contract. The invariant: the injections before place t are finite.
-use Rattle.prelude.proofs.Prelude.{_≡_, ap, ℕ, _-_, _≤_, _<_, arith, needs, length, getD, T, finite}
-use Rattle.complex.specs.{Complex}
+use Rattle.prelude.proofs.Prelude.{ap, ℕ, _-_, _≤_, _<_, arith, needs, length, getD, T, finite}
 use Rattle.ward_equivalent.specs.Arithmetic.{injectedP, injectedQ}
 use Rattle.ward_equivalent.specs.Inner.Work.{product}
 use Rattle.ward_equivalent.proofs.Places.{listed-below}

@@ -1,5 +1,5 @@
 -- `ward_equivalent::sequence::keep_column` meets its contract.
-use Rattle.prelude.proofs.Prelude.{_≡_, refl, sym, ap, _∙_, cond, ℕ, _+_, _*_, arith, needs, eqb, length, drop, not-true}
+use Rattle.prelude.proofs.Prelude.{refl, sym, ap, _∙_, cond, ℕ, _+_, _*_, arith, needs, eqb, length, drop, not-true}
 use Rattle.complex.specs.{Complex, entryAt}
 use Rattle.solver.proofs.Told.{not-done}
 use Rattle.ward_equivalent.proofs.Kept.{kept-place, front-part}

@@ -1,8 +1,8 @@
 -- `ward_equivalent::sequence::keep_columns` meets its contract. The invariant: the columns before place q are solved and kept.
-use Rattle.prelude.proofs.Prelude.{_≡_, refl, sym, _∙_, subst, false, ℕ, _+_, _-_, _*_, _≤_, _<_, arith, needs, length, getD}
+use Rattle.prelude.proofs.Prelude.{_≡_, refl, sym, _∙_, subst, false, ℕ, _-_, _≤_, arith, needs, length}
 use Rattle.solver.specs.declared.elimination.Eliminated.{Eliminated}
 use Rattle.solver.specs.Inner.Work.{isDone, Ended}
-use Rattle.solver.proofs.Told.{not-done, same-left}
+use Rattle.solver.proofs.Told.{not-done}
 use Rattle.ward_equivalent.specs.Steps.{ofEach, stepsOfColumn}
 use Rattle.ward_equivalent.specs.Inner.Sequence.{columnsInput, ColumnsApart}
 use Rattle.ward_equivalent.proofs.Places.{listed-below}

@@ -1,5 +1,5 @@
 -- `ward_equivalent::sequence::one_by_one` meets its contract.
-use Rattle.prelude.proofs.Prelude.{_≡_, refl, sym, _∙_, subst, ℕ, _+_, _*_, _≤_, arith, needs, eqb, length, ne-eqb, false}
+use Rattle.prelude.proofs.Prelude.{_≡_, refl, _∙_, subst, ℕ, _*_, arith, needs, length, ne-eqb, false}
 use Rattle.solver.specs.declared.elimination.Eliminated.{Eliminated}
 use Rattle.solver.specs.Inner.Work.{isDone, Ended}
 use Rattle.solver.proofs.Told.{not-done}

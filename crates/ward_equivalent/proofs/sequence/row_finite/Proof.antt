@@ -1,7 +1,7 @@
 -- `ward_equivalent::sequence::row_finite` meets its contract. The invariant: the entries before place q are finite.
-use Rattle.prelude.proofs.Prelude.{_≡_, refl, sym, ap, _∙_, ℕ, _+_, _-_, _≤_, _<_, arith, needs, length, getD, Float}
-use Rattle.complex.specs.{Complex, csub, entryAt}
-use Rattle.ward_equivalent.specs.Inner.Work.{product, lessProduct}
+use Rattle.prelude.proofs.Prelude.{_≡_, ap, _∙_, ℕ, _-_, _≤_, _<_, arith, needs, length, getD}
+use Rattle.complex.specs.{Complex, csub}
+use Rattle.ward_equivalent.specs.Inner.Work.{lessProduct}
 use Rattle.ward_equivalent.specs.Inner.Sequence.{FinitePair}
 use Rattle.ward_equivalent.proofs.Places.{listed-below, entry-index, less-product}
 use Rattle.ward_equivalent.proofs.Tests.{tells-lost, tells-held, every-more, test-lost, test-held}

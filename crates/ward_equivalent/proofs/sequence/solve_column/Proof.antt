@@ -1,8 +1,5 @@
 -- `ward_equivalent::sequence::solve_column` meets its contract.
-use Rattle.prelude.proofs.Prelude.{_≡_, refl, sym, ap, _∙_, ℕ, _+_, _*_, _<_, arith, needs, length, List, Float, not-true, not-false}
-use Rattle.complex.specs.{entry, entryAt, grid}
-use Rattle.complex.proofs.Matrices.{length-grid}
-use Rattle.solver.specs.Inner.Work.{rightSides}
+use Rattle.prelude.proofs.Prelude.{_≡_, sym, ap, _∙_, ℕ, _*_, _<_, arith, needs, length, not-true}
 use Rattle.solver.proofs.Told.{not-done}
 use Rattle.ward_equivalent.proofs.Alone.{column-set, column-ended, column-solution, taken-column}
 use Rattle.ward_equivalent.proofs.sequence.solve_column.Statement.{statement}

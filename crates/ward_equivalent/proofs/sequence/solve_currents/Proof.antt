@@ -1,5 +1,5 @@
 -- `ward_equivalent::sequence::solve_currents` meets its contract.
-use Rattle.prelude.proofs.Prelude.{_≡_, refl, sym, _∙_, ℕ, arith, needs, length, not-true, not-false, subst, T}
+use Rattle.prelude.proofs.Prelude.{refl, sym, _∙_, ℕ, arith, needs, not-true, subst, T}
 use Rattle.solver.specs.Inner.Work.{isDone}
 use Rattle.solver.proofs.Told.{not-done}
 use Rattle.ward_equivalent.proofs.Parts.{ended-lost}

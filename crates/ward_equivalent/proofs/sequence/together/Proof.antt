@@ -1,5 +1,5 @@
 -- `ward_equivalent::sequence::together` meets its contract.
-use Rattle.prelude.proofs.Prelude.{_≡_, refl, sym, ap, _∙_, subst, ℕ, _+_, _*_, arith, needs, T, length, not-false}
+use Rattle.prelude.proofs.Prelude.{sym, ap, _∙_, subst, ℕ, arith, needs, T}
 use Rattle.solver.specs.declared.elimination.Eliminated.the-variants.{Done}
 use Rattle.solver.specs.Inner.Work.{numberOf}
 use Rattle.ward_equivalent.proofs.Tests.{told-true, wild-left, same-tried}

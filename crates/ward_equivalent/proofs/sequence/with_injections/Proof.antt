@@ -1,5 +1,5 @@
 -- `ward_equivalent::sequence::with_injections` meets its contract.
-use Rattle.prelude.proofs.Prelude.{_≡_, refl, sym, _∙_, ℕ, arith, needs, eqb, length, not-true, not-false, ne-eqb}
+use Rattle.prelude.proofs.Prelude.{refl, sym, _∙_, ℕ, arith, needs, length, not-true, not-false, ne-eqb}
 use Rattle.solver.specs.Inner.Work.{isDone}
 use Rattle.solver.proofs.Told.{not-done, done-left}
 use Rattle.ward_equivalent.proofs.Tests.{told-true}

@@ -1,5 +1,5 @@
 -- `ward_equivalent::study::eliminated` meets its contract.
-use Rattle.prelude.proofs.Prelude.{_≡_, refl, sym, ap, _∙_, ℕ, _+_, _-_, _*_, arith, needs, length}
+use Rattle.prelude.proofs.Prelude.{_≡_, refl, sym, ap, _∙_, _-_, arith, needs, length}
 use Rattle.complex.specs.{zeros}
 use Rattle.ward_equivalent.specs.Calls.{outputsOf}
 use Rattle.ward_equivalent.specs.Inner.Listed.{StudySlices}

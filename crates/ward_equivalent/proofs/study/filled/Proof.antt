@@ -1,5 +1,5 @@
 -- `ward_equivalent::study::filled` meets its contract.
-use Rattle.prelude.proofs.Prelude.{_≡_, sym, ap, _∙_, List, ℕ, _+_, _-_, _*_, _≤_, arith, needs, length, getD, take, drop, Float, map, length-drop, sub-zero, length-take-le}
+use Rattle.prelude.proofs.Prelude.{_≡_, sym, ap, _∙_, List, ℕ, _-_, _*_, arith, needs, length, getD, take, drop, Float, map, length-drop, sub-zero, length-take-le}
 use Rattle.complex.specs.{grid}
 use Rattle.ward_equivalent.specs.declared.answers.WardAnswer.the-variants.{Done}
 use Rattle.ward_equivalent.specs.Arithmetic.{injectedP, injectedQ}

@@ -1,9 +1,9 @@
 -- `ward_equivalent::study::uncorrected` meets its contract.
-use Rattle.prelude.proofs.Prelude.{_≡_, refl, sym, ap, _∙_, subst, ℕ, arith, needs, length}
+use Rattle.prelude.proofs.Prelude.{sym, ap, _∙_, ℕ, arith, needs}
 use Rattle.complex.specs.{zeros}
 use Rattle.refusals.specs.Work.{meets}
 use Rattle.ward_equivalent.specs.Steps.{stepsOf}
-use Rattle.ward_equivalent.specs.Inner.Listed.{cut, uncorrectedAnswer}
+use Rattle.ward_equivalent.specs.Inner.Listed.{cut}
 use Rattle.ward_equivalent.specs.Inner.Sequence.{decidedNumber}
 use Rattle.ward_equivalent.proofs.Decided.{uncorrected-none, uncorrected-refused, none-steps}
 use Rattle.ward_equivalent.proofs.study.uncorrected.Statement.{statement}
