@@ -4,10 +4,11 @@ use Rattle.binary64.specs.Values.{allFinite}
 use Rattle.refusals.specs.Work.{Step, computing, meets}
 use Rattle.refusals.proofs.Work.{meets-numbers, numbers-met}
 use Rattle.complex.specs.declared.Complex.{Complex}
+use Rattle.complex.specs.declared.Pair.{Pair}
 use Rattle.complex.specs.declared.Pair.the-variants as pairs
 use Rattle.complex.specs.declared.magnitude.Real.{Real}
 use Rattle.complex.specs.declared.magnitude.Real.the-variants as reals
-use Rattle.complex.specs.Leaves.{pair, real, through, LeafSteps}
+use Rattle.complex.specs.Leaves.{pair, real, passing, through, LeafSteps}
 use Rattle.complex.proofs.Finite.{all-both}
 use Rattle.complex.proofs.Answers.{pair-tells-not}
 use Rattle.complex.proofs.Leaves.{pair-none, real-none}
@@ -34,21 +35,27 @@ none-met m xs h = go (allFinite xs) (sym (numbers-met m xs) ∙ h)
     go true e = absurd (omega arith)
     go false e = refl
 
-in-a-row : (m : ℕ) (first second : List Float) (rest : List Step) (c d : Complex)
-    → meets m (computing (first ++ second) ++ rest) ≡ through (pair first c) (through (pair second d) (meets m rest))
+met-through : (m : ℕ) (xs : List Float) (c : Complex) (rest : List Step) → meets m (computing xs ++ rest) ≡ through (pair xs c) (meets m rest)
 unfolding pair through
-in-a-row m first second rest c d =
-    meets-numbers m (first ++ second) rest ∙ ap (λ (b : Bool). cond b (meets m rest) 20) (all-both first second) ∙ go (allFinite first) (allFinite second)
+met-through m xs c rest = meets-numbers m xs rest ∙ go (allFinite xs)
   where
-    go : (a b : Bool) → cond (a && b) (meets m rest) 20
-        ≡ through (cond a (pairs.Finite c) pairs.NotFinite) (through (cond b (pairs.Finite d) pairs.NotFinite) (meets m rest))
-    go true true = refl
-    go true false = refl
-    go false b = refl
+    go : (b : Bool) → cond b (meets m rest) 20 ≡ through (cond b (pairs.Finite c) pairs.NotFinite) (meets m rest)
+    go true = refl
+    go false = refl
+
+pub passes-on : (xs : List Float) (c : Complex) (next : Complex → Pair) (ys : List Float) (d : Complex)
+    → next c ≡ pair ys d → passing (pair xs c) next ≡ pair (xs ++ ys) d
+unfolding pair passing
+passes-on xs c next ys d e = go (allFinite xs) ∙ ap (λ (b : Bool). cond b (pairs.Finite d) pairs.NotFinite) (sym (all-both xs ys))
+  where
+    go : (b : Bool) → passing (cond b (pairs.Finite c) pairs.NotFinite) next ≡ cond (b && allFinite ys) (pairs.Finite d) pairs.NotFinite
+    go true = e
+    go false = refl
 
 pub leaf-steps : LeafSteps
 leaf-steps = record {
   pair-none = λ m xs c. (λ e. met-none m xs (pair-tells-not xs c (sym e)), λ h. sym (pair-none xs c (none-met m xs h)));
   real-none = λ m xs x. (λ e. met-none m xs (real-tells-not xs x e), λ h. sym (real-none xs x (none-met m xs h)));
-  passes-on = in-a-row;
+  met-through = met-through;
+  passes-on = passes-on;
 }

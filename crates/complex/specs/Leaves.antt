@@ -110,9 +110,9 @@ unfoldable pub through : Pair → ℕ → ℕ
 through (pairs.Finite z) next = next
 through pairs.NotFinite next = computedNotFinite
 
--- Loops over rows do not take these operations: their numbers are steps of a call's work. Both say the same: an operation answers none
--- exactly where its numbers, as steps, meet 20, whatever is allowed; and of two operations, one behind the other, both answer a number
--- exactly where their numbers in a row meet nothing.
+-- Loops over rows do not take these operations: their numbers are steps of a call's work. Both say the same. An operation answers none
+-- exactly where its numbers, as steps, meet 20, whatever is allowed; what the work meets goes by that answer and what comes behind it; and
+-- two operations, the second on the first one's answer, are one that computes the numbers of both, in a row.
 pub record LeafSteps : Type 0 where
   pub pair-none : (allowed : ℕ) (computed : List Float) (c : Complex)
       → (pair computed c ≡ pairs.NotFinite → meets allowed (computing computed) ≡ computedNotFinite)
@@ -120,5 +120,7 @@ pub record LeafSteps : Type 0 where
   pub real-none : (allowed : ℕ) (computed : List Float) (x : Float)
       → (real computed x ≡ reals.NotFinite → meets allowed (computing computed) ≡ computedNotFinite)
       × (meets allowed (computing computed) ≡ computedNotFinite → real computed x ≡ reals.NotFinite)
-  pub passes-on : (allowed : ℕ) (first second : List Float) (rest : List Step) (c d : Complex)
-      → meets allowed (computing (first ++ second) ++ rest) ≡ through (pair first c) (through (pair second d) (meets allowed rest))
+  pub met-through : (allowed : ℕ) (computed : List Float) (c : Complex) (rest : List Step)
+      → meets allowed (computing computed ++ rest) ≡ through (pair computed c) (meets allowed rest)
+  pub passes-on : (computed : List Float) (c : Complex) (next : Complex → Pair) (more : List Float) (d : Complex)
+      → next c ≡ pair more d → passing (pair computed c) next ≡ pair (computed ++ more) d

@@ -54,10 +54,6 @@ module _ (ij ik kj kk : Complex) where
       unfolding difference
       entry-all d e = last true (pair-tells (ofDifference ij q) (csub ij q) d e .0)
 
-      pub entry-value : (d : Complex) → Finite d ≡ difference ij q → d ≡ newEntry ij ik kj kk
-      unfolding difference newEntry
-      entry-value d e = pair-tells (ofDifference ij q) (csub ij q) d e .1 ∙ ap (λ (c : Complex). csub ij c) (two .1)
-
 -- the same of the entries that the code reads
 pub same-numbers : (a b c d a' b' c' d' : Complex) → a ≡ a' → b ≡ b' → c ≡ c' → d ≡ d' → allFinite (ofEntry a b c d) ≡ allFinite (ofEntry a' b' c' d')
 same-numbers a b c d a' b' c' d' e f g h = rw (e, f, g, h)

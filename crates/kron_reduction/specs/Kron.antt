@@ -3,15 +3,18 @@ use Prim.Native.Nat.{ℕ}
 use mathlib.Core.Path.{_≡_}
 use mathlib.Core.Bool.{Bool, not, cond}
 use mathlib.Core.List.{List, [], _∷_, _++_}
-use lib.Dec.{eqb}
+use lib.Dec.{T, eqb}
 use lib.Ieee.{Float}
+use lib.Ieee.Scale.{finite}
 use Rattle.binary64.specs.Values.{allFinite}
 use Rattle.complex.specs.declared.Complex.{Complex}
-use Rattle.complex.specs.Arithmetic.{csub, cmul, cdiv, tooSmall}
+use Rattle.complex.specs.declared.Pair.{Pair}
+use Rattle.complex.specs.declared.Pair.the-variants.{Finite, NotFinite}
+use Rattle.complex.specs.Arithmetic.{csub, cmul, cdiv, sqmag, tooSmall}
 use Rattle.complex.specs.Computed.{ofParts, ofProduct, ofSqmag, ofQuotient}
 use Rattle.complex.specs.Leaves.{pair, product, quotient, difference, passing}
 use Rattle.complex.specs.Matrices.{Matrix}
-use Rattle.lists.specs.Buses.{upTo, mem, others}
+use Rattle.lists.specs.Buses.{upTo, mem, _isOneOf_, others}
 use Rattle.refusals.specs.Refusals.{notActive, smallEntry, computedNotFinite, refuse}
 use Rattle.refusals.specs.declared.Allowance.the-variants.{Unlimited}
 use Rattle.refusals.specs.Work.{Step, entryTooSmall, computing, workRefusal}
@@ -97,9 +100,19 @@ stepsOfRemoval s k =
 abbrev pub MetInOrder : Type 0
 MetInOrder = (s : State) (k : ℕ) → removalRefusal s k ≡ cond (mem k (s .active)) (workRefusal Unlimited (stepsOfRemoval s k)) notActive
 
--- the new entry by the operations that answer a finite number or none, each behind the one before: all answer a number exactly where every
--- number in the entry's list is finite
-abbrev pub PassedOn : Type 0
-PassedOn = (ij ik kj kk : Complex)
-    → passing (product ik kj) (λ (p : Complex). passing (quotient p kk) (λ (q : Complex). difference ij q))
-    ≡ pair (ofProduct ik kj ++ ofQuotient (cmul ik kj) kk ++ ofParts (newEntry ij ik kj kk)) (newEntry ij ik kj kk)
+-- the new entry in row i and column j by the operations that answer a finite number or none, each behind the one before
+unfoldable pub entryAnswer : ℕ → Matrix → ℕ → ℕ → Pair
+unfolding product quotient difference passing
+entryAnswer k Y i j = passing (product (Y i k) (Y k j)) (λ (p : Complex). passing (quotient p (Y k k)) (λ (q : Complex). difference (Y i j) q))
+
+-- what these answer is passed on
+pub record PassedOn : Type 0 where
+  -- an entry is answered exactly where every number in its list is finite
+  pub entry : (k : ℕ) (Y : Matrix) (i j : ℕ) → entryAnswer k Y i j ≡ pair (ofNewEntry k Y i j) (kron k Y i j)
+  -- of a removal that is carried out every entry is answered
+  pub answered : (s : State) (k : ℕ) → T (accepts s k) → (i j : ℕ) → i isOneOf remove s k .active → j isOneOf remove s k .active
+      → entryAnswer k (s .entries) i j ≡ Finite (remove s k .entries i j)
+  -- and one of an active bus, whose own entry's square is finite and not too small, is carried out where none is answered "not finite"
+  pub carries-out : (s : State) (k : ℕ) → k isOneOf s .active → T (not (tooSmall (s .entries k k))) → T (finite (sqmag (s .entries k k)))
+      → ((i j : ℕ) → i isOneOf remove s k .active → j isOneOf remove s k .active → entryAnswer k (s .entries) i j ≡ NotFinite → ⊥)
+      → T (accepts s k)

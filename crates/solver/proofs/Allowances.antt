@@ -30,12 +30,12 @@ module _ (n : ℕ) (A : Matrix) (b : ℕ → Complex) where
   pub solve-bound : reductions (stepsOfSolve n A b) ≤ n * (n - 1)
   solve-bound = let most = pairs-bound operations n A in let same = solve-count in omega arith
 
-  -- where every number is finite
-  pub solve-met : (m : ℕ) → T (allFinite (numbersIn (stepsOfSolve n A b))) → meets m (stepsOfSolve n A b) ≡ metBy m (pairs operations n A) (isSingular n A)
+  -- where the work without a limit does not meet 20
+  pub solve-met : (m : ℕ) → (meets (reductions (stepsOfSolve n A b)) (stepsOfSolve n A b) ≡ 20 → ⊥) → meets m (stepsOfSolve n A b) ≡ metBy m (pairs operations n A) (isSingular n A)
   unfolding stepsOfSolve
-  solve-met m f =
+  solve-met m unlost =
       let B = augmented operations n A (λ (r k : ℕ). b r) in
-      run-met operations workings n (n + 1) B m f
+      run-met operations workings n (n + 1) B m unlost
       ∙ ap (λ (k : ℕ). metBy m k (gaussJordan operations n B .singular)) (pairs-system operations n A (λ (r k : ℕ). b r))
       ∙ ap (metBy m (pairs operations n A)) (augmented-singular operations n A (λ (r k : ℕ). b r))
 
@@ -145,7 +145,7 @@ unfolding granted workRefusal
 solve-allowances = record {
   counts-pairs = solve-count;
   at-most = solve-bound;
-  meets-first = λ n A b m f. solve-met n A b m f;
+  meets-first = λ n A b m unlost. solve-met n A b m unlost;
   within = within;
   larger = λ n ys bs a b xs ws. larger-solve n ys bs xs ws a b;
   from-bound = λ n ys bs m xs ws h. same-met n ys bs xs ws Unlimited (Rows m) (let most = solve-bound n (entryAt n ys) (entry bs) in from-count m (stepsOfSolve n (entryAt n ys) (entry bs)) (omega arith));

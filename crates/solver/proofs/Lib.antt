@@ -16,4 +16,5 @@ pub mod ColumnSteps
 pub mod Accepted
 pub mod Allowances
 pub mod FiniteAnswers
+pub mod PassedOn
 pub mod Cases

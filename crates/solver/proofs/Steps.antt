@@ -1,10 +1,10 @@
 -- What the steps of an elimination count and meet.
 --     run-count  the row reductions are the pairs of column and other row whose factor is not skipped
---     run-met    where every number is finite: 18 where these are more than are allowed, else 13 or nothing
+--     run-met    where the work without a limit does not meet 20: 18 where these are more than are allowed, else 13 or nothing
 use Rattle.prelude.proofs.Prelude.{_≡_, refl, sym, ap, _∙_, Bool, true, false, _||_, cond, _⊎_, inl, inr, List, [], _∷_, _++_, ℕ, zero, suc, _+_, _-_, _<_, _≤_, arith, T, eqb, ltb, lt-ltb, le-ltb, Float}
 use Rattle.binary64.specs.Values.{allFinite}
 use Rattle.refusals.specs.Work.{Step, reduces, pivotTooSmall, computing, numbersIn, reductions, meets}
-use Rattle.refusals.proofs.Work.{meets-after, meets-first, finite-meets, marks, marks-both, marks-numbers, none-marked, marks-count, count-both, count-numbers, none-counted}
+use Rattle.refusals.proofs.Work.{meets-after, meets-first, unlost-meets, marks, marks-both, marks-numbers, none-marked, marks-count, count-both, count-numbers, none-counted}
 use Rattle.lists.specs.Buses.{upTo}
 use Rattle.lists.proofs.Order.{lt-or-ge}
 use Rattle.solver.specs.GaussJordan.{Operations, MatrixOf, Elimination, pivoted, scaled, cleared, gaussJordanFrom, gaussJordan, pairsIn, pairsFrom, pairs}
@@ -184,6 +184,6 @@ module _ {E : Type 0} (O : Operations E) (W : Workings E) where
   unfolding stepsOfRun pairs gaussJordan
   run-marked n w A m = run-from-met n w n 0 A m
 
-  pub run-met : (n w : ℕ) (A : MatrixOf E) (m : ℕ) → T (allFinite (numbersIn (stepsOfRun O W n w A)))
+  pub run-met : (n w : ℕ) (A : MatrixOf E) (m : ℕ) → (meets (reductions (stepsOfRun O W n w A)) (stepsOfRun O W n w A) ≡ 20 → ⊥)
       → meets m (stepsOfRun O W n w A) ≡ metBy m (pairs O n A) (gaussJordan O n A .singular)
-  run-met n w A m f = finite-meets m (stepsOfRun O W n w A) f ∙ run-marked n w A m
+  run-met n w A m unlost = unlost-meets m (stepsOfRun O W n w A) unlost ∙ run-marked n w A m

@@ -2,16 +2,15 @@
 use Prim.Native.Nat.{ℕ, _*_, _-_, _≤_}
 use mathlib.Core.Path.{_≡_}
 use mathlib.Core.List.{List}
-use lib.Dec.{T, ltb}
+use lib.Dec.{ltb}
 use lib.Ieee.{Float}
-use Rattle.binary64.specs.Values.{allFinite}
 use Rattle.complex.specs.declared.Complex.{Complex}
 use Rattle.complex.specs.Matrices.{Matrix}
 use Rattle.refusals.specs.declared.Allowance.{Allowance}
 use Rattle.refusals.specs.declared.Allowance.the-variants.{Unlimited, Rows}
 use Rattle.refusals.specs.declared.Counted.the-variants.{Reduced, Refused}
-use Rattle.refusals.specs.Refusals.{singular, beyondAllowance, refuse}
-use Rattle.refusals.specs.Work.{numbersIn, reductions, workRefusal, _noMoreThan_}
+use Rattle.refusals.specs.Refusals.{singular, beyondAllowance, computedNotFinite, refuse}
+use Rattle.refusals.specs.Work.{reductions, workRefusal, _noMoreThan_}
 use Rattle.solver.specs.GaussJordan.{pairs}
 use Rattle.solver.specs.Solving.{operations, isSingular}
 use Rattle.solver.specs.Steps.{stepsOfSolve}
@@ -22,9 +21,10 @@ pub record SolveAllowances : Type 0 where
   pub counts-pairs : (n : ℕ) (A : Matrix) (b : ℕ → Complex) → reductions (stepsOfSolve n A b) ≡ pairs operations n A
   -- it is at most n (n - 1)
   pub at-most : (n : ℕ) (A : Matrix) (b : ℕ → Complex) → reductions (stepsOfSolve n A b) ≤ n * (n - 1)
-  -- where every number computed is finite: 18 where more rows than are allowed are to be reduced, else 13 where a pivot is too small, which
-  -- comes by the system alone
-  pub meets-first : (n : ℕ) (A : Matrix) (b : ℕ → Complex) (allowed : ℕ) → T (allFinite (numbersIn (stepsOfSolve n A b)))
+  -- where the work without a limit does not meet 20: 18 where more rows than are allowed are to be reduced, else 13 where a pivot is too
+  -- small, which comes by the system alone
+  pub meets-first : (n : ℕ) (A : Matrix) (b : ℕ → Complex) (allowed : ℕ)
+      → (workRefusal Unlimited (stepsOfSolve n A b) ≡ computedNotFinite → ⊥)
       → workRefusal (Rows allowed) (stepsOfSolve n A b)
       ≡ refuse (ltb allowed (pairs operations n A)) beyondAllowance (refuse (isSingular n A) singular 0)
   -- an accepted solve reduces no more rows than are allowed

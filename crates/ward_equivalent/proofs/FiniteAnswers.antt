@@ -107,6 +107,12 @@ outputs-finite-extended X a o h =
       subst (λ (l : List Float). T (allFinite l)) (sym (compensation-accepted X a o h)) (map-finite (qCompensation E) (S .boundary) λ (t : ℕ) (l : t < length (S .boundary)). told t l .compensation),
     )
 
+ratio-finite-extended : (X : NumberedExtended) (a : Allowance) (o : ExtendedOutputs) → AcceptedExtended X a o → T (finite (summary (inRows (X .study)) .«reduction_ratio»))
+unfolding extendedInRows
+ratio-finite-extended X a o h =
+    let S = inRows (X .study) in
+    share-finite S (soundX X a o h) (matrix-given S (all-left (givenOf S) (X .v-ext) (given-finiteX X a o h))) (study-computed (extendedInRows X) (computed-finiteX X a o h))
+
 -- ---- what is accepted
 
 enough : (a : Allowance) (es : List Step) → ((m : ℕ) → meets m es ≡ cond (ltb m (reductions es)) 18 0) → Rows (reductions es) noMoreThan a → workRefusal a es ≡ 0
@@ -147,5 +153,6 @@ finite-studies = record {
   ratio-finite = ratio-finite;
   accepted = accepted;
   outputs-finite-extended = outputs-finite-extended;
+  ratio-finite-extended = ratio-finite-extended;
   accepted-extended = accepted-extended;
 }

@@ -23,4 +23,5 @@ pub mod Ties
 pub mod Extended
 pub mod Allowances
 pub mod FiniteAnswers
+pub mod PassedOn
 pub mod Cases

@@ -207,7 +207,8 @@ module _ (n : ℕ) (ys : List Float) (bs : List ℕ) (e f : ℕ) (base : Float) 
     where
       met : _≡_ {A = ℕ} 0 (cond (ltb allowed (pairs operations e (entryAt w before))) 18 (cond (singularStudy S) 13 0))
       met =
-          sym (done .none) ∙ run-met operations workings e w (entryAt w before) allowed (all-finite allowed (stepsOfRun operations workings e w (entryAt w before)) (done .none))
+          sym (done .none) ∙ run-met operations workings e w (entryAt w before) allowed
+          (finite-unlost _ _ (all-finite allowed (stepsOfRun operations workings e w (entryAt w before)) (done .none)))
           ∙ ap (λ (b : Bool). cond (ltb allowed (pairs operations e (entryAt w before))) 18 (cond b 13 0)) (pivots-of n ys bs e f base ps qs within before (done .held .filled))
 
       refuse : (t : Bool) → _≡_ {A = ℕ} 0 (cond t 18 13) → ⊥

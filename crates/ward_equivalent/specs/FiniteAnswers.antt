@@ -40,6 +40,8 @@ pub record FiniteStudies : Type 0 where
   pub outputs-finite-extended : (X : NumberedExtended) (a : Allowance) (o : ExtendedOutputs) → AcceptedExtended X a o
       → let left = afterComputeExtended X a o .outputs in
       FiniteOutputs (left .outputs) × T (allFinite (left .correction)) × T (allFinite (left .compensation))
+  pub ratio-finite-extended : (X : NumberedExtended) (a : Allowance) (o : ExtendedOutputs) → AcceptedExtended X a o
+      → T (finite (summary (inRows (X .study)) .«reduction_ratio»))
   pub accepted-extended : (X : NumberedExtended) (a : Allowance) (o : ExtendedOutputs) → extendedShapeRefusal X o ≡ 0
       → T (allFinite (givenOf (inRows (X .study)) ++ X .v-ext)) → T (allFinite (ofExtended (extendedInRows X)))
       → Regular (inRows (X .study))

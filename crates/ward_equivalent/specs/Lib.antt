@@ -8,4 +8,5 @@ pub mod Lengths
 pub mod Numbers
 pub mod Allowances
 pub mod FiniteAnswers
+pub mod PassedOn
 pub mod Inner
