@@ -1,13 +1,12 @@
 -- How large a rounded result can be. `Within B x`: x is finite, and at most B in size. B is a whole number that the format holds, q * 2 ^ j.
 --     round-within   a fraction at most B rounds to a number within B, and so is finite
 --     mul-within, add-within, sub-within, div-within   by the bounds of the operands
-use mathlib.Core.Path.{_≡_, refl, sym, ap, _∙_, subst}
-use mathlib.Core.Bool.{Bool, true, false, not, _&&_, cond, Bool·beq}
+use mathlib.Core.Path.{_≡_, sym, ap, _∙_, subst}
+use mathlib.Core.Bool.{Bool, true, false, _&&_, cond, Bool·beq}
 use Prim.Native.Nat.{ℕ, zero, suc, _+_, _-_, _*_, _/_, _%_, _^_, _≤_, _<_, compare, Ordering, Ordering·lt, compare·zero-suc}
-use native.Mathlib.Nat.{le-trans, le-of-eq, lt-of-le-of-lt, lt-irrefl, mul-comm, mul-assoc, mul-left-comm, mul-right-comm, mul-mul-mul-comm, mul-le-mul, mul-le-mul-right, mul-le-mul-left, le-of-mul-le-mul-right, mul-pos, mul-one, add-mul, mul-div-cancel, mul-mod-left, mul-lt-mul-of-pos-right, lt-of-lt-of-le, zero-mul, mul-zero, zero-lt-suc}
+use native.Mathlib.Nat.{le-trans, le-of-eq, lt-of-le-of-lt, lt-irrefl, mul-comm, mul-assoc, mul-right-comm, mul-mul-mul-comm, mul-le-mul, mul-le-mul-right, le-of-mul-le-mul-right, mul-pos, add-mul, mul-div-cancel, mul-mod-left, mul-lt-mul-of-pos-right, lt-of-lt-of-le, zero-mul, mul-zero, zero-lt-suc}
 use native.Mathlib.Omega.{arith}
-use lib.IntN.{ℤ}
-use lib.Dec.{T, ltb, eqb, ltb→lt, lt→ltb, eqb→eq, eqb·suc-zero}
+use lib.Dec.{T, ltb, eqb, eqb·suc-zero}
 use lib.Pow.{pow-add, pow-pos, shl-lt}
 use lib.Ieee.{Float, nan, inf, fin, Format, prec, emax, low, up, down, unlike, size, nearest, units, round, sum, neg, add, sub, mul, div}
 use lib.Ieee.Digits.{size-le, back}

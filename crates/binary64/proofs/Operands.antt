@@ -1,8 +1,6 @@
 -- What a finite result says of its operands: both of a sum, a difference or a product are finite, and the dividend of a quotient.
-use mathlib.Core.Bool.{Bool, true, false, not, cond, Bool·beq}
-use Prim.Native.Nat.{ℕ}
+use mathlib.Core.Bool.{Bool, true, false, cond, Bool·beq}
 use lib.Dec.{T, eqb}
-use lib.IntN.{ℤ}
 use lib.Ieee.{Float, nan, inf, fin, Format, unlike, neg, add, sub, mul, div}
 use lib.Ieee.Scale.{finite}
 

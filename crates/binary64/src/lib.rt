@@ -1,4 +1,5 @@
-// The root of a binary64 number, from its bits and whole numbers; `words` has a number as a 64-bit word, and back.
+// The root of a binary64 number, from its bits and whole numbers; `words` has a number as a 64-bit word, and back. For the layers above:
+// callers of the library take `complex::magnitude::sqrt`, which answers a finite root or none.
 use crate::steps::Operand;
 ghost use mathlib.Core.Path.{_≡_};
 ghost use Rattle.binary64.specs.Root.{root, Root};

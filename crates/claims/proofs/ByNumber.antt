@@ -1,5 +1,5 @@
 -- Buses told by number: what is said of numbers is said of their rows. Where the numbers are the rows, calls remove what they name.
-use Rattle.prelude.proofs.Prelude.{_≡_, refl, sym, ap, _∙_, subst, Bool, true, false, cond, inl, inr, List, [], _∷_, _++_, ℕ, zero, suc, _<_, T, eqb, ltb, length, getD, replicate, ap₂, map, lt-irrefl, leb, ltb→lt, and-l, and-r}
+use Rattle.prelude.proofs.Prelude.{_≡_, refl, sym, ap, _∙_, subst, Bool, false, cond, inl, inr, List, [], _∷_, _++_, ℕ, zero, suc, _<_, T, eqb, ltb, length, getD, replicate, ap₂, map, lt-irrefl, leb, ltb→lt, and-l, and-r}
 use mathlib.Core.Path.{subst₂}
 use Rattle.lists.specs.Buses.{upTo, mem, _isOneOf_, place, allBelow, repeats, within, rowsIn}
 use Rattle.binary64.specs.Values.{allFinite}

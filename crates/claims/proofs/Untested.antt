@@ -1,5 +1,5 @@
 -- 20 refuses nothing finite: where every number of the removals that 11 and 12 alone let through is finite, those are the removals.
-use Rattle.prelude.proofs.Prelude.{_≡_, refl, sym, ap, _∙_, subst, Bool, true, false, not, _&&_, cond, List, [], _∷_, _++_, ℕ, T, eqb, length, leb, Float, append-assoc, is-true}
+use Rattle.prelude.proofs.Prelude.{_≡_, refl, sym, ap, _∙_, subst, Bool, true, false, not, _&&_, cond, List, [], _∷_, _++_, ℕ, T, eqb, length, leb, Float, append-assoc}
 use Rattle.binary64.specs.Values.{allFinite}
 use Rattle.complex.specs.{tooSmall}
 use Rattle.complex.proofs.Finite.{all-left, all-right}

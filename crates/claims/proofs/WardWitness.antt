@@ -1,6 +1,6 @@
 -- Studies that meet the premises of `wardRows`, one of each kind: the row of bus 3 has zeros towards both external buses and keeps its values,
 -- the row of bus 2 changes and gets an injection. A bus is told by its row in the matrix, in the study's lists by number.
-use Rattle.prelude.proofs.Prelude.{not, List, [], _∷_, ℕ, T, getD, nan, lit<, ofBits, sub, mul, div, lt, eq, ofInt}
+use Rattle.prelude.proofs.Prelude.{refl, not, List, [], _∷_, ℕ, T, getD, nan, lit<, lit≤, ofBits, sub, mul, div, lt, eq, ofInt}
 use Rattle.complex.specs.{cadd, csub, cmul, cdiv, complexInv, entry, magnitude, entryAt, zeros, Zero}
 use Rattle.binary64.specs.Root.{root}
 use Rattle.lists.specs.Buses.{upTo, allBelow}
@@ -9,10 +9,11 @@ use Rattle.solver.specs.GaussJordan.{solution, singularSystem}
 use Rattle.solver.specs.Solving.{skipped}
 use Rattle.refusals.specs.declared.Allowance.{Allowance}
 use Rattle.refusals.specs.declared.Allowance.the-variants.{Rows}
-use Rattle.refusals.specs.Work.{numbersIn, thenWork}
+use Rattle.refusals.specs.Work.{numbersIn, reductions, thenWork, _noMoreThan_}
 use Rattle.solver.specs.Steps.{ofSearch, ofScaling, ofReducing, stepsOfRow, stepsOfRows, stepsFrom, stepsOfRun, stepsOfSolve}
 use Rattle.ward_equivalent.specs.Ward.{Study, Outputs, givenOf}
-use Rattle.ward_equivalent.specs.Steps.{ofExtended}
+use Rattle.ward_equivalent.specs.Steps.{stepsOf, ofExtended}
+use Rattle.ward_equivalent.specs.FiniteAnswers.{Regular}
 use Rattle.ward_equivalent.specs.Extended.{ExtendedStudy, ExtendedOutputs}
 use Rattle.ward_equivalent.specs.Numbers.{NumberedStudy, NumberedExtended, numberedExtendedOf, inRows, extendedInRows, AcceptedStudy, AcceptedExtended, afterCompute, afterComputeExtended}
 use Rattle.claims.specs.Finite.{ofBitPatterns}
@@ -121,3 +122,21 @@ keeps-x = demand3 .ward .extended NX eight wide (words-f64s line) (search accept
 changes-x : T (not (isZero (getD (afterComputeExtended NX eight wide .outputs .correction) 1 nan)))
 unfolding studied
 changes-x = tt
+
+-- ---- nothing finite is refused: both kinds meet these premises, with an allowance of as many rows as the solves reduce
+
+regular : Regular S
+unfolding studied Regular
+regular = tt
+
+enough : Rows (reductions (stepsOf S)) noMoreThan eight
+unfolding studied reductions _noMoreThan_
+enough = lit≤ tt
+
+accepts : AcceptedStudy N eight o
+unfolding studied
+accepts = demand3 .ward .accepts N eight o refl finite-study regular enough
+
+accepts-x : AcceptedExtended NX eight wide
+unfolding studied
+accepts-x = demand3 .ward .accepts-extended NX eight wide refl finite-extended regular enough

@@ -1,5 +1,5 @@
 -- What an operation answers by its result alone.
-use Rattle.prelude.proofs.Prelude.{_≡_, refl, sym, ap, _∙_, Bool, true, false, _&&_, cond, true≢false, List, [], _∷_, _++_, T, Float, nan, inf, fin, neg, lt, sub, finite, and-i}
+use Rattle.prelude.proofs.Prelude.{_≡_, refl, sym, ap, _∙_, Bool, true, false, _&&_, cond, true≢false, List, [], _∷_, Float, nan, inf, fin, neg, finite}
 use Rattle.binary64.specs.Values.{allFinite}
 use Rattle.complex.specs.declared.Complex.{Complex}
 use Rattle.complex.specs.declared.Pair.{Pair}
@@ -7,7 +7,7 @@ use Rattle.complex.specs.declared.Pair.the-variants as pairs
 use Rattle.complex.specs.declared.magnitude.Real.{Real}
 use Rattle.complex.specs.declared.magnitude.Real.the-variants as reals
 use Rattle.complex.specs.Arithmetic.{cneg, sqmag, cdiv}
-use Rattle.complex.specs.Computed.{ofParts, ofSqmag, ofQuotient}
+use Rattle.complex.specs.Computed.{ofParts, ofQuotient}
 use Rattle.complex.specs.Magnitude.{abs}
 use Rattle.complex.specs.Leaves.{pair, real}
 use Rattle.complex.proofs.Sticky.{quotient-tells}

@@ -1,5 +1,5 @@
 -- The root of a number that is finite alone is finite: so the magnitude tells of the squared magnitude, and of the numbers in it.
-use Rattle.prelude.proofs.Prelude.{_≡_, [], _∷_, _++_, true, false, T, Float, nan, inf, fin, finite}
+use Rattle.prelude.proofs.Prelude.{_≡_, [], _∷_, true, false, T, Float, nan, inf, fin, finite}
 use Rattle.binary64.specs.Values.{allFinite}
 use Rattle.binary64.specs.Root.{root}
 use Rattle.complex.specs.declared.Complex.{Complex}

@@ -1,7 +1,7 @@
 -- How large the numbers of an operation are, by powers of two: `In k x` says that x is finite and at most 2 ^ k in size.
 --     mul-in, add-in, sub-in, div-in, cmul-in, cadd-in, csub-in, cdiv-in   by the operands' sizes
 --     ordinary-in, ordinary-beyond   what the machine's tests show
-use Rattle.prelude.proofs.Prelude.{_≡_, refl, sym, ap, subst, _∙_, true, false, _&&_, List, [], _∷_, ℕ, zero, suc, _+_, _*_, _^_, _≤_, _<_, arith, T, lit<, lit≤, ltb, ltb→lt, ltb-false, le-of-eq, down-pos, length, getD, Float, nan, inf, fin, binary64, up, down, lt, neg, ofBits, and-l, and-r, finite, le-trans, mul-le-mul-right, mul-comm}
+use Rattle.prelude.proofs.Prelude.{_≡_, refl, sym, ap, subst, _∙_, true, false, _&&_, List, [], _∷_, ℕ, zero, suc, _+_, _*_, _^_, _≤_, _<_, arith, T, lit<, ltb, ltb→lt, ltb-false, le-of-eq, down-pos, length, getD, Float, nan, inf, fin, binary64, up, down, lt, neg, ofBits, and-l, and-r, finite, le-trans, mul-le-mul-right, mul-comm}
 use native.Mathlib.Nat.{le-of-lt, mul-one, one-mul, two-mul}
 use lib.Pow.{pow-add, pow-mono, pow-lt}
 use lib.IntN.{ℤ, pos, negsuc}
@@ -9,7 +9,6 @@ use Rattle.binary64.specs.Values.{allFinite}
 use Rattle.binary64.proofs.Magnitudes.{Within, Held, Beyond, within-finite, mul-within, add-within, sub-within, div-within}
 use Rattle.complex.specs.declared.Complex.{Complex}
 use Rattle.complex.specs.Arithmetic.{_⊕_, _⊖_, _⊗_, _⊘_, tooSmall, cadd, csub, cmul, cdiv, sqmag}
-use Rattle.complex.specs.Constants.{divisionLimit}
 use Rattle.complex.specs.Inner.Ordinary.{ordinary, allOrdinary, ordinaryLimit, ordinarySquare}
 use Rattle.complex.proofs.Finite.{none, all-more}
 

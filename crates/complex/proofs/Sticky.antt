@@ -3,14 +3,14 @@
 --     ..-finite   the numbers on the way
 --     ..-tells    the result alone tells all of them
 --     ..-given    the operands
-use Rattle.prelude.proofs.Prelude.{_≡_, refl, sym, subst, Bool, true, false, _&&_, cond, List, [], _∷_, _++_, T, Float, inf, binary64, lt, and-i, and-l, and-r, finite}
+use Rattle.prelude.proofs.Prelude.{_≡_, refl, subst, Bool, true, false, _&&_, cond, [], _∷_, T, inf, binary64, lt, and-i, and-l, and-r, finite}
 use Rattle.binary64.specs.Values.{allFinite}
 use Rattle.binary64.proofs.Operands.{add-operands, sub-operands, mul-operands, dividend}
 use Rattle.complex.specs.declared.Complex.{Complex}
 use Rattle.complex.specs.Constants.{divisionLimit}
-use Rattle.complex.specs.Arithmetic.{_⊕_, _⊖_, _⊗_, _⊘_, tooSmall, cadd, csub, cmul, cdiv, sqmag}
-use Rattle.complex.specs.Computed.{ofParts, ofSum, ofProduct, ofDifference, ofSqmag, ofQuotient}
-use Rattle.complex.proofs.Finite.{none, all-more, all-join, all-left, all-right, first-of, rest-of}
+use Rattle.complex.specs.Arithmetic.{_⊕_, _⊖_, _⊗_, _⊘_, cadd, csub, cmul, cdiv, sqmag}
+use Rattle.complex.specs.Computed.{ofParts, ofProduct, ofSqmag, ofQuotient}
+use Rattle.complex.proofs.Finite.{none, all-more, all-join, first-of, rest-of}
 
 -- both parts are finite
 abbrev pub Finite : Complex → Type 0

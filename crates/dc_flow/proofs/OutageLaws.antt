@@ -1,5 +1,5 @@
 -- Lists of numbers by a rule, rows of them, and a row of the PTDF as a part of its slice.
-use Rattle.prelude.proofs.Prelude.{_≡_, refl, sym, _∙_, inl, inr, List, [], _∷_, _++_, ℕ, zero, suc, _+_, _-_, _*_, _≤_, _<_, add-one, arith, T, length, getD, take, drop, Float, nan, suc-mul, zero-mul, set, length-append, length-drop, List·getD-append, getD-take, getD-drop, length-take-le}
+use Rattle.prelude.proofs.Prelude.{_≡_, refl, sym, _∙_, Bool, true, false, true≢false, eqb, eqb-true, eq-eqb, inl, inr, List, [], _∷_, _++_, ℕ, zero, suc, _+_, _-_, _*_, _≤_, _<_, add-one, arith, T, length, getD, take, drop, Float, nan, suc-mul, zero-mul, set, length-set, ext-getD, getD-set-same, getD-set-other, length-append, length-drop, List·getD-append, getD-take, getD-drop, length-take-le}
 use lib.Seq.{getD-at}
 use Rattle.lists.proofs.Order.{lt-or-ge}
 use Rattle.lists.specs.Buses.{allBelow}
@@ -38,6 +38,20 @@ pub realRow-same : (F G : ℕ → Float) (m : ℕ) → ((k : ℕ) → k < m → 
 unfolding realRow
 realRow-same F G zero h = refl
 realRow-same F G (suc m) h = rw (realRow-same F G m (λ k l. h k (omega arith)), h m (omega arith))
+
+-- one number is written over: all others are the same
+pub realRow-set : (F G : ℕ → Float) (m l : ℕ) (v : Float) → l < m → v ≡ G l → ((k : ℕ) → eqb l k ≡ false → F k ≡ G k)
+    → set (realRow F m) l v ≡ realRow G m
+realRow-set F G m l v h q others =
+    ext-getD nan _ _ (length-set (realRow F m) l v ∙ length-realRow F m ∙ sym (length-realRow G m))
+    (λ k i. at k (rw (length-set (realRow F m) l v, length-realRow F m) at i) (eqb l k) refl)
+  where
+    at : (k : ℕ) → k < m → (same : Bool) → eqb l k ≡ same → getD (set (realRow F m) l v) k nan ≡ getD (realRow G m) k nan
+    at k i true e =
+        let own : l ≡ k = eqb-true l k e in
+        rw (← own, getD-set-same (realRow F m) l v nan (rw length-realRow h), q) (sym (getD-realRow G m l h))
+    at k i false e =
+        getD-set-other (realRow F m) l k v nan (λ p. true≢false (sym (eq-eqb l k (sym p)) ∙ e)) ∙ getD-realRow F m k i ∙ others k e ∙ sym (getD-realRow G m k i)
 
 module _ (F : ℕ → ℕ → Float) (m : ℕ) where
   pub length-realGrid : (l : ℕ) → length (realGrid F m l) ≡ l * m

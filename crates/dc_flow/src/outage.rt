@@ -4,6 +4,7 @@ use binary64::finite::finite;
 use complex::constants::SMALL_MAGNITUDE;
 use complex::raw::abs;
 use refusals::LIMIT;
+ghost use mathlib.Core.Bool.{false};
 ghost use mathlib.Core.Path.{_≡_};
 ghost use Prim.Native.Nat.{_<_, _≤_, _*_};
 ghost use lib.ListN.{length};
@@ -139,7 +140,7 @@ fn outage_rows(n: usize, ptdf: &[f64], froms: &[usize], tos: &[usize], ds: &[f64
     }
 }
 
-// Row l, from that row of the PTDF.
+// Row l, from that row of the PTDF: as if each branch were another, then its own entry.
 fn outage_row(l: usize, t: &[f64], froms: &[usize], tos: &[usize], ds: &[f64], row: &mut [f64])
     requires { ⌜
         (T (buses.allBelow (length (now t)) (now froms)))
@@ -156,11 +157,70 @@ fn outage_row(l: usize, t: &[f64], froms: &[usize], tos: &[usize], ds: &[f64], r
         (length (now (froms .entry)))
         ⌝ }
 {
-    let mut k = 0;
-    while k < froms.len() {
-        row[k] = outage_factor(l, k, row_transfer(t, froms[k], tos[k]), ds[k]);
-        k += 1;
+    quotient_row(t, froms, tos, ds, row);
+    if l < row.len() {
+        row[l] = -1.0;
     }
+}
+
+// The factors of a branch for the outages of others, from its row of the PTDF: two a turn, both before either is written, so that two
+// divisions run at once.
+fn quotient_row(t: &[f64], froms: &[usize], tos: &[usize], ds: &[f64], row: &mut [f64])
+    requires { ⌜
+        (T (buses.allBelow (length (now t)) (now froms)))
+        × (T (buses.allBelow (length (now t)) (now tos)))
+        ⌝ }
+    requires { ⌜
+        (length (now tos) ≡ length (now froms))
+        × (length (now ds) ≡ length (now froms))
+        × (length (now row) ≡ length (now froms))
+        ⌝ }
+    ensures { λ _. ⌜
+        now (row .exit)
+        ≡ spec.realRow (rows.rowFactor false (now (t .entry)) (now (froms .entry)) (now (tos .entry)) (now (ds .entry)))
+        (length (now (froms .entry)))
+        ⌝ }
+{
+    let m = froms.len();
+    let mut k = 0;
+    while k + 1 < m {
+        let first = quotient_at(t, froms, tos, ds, k);
+        let second = quotient_at(t, froms, tos, ds, k + 1);
+        row[k] = first;
+        row[k + 1] = second;
+        k += 2;
+    }
+    if k < m {
+        row[k] = quotient_at(t, froms, tos, ds, k);
+    }
+}
+
+// The factor of a branch for the outage of another, k, from its row of the PTDF.
+fn quotient_at(t: &[f64], froms: &[usize], tos: &[usize], ds: &[f64], k: usize) -> f64
+    requires { ⌜
+        (T (buses.allBelow (length (now t)) (now froms)))
+        × (T (buses.allBelow (length (now t)) (now tos)))
+        ⌝ }
+    requires { ⌜
+        (length (now tos) ≡ length (now froms))
+        × (length (now ds) ≡ length (now froms))
+        × (k < length (now froms))
+        ⌝ }
+    ensures { λ r. ⌜ r ≡ rows.rowFactor false (now (t .entry)) (now (froms .entry)) (now (tos .entry)) (now (ds .entry)) k ⌝ }
+{
+    quotient(row_transfer(t, froms[k], tos[k]), ds[k])
+}
+
+// The factor of a branch for the outage of another, from what it takes of a transfer between that one's ends and from that one's
+// denominator d: divided before the test, so that two divisions run at once.
+fn quotient(taken: f64, d: f64) -> f64
+    ensures { λ r. ⌜ r ≡ spec.outageFactor false taken d ⌝ }
+{
+    let q = taken / d;
+    if abs(d) < SMALL_MAGNITUDE {
+        return 0.0;
+    }
+    q
 }
 
 // The factor of branch l for the outage of branch k, from what l takes of a transfer between k's ends and from k's denominator d.
@@ -170,10 +230,7 @@ fn outage_factor(l: usize, k: usize, taken: f64, d: f64) -> f64
     if l == k {
         return -1.0;
     }
-    if abs(d) < SMALL_MAGNITUDE {
-        return 0.0;
-    }
-    taken / d
+    quotient(taken, d)
 }
 
 // Whether every number that the outage factors take is finite. A number that is not finite stays, but as a divisor: so the

@@ -1,7 +1,7 @@
 -- What an accepted call leaves in the present rows, or writes, is finite.
-use Rattle.prelude.proofs.Prelude.{_≡_, refl, sym, ap, _∙_, subst, List, [], _∷_, _++_, ℕ, zero, suc, _+_, _*_, arith, T, length, take, replicate, Float, ofBits, finite, take-at, is-true}
+use Rattle.prelude.proofs.Prelude.{_≡_, refl, sym, ap, _∙_, subst, List, [], _∷_, _++_, ℕ, zero, suc, _+_, _*_, arith, T, length, replicate, Float, ofBits, take-at}
 use Rattle.binary64.specs.Values.{allFinite}
-use Rattle.complex.specs.{Complex, plus0, cadd, csub, cmul, ofParts, ofSum, ofDifference, ofProduct, entry as entryOf, entryAt, zeros, rows, Matrix}
+use Rattle.complex.specs.{Complex, plus0, cadd, cmul, ofParts, ofSum, ofDifference, ofProduct, entry as entryOf, entryAt, zeros, rows, Matrix}
 use Rattle.complex.proofs.Finite.{none, all-more, all-join, all-right, all-at}
 use Rattle.complex.proofs.Matrices.{length-rows, entry-within}
 use Rattle.lists.proofs.Buses.{below-upTo}
@@ -17,8 +17,8 @@ use Rattle.solver.specs.Steps.{stepsOfInverse}
 use Rattle.kron_reduction.specs.declared.KronReducer.{KronReducer}
 use Rattle.kron_reduction.specs.declared.Impedance.{Impedance}
 use Rattle.kron_reduction.specs.declared.Impedance.the-variants.{Value, Refused}
-use Rattle.kron_reduction.specs.Kron.{State, start, remove, eliminate, carriedOut}
-use Rattle.kron_reduction.specs.Reducer.{recordOf, activeOf, rowOf, numbersOf, present, inputRefusal, stateOf, rowMajor, stored, leaves, rowsOf, removedRows, afterBus, afterBuses, ReducerState}
+use Rattle.kron_reduction.specs.Kron.{start, remove, eliminate, carriedOut}
+use Rattle.kron_reduction.specs.Reducer.{recordOf, activeOf, rowOf, numbersOf, present, inputRefusal, stateOf, rowMajor, stored, leaves, rowsOf, removedRows, afterBus, afterBuses}
 use Rattle.kron_reduction.specs.Reading.{readingShapeRefusal, readingRefusal, afterMatrix, two, theveninOf, ofThevenin, stepsOfImpedance, impedance, impedanceNumber, impedanceTold, afterImpedance}
 use Rattle.kron_reduction.specs.FiniteAnswers.{FiniteAnswers}
 use Rattle.kron_reduction.proofs.States.{Accepted, taken-accepted, FiniteIn, finite-remove, finite-eliminate, rows-finite}

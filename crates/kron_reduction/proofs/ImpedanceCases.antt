@@ -1,5 +1,5 @@
 -- Impedances of small matrices, computed: 20 of the impedance's own numbers, and of a column of the inverse that is not read.
-use Rattle.prelude.proofs.Prelude.{_≡_, refl, cond, ℕ, eqb, Float, binary64, lt, add, sub, mul, div, ofBits}
+use Rattle.prelude.proofs.Prelude.{_≡_, refl, cond, eqb, Float, binary64, lt, add, sub, mul, div, ofBits}
 use Rattle.binary64.specs.Values.{allFinite}
 use Rattle.complex.specs.{Matrix, plus0, one, divisionLimit, cadd, csub, cmul, sqmag, cdiv, complexInv, abs}
 use Rattle.lists.specs.Buses.{upTo}

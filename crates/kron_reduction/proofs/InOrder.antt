@@ -5,11 +5,10 @@ use Rattle.complex.specs.{divisionLimit, tooSmall, ofSqmag}
 use Rattle.complex.proofs.Finite.{all-both}
 use Rattle.complex.proofs.Squares.{sqmag-below}
 use Rattle.refusals.specs.Refusals.{notActive, smallEntry, computedNotFinite, refuse}
-use Rattle.refusals.specs.declared.Allowance.the-variants.{Unlimited}
-use Rattle.refusals.specs.Work.{Step, entryTooSmall, computing, reductions, meets, granted, workRefusal}
+use Rattle.refusals.specs.Work.{entryTooSmall, computing, reductions, meets, granted, workRefusal}
 use Rattle.refusals.proofs.Work.{meets-numbers, numbers-met}
 use Rattle.lists.specs.Buses.{mem}
-use Rattle.kron_reduction.specs.Kron.{State, remove, ofRows, ofRemoval, removalRefusal, stepsOfRemoval, MetInOrder}
+use Rattle.kron_reduction.specs.Kron.{remove, ofRows, removalRefusal, stepsOfRemoval, MetInOrder}
 
 -- by the two lists of numbers, and the test between them
 in-turn : (m : ℕ) (square rows : List Float) (small : Bool) → (T small → T (allFinite square))

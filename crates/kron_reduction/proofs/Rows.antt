@@ -1,13 +1,13 @@
 -- The refusal of a removal, told of the n rows at the front of a slice, and the same of the state that they hold.
-use Rattle.prelude.proofs.Prelude.{_≡_, refl, sym, ap, _∙_, subst, Bool, true, false, cond, List, [], _∷_, _++_, inl, inr, ℕ, _*_, _≤_, _<_, T, eqb, eqb→eq, length, getD, take, Float, finite, ap₂, is-true, lt, arith}
+use Rattle.prelude.proofs.Prelude.{_≡_, refl, sym, ap, _∙_, subst, Bool, true, false, cond, List, [], _∷_, inl, inr, ℕ, _*_, _≤_, _<_, T, length, getD, take, Float, finite, ap₂, is-true, lt, arith}
 use Rattle.binary64.specs.Values.{allFinite}
-use Rattle.complex.specs.{Complex, Matrix, entryAt, divisionLimit, cmul, sqmag, tooSmall, ofParts, ofProduct, ofQuotient}
+use Rattle.complex.specs.{Matrix, entryAt, divisionLimit, sqmag, tooSmall}
 use Rattle.complex.specs.Inner.Ordinary.{ordinarySquare, allOrdinary}
 use Rattle.complex.proofs.Sticky.{same-test}
 use Rattle.lists.specs.Buses.{mem, _isOneOf_, upTo, others, place, rising}
-use Rattle.lists.proofs.Buses.{failed, in-head, in-tail, in-cases, or-right, stays, getD-in, place-lt, getD-place, place-getD, below-upTo, in-upTo}
+use Rattle.lists.proofs.Buses.{failed, in-head, in-tail, in-cases, stays, getD-in, place-lt, getD-place, place-getD, below-upTo, in-upTo}
 use Rattle.refusals.specs.Refusals.{smallEntry, computedNotFinite}
-use Rattle.kron_reduction.specs.Kron.{newEntry, kron, State, start, remove, ofNewEntry, ofRemoval, removalRefusal}
+use Rattle.kron_reduction.specs.Kron.{kron, State, start, ofNewEntry, ofRemoval, removalRefusal}
 use Rattle.kron_reduction.specs.Inner.Removal.{ofEntry, Fine}
 use Rattle.kron_reduction.specs.Reducer.{stateIn}
 use Rattle.kron_reduction.proofs.Numbers.{removal-finite, removal-square, removal-at}

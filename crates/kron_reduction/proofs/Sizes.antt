@@ -1,9 +1,9 @@
 -- Numbers of ordinary size: where the parts of all entries are below 2 ^ 200 in size and y_kk's squared magnitude is not below 2 ^ -400, every number of a new
 -- entry is finite.
-use Rattle.prelude.proofs.Prelude.{_≡_, refl, sym, ap, _∙_, subst, Bool, true, false, not, _&&_, List, [], _∷_, _++_, ℕ, zero, suc, _+_, _*_, _^_, _≤_, _<_, arith, T, ltb, lit≤, ltb→lt, ltb-false, length, getD, take, Float, nan, inf, fin, binary64, up, down, lt, neg, ofBits, finite, and-i, and-l, and-r, is-true, down-pos, le-trans, le-of-eq, mul-comm, getD-take, length-take-le}
+use Rattle.prelude.proofs.Prelude.{_≡_, refl, subst, false, List, _++_, ℕ, _+_, _*_, _^_, _≤_, _<_, arith, T, lit≤, length, getD, take, Float, nan, lt, finite, getD-take, length-take-le}
 use Rattle.binary64.specs.Values.{allFinite}
 use Rattle.binary64.proofs.Magnitudes.{Beyond}
-use Rattle.complex.specs.{Complex, Matrix, entry, entryAt, divisionLimit, _⊕_, _⊖_, _⊗_, csub, cmul, cdiv, sqmag, ofParts, ofProduct, ofQuotient}
+use Rattle.complex.specs.{Complex, Matrix, entry, entryAt, divisionLimit, csub, cmul, cdiv, sqmag, ofParts, ofProduct, ofQuotient}
 use Rattle.complex.specs.Inner.Ordinary.{ordinarySquare, allOrdinary}
 use Rattle.complex.proofs.Finite.{all-join}
 use Rattle.complex.proofs.Matrices.{entry-within}

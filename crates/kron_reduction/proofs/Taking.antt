@@ -1,10 +1,10 @@
 -- What one removal, and a list of them, answers and leaves, from what the code finds: the row of the bus, its own entry, the places and the rows closed up.
-use Rattle.prelude.proofs.Prelude.{_≡_, refl, sym, ap, _∙_, true, false, List, [], _∷_, _++_, ℕ, suc, _+_, _-_, _*_, _≤_, _<_, add-one, arith, T, eqb, length, getD, take, drop, replicate, Float, ap₂, append-nil, append-assoc, le-trans, add-zero, sub-zero, mul-le-mul, mul-le-mul-left, eq-eqb, ne-eqb, length-take, drop-of-length-le, length-take-le, take-suc, drop-cons, take-append-seam, is-true}
+use Rattle.prelude.proofs.Prelude.{_≡_, refl, sym, ap, _∙_, true, false, List, [], _∷_, _++_, ℕ, suc, _+_, _-_, _*_, _≤_, _<_, add-one, arith, T, eqb, length, getD, take, drop, replicate, Float, ap₂, append-nil, append-assoc, le-trans, add-zero, sub-zero, mul-le-mul, mul-le-mul-left, eq-eqb, ne-eqb, length-take, drop-of-length-le, length-take-le, take-suc, drop-cons, take-append-seam}
 use Rattle.complex.specs.{entryAt}
 use Rattle.complex.specs.Inner.Ordinary.{allOrdinary}
 use Rattle.refusals.specs.Refusals.{limit, notActive}
 use Rattle.lists.specs.declared.Found.the-variants.{At, Nothing}
-use Rattle.lists.specs.Buses.{mem, _isOneOf_, rising, foundIn}
+use Rattle.lists.specs.Buses.{_isOneOf_, rising, foundIn}
 use Rattle.kron_reduction.specs.Kron.{kron, State, start, remove, removalRefusal, accepts, eliminate, carriedOut, stoppedBy}
 use Rattle.kron_reduction.specs.Inner.Removal.{oldRow, StandsIn, Holds, RemovedOne, RemovedAll}
 use Rattle.kron_reduction.specs.Reducer.{padded, stateIn}

@@ -1,9 +1,9 @@
 -- What the careful pass tells: of an entry by what its operations answer, of a row and of all rows by what its loop has passed.
-use Rattle.prelude.proofs.Prelude.{_≡_, refl, sym, ap, _∙_, subst, Bool, true, false, _&&_, cond, true≢false, List, [], _∷_, _++_, inl, inr, ℕ, suc, _+_, _≤_, _<_, arith, T, Float, finite}
+use Rattle.prelude.proofs.Prelude.{_≡_, sym, ap, _∙_, subst, Bool, true, false, _&&_, _++_, ℕ, _+_, _≤_, _<_, arith, T}
 use borrow.Author.Count.{below-more}
 use Rattle.binary64.specs.Values.{allFinite}
 use Rattle.complex.specs.declared.Pair.the-variants.{Finite, NotFinite}
-use Rattle.complex.specs.{Complex, Matrix, csub, cmul, cdiv, ofParts, ofDifference, ofProduct, ofQuotient}
+use Rattle.complex.specs.{Complex, Matrix, csub, cmul, cdiv, ofDifference, ofProduct, ofQuotient}
 use Rattle.complex.specs.Leaves.{product, quotient, difference}
 use Rattle.complex.proofs.Answers.{pair-tells, pair-tells-not}
 use Rattle.complex.proofs.Finite.{all-both}

@@ -103,7 +103,8 @@ MetInOrder = (s : State) (k : ℕ) → removalRefusal s k ≡ cond (mem k (s .ac
 -- the new entry in row i and column j by the operations that answer a finite number or none, each behind the one before
 unfoldable pub entryAnswer : ℕ → Matrix → ℕ → ℕ → Pair
 unfolding product quotient difference passing
-entryAnswer k Y i j = passing (product (Y i k) (Y k j)) (λ (p : Complex). passing (quotient p (Y k k)) (λ (q : Complex). difference (Y i j) q))
+entryAnswer k Y i j =
+    passing (product (Y i k) (Y k j)) (λ (p : Complex). passing (quotient p (Y k k)) (λ (q : Complex). difference (Y i j) q))
 
 -- what these answer is passed on
 pub record PassedOn : Type 0 where

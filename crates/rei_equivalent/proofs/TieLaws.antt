@@ -1,7 +1,7 @@
 -- Spokes and ties written one after the other: what is still to be written, written over what stands, is the whole.
-use Rattle.prelude.proofs.Prelude.{_≡_, refl, ap, _∙_, Bool, true, false, cond, List, [], _∷_, _++_, ℕ, zero, suc, _+_, _-_, _*_, _≤_, _<_, add-one, arith, length, getD, take, drop, Float, append-nil, sub-zero, suc-mul, set, length-append, length-drop, drop-of-length-le, sets, getD-drop, take-at}
+use Rattle.prelude.proofs.Prelude.{_≡_, refl, ap, _∙_, Bool, true, false, cond, List, [], _∷_, _++_, ℕ, zero, suc, _+_, _-_, _*_, _≤_, _<_, add-one, arith, length, getD, take, drop, replicate, Float, append-nil, zero-add, suc-mul, set, length-append, length-drop, length-replicate, length-take-le, drop-of-length-le, sets, getD-drop, take-at}
 use native.Mathlib.Nat.{mul-sub, mul-one, mul-suc, le-mul-of-pos-right}
-use lib.Seq.{drop-at}
+use lib.Seq.{drop-at, length-sets, sets-eq}
 use Rattle.complex.specs.{Complex, entry, put, Matrix, entryAt, cneg}
 use Rattle.complex.proofs.Matrices.{entry-part}
 use Rattle.lists.specs.Buses.{upTo}
@@ -26,12 +26,22 @@ module _ {ℓ} {A : Type ℓ} where
       let e : i + suc (length vs) ≡ suc i + length vs = omega arith in
       rw e (sets-append (set l i v) (suc i) vs ws)
 
--- two parts are written one after the other
-pub two-parts : (xs ys out mid : List ℕ) (k e : ℕ) → length xs ≡ k → e ≡ length out → length out ≡ length xs + length ys → mid ≡ xs ++ drop (k - 0) out
-    → take k mid ++ (ys ++ drop (e - k) (drop k mid)) ≡ xs ++ ys
-two-parts xs ys out mid k e h f g m =
-    let r : length (drop k out) ≤ e - k = rw (length-drop k out, f) (omega arith) in
-    rw (m, sub-zero, take-at xs (drop k out) k h, drop-at xs (drop k out) k h, drop-of-length-le (drop k out) {i = e - k} r, append-nil ys)
+  -- two parts are written one after the other
+  pub two-parts : (xs ys out mid : List A) (k e : ℕ) → length xs ≡ k → e ≡ length out → length out ≡ length xs + length ys → mid ≡ xs ++ drop k out
+      → take k mid ++ (ys ++ drop (e - k) (drop k mid)) ≡ xs ++ ys
+  two-parts xs ys out mid k e h f g m =
+      let r : length (drop k out) ≤ e - k = rw (length-drop k out, f) (omega arith) in
+      rw (m, take-at xs (drop k out) k h, drop-at xs (drop k out) k h, drop-of-length-le (drop k out) {i = e - k} r, append-nil ys)
+
+  -- the first part is written over what stands, and z to every place behind it
+  pub then-cleared : (xs out mid : List A) (z : A) (k e : ℕ) → length xs ≡ k → e ≡ length out → k ≤ e → mid ≡ sets out 0 xs
+      → take k mid ++ (replicate (length (take (e - k) (drop k mid))) z ++ drop (e - k) (drop k mid)) ≡ xs ++ replicate (e - k) z
+  then-cleared xs out mid z k e h f g m =
+      let w = ap length m ∙ length-sets out 0 xs in
+      let d = length-drop k mid in
+      let r : length (take (e - k) (drop k mid)) ≡ e - k = length-take-le (e - k) (drop k mid) (omega arith) in
+      let q = length-replicate (e - k) z in
+      rw r (two-parts xs (replicate (e - k) z) out mid k e h f (omega arith) (m ∙ sets-eq xs out 0 (omega arith) ∙ rw (zero-add, h)))
 
 -- ---- spokes
 

@@ -10,16 +10,15 @@ use lists::checks::no_buses;
 ghost use mathlib.Core.Path.{_≡_};
 ghost use mathlib.Core.Bool.{cond};
 ghost use Prim.Native.Nat.{_<_, _≤_, _*_, _+_, _-_};
-ghost use lib.ListN.{length, set, replicate, drop};
+ghost use lib.ListN.{length, set, drop};
 ghost use Rattle.complex.specs.Entries as entries;
-ghost use Rattle.complex.specs.Matrices as matrices;
 ghost use Rattle.lists.specs.Buses.{upTo};
 ghost use Rattle.complex.specs.Arithmetic as arithmetic;
 ghost use Rattle.refusals.specs.Refusals as refusals;
 ghost use Rattle.rei_equivalent.specs.Rei as spec;
 ghost use Rattle.rei_equivalent.specs.Inner.Writing as writing;
 
-// All ties, into slices that are cleared first; answers how many there are.
+// All ties, and zeros behind them; answers how many there are.
 pub fn tie_all(n: usize, y: &[f64], buses: &[usize], ends: &mut [usize], ties: &mut [f64]) -> usize
     requires { ⌜
         (n ≤ refusals.limit)
@@ -32,12 +31,15 @@ pub fn tie_all(n: usize, y: &[f64], buses: &[usize], ends: &mut [usize], ties: &
         ⌝ }
     ensures { λ r. ⌜ writing.TiesWritten n (now (y .entry)) (now (buses .entry)) r (now (ends .exit)) (now (ties .exit)) ⌝ }
 {
-    no_buses(ends);
-    clear(ties);
-    tie_rows(n, y, buses, ends, ties)
+    let count = tie_rows(n, y, buses, ends, ties);
+    let a = 2 * count;
+    let e = ends.len();
+    no_buses(&mut ends[a..e]);
+    clear(&mut ties[a..e]);
+    count
 }
 
-// Row after row, into cleared slices.
+// Row after row, from the front; answers how many there are.
 fn tie_rows(n: usize, y: &[f64], buses: &[usize], ends: &mut [usize], ties: &mut [f64]) -> usize
     requires { ⌜
         (n ≤ refusals.limit)
@@ -45,10 +47,13 @@ fn tie_rows(n: usize, y: &[f64], buses: &[usize], ends: &mut [usize], ties: &mut
         × (length (now buses) ≡ n)
         ⌝ }
     requires { ⌜
-        (now ends ≡ replicate (spec.tieRoom n) 0)
-        × (now ties ≡ matrices.zeros (spec.tieRoom n))
+        (length (now ends) ≡ spec.tieRoom n)
+        × (length (now ties) ≡ spec.tieRoom n)
         ⌝ }
-    ensures { λ r. ⌜ writing.TiesWritten n (now (y .entry)) (now (buses .entry)) r (now (ends .exit)) (now (ties .exit)) ⌝ }
+    ensures { λ r. ⌜
+        writing.RowWritten (spec.allTies n (now (y .entry)) (now (buses .entry))) 0
+        (now (ends .entry)) (now (ties .entry)) r (now (ends .exit)) (now (ties .exit))
+        ⌝ }
 {
     let w = 2 * n;
     let mut count = 0;

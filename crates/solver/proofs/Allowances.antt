@@ -1,5 +1,5 @@
 -- What a solve counts and meets under an allowance.
-use Rattle.prelude.proofs.Prelude.{_≡_, refl, sym, ap, _∙_, Bool, true, false, not, _&&_, _||_, cond, List, _++_, ℕ, zero, suc, _+_, _-_, _*_, _≤_, arith, T, eqb, ltb, length, Float, mul-le-mul, mul-le-mul-left}
+use Rattle.prelude.proofs.Prelude.{_≡_, refl, sym, ap, _∙_, Bool, true, false, not, _&&_, _||_, cond, List, _++_, ℕ, zero, suc, _+_, _-_, _*_, _≤_, arith, eqb, ltb, length, Float, mul-le-mul, mul-le-mul-left}
 use Rattle.binary64.specs.Values.{allFinite}
 use Rattle.complex.specs.{Complex, Matrix, entry, entryAt, grid, zeros}
 use Rattle.refusals.specs.declared.Allowance.{Allowance}
@@ -7,7 +7,7 @@ use Rattle.refusals.specs.declared.Allowance.the-variants.{Unlimited, Rows}
 use Rattle.refusals.specs.declared.Counted.{Counted}
 use Rattle.refusals.specs.declared.Counted.the-variants.{Reduced, Refused}
 use Rattle.refusals.specs.Refusals.{limit, refuse, thenGiven, counted, countedNumber}
-use Rattle.refusals.specs.Work.{numbersIn, reductions, meets, granted, workRefusal, thenWork, _noMoreThan_, allowedRows}
+use Rattle.refusals.specs.Work.{reductions, meets, granted, workRefusal, thenWork, _noMoreThan_, allowedRows}
 use Rattle.refusals.proofs.Answering.{counted-reduces}
 use Rattle.refusals.proofs.Work.{meets-within, larger-call, from-count, unlimited-call, allowed-met, work-met, work-accepted}
 use Rattle.solver.specs.declared.elimination.Eliminated.{Eliminated}

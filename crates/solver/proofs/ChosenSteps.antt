@@ -1,7 +1,7 @@
 -- The numbers of an elimination with fewer right sides are among those with more: columns chosen by g, the system's n where they are.
 --     chosen-numbers  finite there, finite here
 --     alone-numbers   one right side alone
-use Rattle.prelude.proofs.Prelude.{_≡_, refl, sym, ap, _∙_, subst, Bool, true, false, _||_, cond, _⊎_, inl, inr, List, [], _∷_, _++_, ℕ, zero, suc, _+_, _-_, _≤_, _<_, arith, T, eqb, ltb, Float, lt-ltb, le-ltb, eq-or-lt-of-le}
+use Rattle.prelude.proofs.Prelude.{_≡_, sym, ap, _∙_, subst, Bool, true, false, _||_, cond, _⊎_, inl, inr, List, [], _∷_, _++_, ℕ, zero, suc, _+_, _-_, _≤_, _<_, arith, T, eqb, ltb, Float, lt-ltb, le-ltb, eq-or-lt-of-le}
 use Rattle.binary64.specs.Values.{allFinite}
 use Rattle.complex.proofs.Finite.{none, all-join, all-left, all-right}
 use Rattle.complex.proofs.FiniteEntries.{Each, each-upTo}

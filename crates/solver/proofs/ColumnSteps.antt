@@ -11,7 +11,7 @@ use Rattle.refusals.specs.Work.{Step, pivotTooSmall, computing, meets}
 use Rattle.refusals.proofs.Work.{meets-numbers, count-numbers}
 use Rattle.solver.specs.declared.elimination.Eliminated.{Eliminated}
 use Rattle.solver.specs.declared.elimination.Eliminated.the-variants.{Done, Small, NotFinite}
-use Rattle.solver.specs.GaussJordan.{pivotRow, swapped, scaled, reduced, pivoted, cleared, gaussJordanFrom, gaussJordan}
+use Rattle.solver.specs.GaussJordan.{pivotRow, swapped, scaled, pivoted, cleared, gaussJordanFrom, gaussJordan}
 use Rattle.solver.specs.Solving.{operations}
 use Rattle.solver.specs.Steps.{workings, ofSearch, ofScaling, stepsOfRows, stepsFrom, stepsOfRun}
 use Rattle.solver.specs.Inner.Work.{withRow, isDone, numberOf, Told, stepsOfClearing, stepsOfColumn, ColumnDone, Ran, Met}

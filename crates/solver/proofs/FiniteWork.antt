@@ -13,7 +13,7 @@ use Rattle.lists.specs.Buses.{upTo}
 use Rattle.complex.proofs.Finite.{none, all-more, all-join, all-left, all-right}
 use Rattle.complex.proofs.Sticky.{Finite, product-finite, product-result, factors-given, terms-given, square-finite, all-parts}
 use Rattle.complex.proofs.FiniteEntries.{Each, each-upTo, each-at, AllFinite}
-use Rattle.solver.specs.GaussJordan.{stays, heldAfter, pivotRow, swapped, scaled, pivoted}
+use Rattle.solver.specs.GaussJordan.{stays, heldAfter, pivotRow, swapped, pivoted}
 use Rattle.solver.specs.Solving.{operations}
 use Rattle.solver.specs.Steps.{workings, ofSearch, ofScaling, ofReducing}
 use Rattle.solver.specs.Inner.Work.{withRow}

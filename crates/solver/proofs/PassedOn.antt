@@ -1,7 +1,7 @@
 -- What an elimination meets by the answers of its operations: the same as by all their numbers, since a list of numbers counts by whether all are finite.
 use Rattle.prelude.proofs.Prelude.{_≡_, refl, sym, ap, _∙_, ap₂, Bool, true, false, _&&_, _||_, cond, List, [], _∷_, _++_, append-assoc, ℕ, zero, suc, _-_, eqb, Float, ofBits}
 use Rattle.binary64.specs.Values.{allFinite}
-use Rattle.complex.specs.{Complex, Matrix, plus0}
+use Rattle.complex.specs.{Complex, plus0}
 use Rattle.complex.specs.declared.Pair.the-variants.{Finite, NotFinite}
 use Rattle.complex.specs.Leaves.{pair, product, difference, inverse, quotient}
 use Rattle.complex.proofs.Finite.{all-both}

@@ -1,9 +1,8 @@
 -- What the steps of an elimination count and meet.
 --     run-count  the row reductions are the pairs of column and other row whose factor is not skipped
 --     run-met    where the work without a limit does not meet 20: 18 where these are more than are allowed, else 13 or nothing
-use Rattle.prelude.proofs.Prelude.{_≡_, refl, sym, ap, _∙_, Bool, true, false, _||_, cond, _⊎_, inl, inr, List, [], _∷_, _++_, ℕ, zero, suc, _+_, _-_, _<_, _≤_, arith, T, eqb, ltb, lt-ltb, le-ltb, Float}
-use Rattle.binary64.specs.Values.{allFinite}
-use Rattle.refusals.specs.Work.{Step, reduces, pivotTooSmall, computing, numbersIn, reductions, meets}
+use Rattle.prelude.proofs.Prelude.{_≡_, refl, sym, ap, _∙_, Bool, true, false, _||_, cond, _⊎_, inl, inr, List, [], _∷_, _++_, ℕ, zero, suc, _+_, _-_, _<_, _≤_, arith, eqb, ltb, lt-ltb, le-ltb, Float}
+use Rattle.refusals.specs.Work.{Step, reduces, pivotTooSmall, computing, reductions, meets}
 use Rattle.refusals.proofs.Work.{meets-after, meets-first, unlost-meets, marks, marks-both, marks-numbers, none-marked, marks-count, count-both, count-numbers, none-counted}
 use Rattle.lists.specs.Buses.{upTo}
 use Rattle.lists.proofs.Order.{lt-or-ge}

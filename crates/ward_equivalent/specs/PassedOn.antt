@@ -10,7 +10,8 @@ use Rattle.complex.specs.declared.Pair.{Pair}
 use Rattle.complex.specs.declared.Pair.the-variants.{Finite}
 use Rattle.complex.specs.Constants.{plus0}
 use Rattle.complex.specs.Leaves.{pair, product, sum, difference, passing}
-use Rattle.ward_equivalent.specs.Ward.{Study, externals, externalAt, admittance, solvedColumn, equivalent, solvedCurrents, boundaryCurrent}
+use Rattle.ward_equivalent.specs.Ward.{Study, externals, externalAt, admittance, solvedColumn, equivalent}
+use Rattle.ward_equivalent.specs.Ward.{solvedCurrents, boundaryCurrent}
 use Rattle.ward_equivalent.specs.Steps.{ofRowTimes, ofEquivalentEntry}
 
 -- a 0 x 0 + .. + a (n - 1) x (n - 1), from (0, 0) upward

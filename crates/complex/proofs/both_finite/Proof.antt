@@ -1,5 +1,5 @@
 -- `complex::both_finite` meets its contract.
-use Rattle.prelude.proofs.Prelude.{_≡_, sym, _∙_, ap, Bool, _&&_, needs, finite}
+use Rattle.prelude.proofs.Prelude.{sym, _∙_, needs, finite}
 use Rattle.complex.proofs.both_finite.Statement.{statement}
 use Rattle.complex.proofs.both_finite.Tie as tie
 

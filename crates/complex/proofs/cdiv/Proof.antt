@@ -1,5 +1,5 @@
 -- `complex::cdiv` meets its contract: the divisor's squared magnitude and the quotient tell of all numbers on the way.
-use Rattle.prelude.proofs.Prelude.{sym, ap, _∙_, Float, needs, finite}
+use Rattle.prelude.proofs.Prelude.{sym, ap, _∙_, needs, finite}
 use Rattle.complex.specs.Arithmetic.{cdiv}
 use Rattle.complex.specs.Computed.{ofQuotient}
 use Rattle.complex.specs.Leaves.{quotient}

@@ -1,5 +1,5 @@
 -- `complex::if_finite` meets its contract.
-use Rattle.prelude.proofs.Prelude.{_≡_, sym, _∙_, needs}
+use Rattle.prelude.proofs.Prelude.{sym, _∙_, needs}
 use Rattle.complex.specs.Computed.{ofParts}
 use Rattle.complex.proofs.Leaves.{parts-finite, pair-finite, pair-none}
 use Rattle.complex.proofs.if_finite.Statement.{statement}

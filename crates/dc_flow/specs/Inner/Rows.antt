@@ -1,7 +1,7 @@
 -- What inner loops compute: the marks of `retained_buses`, and `lodf_matrix` from one row of the PTDF.
 -- For the inner functions' contracts only.
 use Prim.Native.Nat.{ℕ, _<_}
-use mathlib.Core.Bool.{cond}
+use mathlib.Core.Bool.{Bool, cond}
 use mathlib.Core.Path.{_≡_}
 use mathlib.Core.List.{List}
 use lib.Dec.{eqb}
@@ -22,6 +22,10 @@ Marked list marks = (k : ℕ) → k < length marks → getD marks k 0 ≡ markOf
 abbrev pub rowTransfer : List Float → ℕ → ℕ → Float
 rowTransfer row i j = getD row i nan ⊖ getD row j nan
 
+-- the factor of the branch with this row for the outage of branch k, and whether it is that one, from the denominators
+abbrev pub rowFactor : Bool → List Float → List ℕ → List ℕ → List Float → ℕ → Float
+rowFactor same row froms tos ds k = outageFactor same (rowTransfer row (getD froms k 0) (getD tos k 0)) (getD ds k nan)
+
 -- the factor of branch l for the outage of branch k, from row l and the denominators
 unfoldable pub rowOutage : ℕ → List Float → List ℕ → List ℕ → List Float → ℕ → Float
-rowOutage l row froms tos ds k = outageFactor (eqb l k) (rowTransfer row (getD froms k 0) (getD tos k 0)) (getD ds k nan)
+rowOutage l row froms tos ds k = rowFactor (eqb l k) row froms tos ds k

@@ -1,5 +1,5 @@
 -- `kron_reduction::reduced_matrix` meets its contract: the input is refused, or the present rows are copied.
-use Rattle.prelude.proofs.Prelude.{_≡_, refl, sym, _∙_, needs, length}
+use Rattle.prelude.proofs.Prelude.{_≡_, sym, _∙_, needs, length}
 use Rattle.refusals.specs.Refusals.{limit}
 use Rattle.kron_reduction.specs.Reading.{readingRefusal}
 use Rattle.kron_reduction.proofs.Reading.{matrix-refused, matrix-holds, matrix-same, matrix-done}

@@ -1,5 +1,5 @@
 -- `kron_reduction::thevenin_impedance` meets its contract: the input is refused, a bus is not found, or the matrix is inverted.
-use Rattle.prelude.proofs.Prelude.{_≡_, refl, sym, _∙_, ℕ, _≤_, needs, T, length}
+use Rattle.prelude.proofs.Prelude.{_≡_, sym, _∙_, ℕ, _≤_, needs, T, length}
 use Rattle.refusals.specs.Refusals.{limit}
 use Rattle.lists.specs.declared.Found.the-variants.{At}
 use Rattle.lists.specs.Buses.{foundIn}

@@ -1,5 +1,5 @@
 -- `kron_reduction::KronReducer::new` meets its contract: each test picks a case of `afterNew`.
-use Rattle.prelude.proofs.Prelude.{refl, sym, _∙_, arith, needs}
+use Rattle.prelude.proofs.Prelude.{sym, _∙_, arith, needs}
 use Rattle.lists.specs.Buses.{upTo}
 use Rattle.kron_reduction.proofs.Making.{makes-has, new-refused, new-done}
 use Rattle.kron_reduction.proofs.KronReducer.new.Statement.{statement}

@@ -1,6 +1,5 @@
 -- `kron_reduction::careful::entry_finite` meets its contract: each operation tells of its own numbers.
 use Rattle.prelude.proofs.Prelude.{_≡_, sym, _∙_, needs}
-use Rattle.complex.specs.{Complex}
 use Rattle.complex.specs.declared.Pair.the-variants.{Finite}
 use Rattle.complex.specs.Leaves.{product, quotient}
 use Rattle.kron_reduction.proofs.Told.{entry-no-product, entry-no-quotient, entry-no-difference, entry-all}

@@ -1,8 +1,8 @@
 -- `kron_reduction::thevenin::seen_across` meets its contract: the operations' answers are passed on.
-use Rattle.prelude.proofs.Prelude.{_≡_, refl, sym, ap, _∙_, needs, ap₂, _+_}
+use Rattle.prelude.proofs.Prelude.{_≡_, sym, ap, _∙_, needs, ap₂, _+_}
 use Rattle.complex.specs.{Complex, Matrix, plus0, entryAt}
-use Rattle.complex.specs.declared.Pair.the-variants.{Finite, NotFinite}
-use Rattle.complex.specs.Leaves.{sum, difference, product}
+use Rattle.complex.specs.declared.Pair.the-variants.{Finite}
+use Rattle.complex.specs.Leaves.{sum, product}
 use Rattle.solver.specs.Inner.Work.{rightSides}
 use Rattle.kron_reduction.specs.Reading.{two}
 use Rattle.kron_reduction.proofs.Across.{no-sum, no-product, all-three}

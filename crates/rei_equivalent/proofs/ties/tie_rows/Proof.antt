@@ -1,13 +1,12 @@
 -- `rei_equivalent::ties::tie_rows` meets its contract: the ties not yet written, written over what stands, are all of them.
-use Rattle.prelude.proofs.Prelude.{_≡_, refl, sym, ap, _∙_, suc, _+_, _-_, _*_, _≤_, _<_, add-one, arith, needs, length, drop, add-zero, zero-add, sub-zero, zero-mul, suc-mul, length-append, length-drop, length-replicate, sets}
-use Rattle.complex.specs.{plus0, entryAt, zeros}
+use Rattle.prelude.proofs.Prelude.{_≡_, refl, sym, _∙_, suc, _+_, _-_, _*_, _≤_, _<_, add-one, arith, needs, length, drop, add-zero, sub-zero, zero-mul, suc-mul, length-append, length-drop, sets}
+use Rattle.complex.specs.{entryAt}
 use Rattle.lists.specs.Buses.{upTo}
-use Rattle.complex.proofs.Matrices.{length-zeros, row-within}
+use Rattle.complex.proofs.Matrices.{row-within}
 use Rattle.lists.proofs.Order.{length-upTo}
 use Rattle.rei_equivalent.specs.Rei.{allTies, tieEnds, tieParts, tieRoom}
-use Rattle.rei_equivalent.proofs.TieLaws.{leftInAll, ofRow, all-step, all-done, few-ties, row-part, room-step, length-flat, write-row, ends-flat, parts-flat}
+use Rattle.rei_equivalent.proofs.TieLaws.{leftInAll, ofRow, all-step, all-done, few-ties, row-part, room-step, write-row, ends-flat, parts-flat}
 use Rattle.dc_flow.proofs.OutageLaws.{length-part}
-use Rattle.lists.proofs.Stores.{sets-front}
 use Rattle.rei_equivalent.proofs.ties.tie_rows.Statement.{statement}
 use Rattle.rei_equivalent.proofs.ties.tie_rows.Tie as tie
 
@@ -20,7 +19,7 @@ Inv-loop n y buses ends₀ ties₀ w count₀ i₀ a₀ ends ties count i a =
     × (2 * count + tieRoom (n - i) ≤ tieRoom n)
     × (length ends ≡ tieRoom n)
     × (length ties ≡ tieRoom n)
-    × (count + length (left i) ≡ length (left 0))
+    × (count + length (left i) ≡ 0 + length (left 0))
     × (sets ends (2 * count) (tieEnds (left i)) ≡ sets ends₀ 0 (tieEnds (left 0)))
     × (sets ties (2 * count) (tieParts (left i)) ≡ sets ties₀ 0 (tieParts (left 0)))
 
@@ -31,7 +30,7 @@ loop-holds : tie.Need-loop-holds Inv-loop μ-loop
 loop-holds c =
     let (p, q) = c .before .before .before .before .pre .1 in
     let z = zero-mul (c .before .before .before .before .args .n) in
-    (omega arith, refl, omega arith, rw sub-zero (omega arith), ap length p ∙ length-replicate _ 0, ap length q ∙ length-zeros _, zero-add _, refl, refl)
+    (omega arith, refl, omega arith, rw sub-zero (omega arith), p, q, refl, refl, refl)
 
 -- the row is within the matrix
 room : (c : tie.In-loop Inv-loop μ-loop) → let a = c .before .before .before .before .before .before .args in
@@ -83,25 +82,16 @@ loop-again c =
     )
 
 returns : tie.Need-returns Inv-loop μ-loop
-unfolding allTies tieEnds tieParts zeros
+unfolding allTies tieEnds tieParts
 returns c =
-    let s = c .before .before .before .before .before .before in let a = s .args in let n = a .n in let l = c .before .loop in
-    let Y = entryAt n (a .y .now) in
-    let all = leftInAll (a .buses .now) Y n 0 in
-    let e = all-done (a .buses .now) Y n (l .i) (c .loop-test .left) in
-    let q = sym (add-zero (l .count)) ∙ (rw e at (l .inv .6)) in
-    let x = length-flat ends-flat all in
-    let y = length-flat parts-flat all in
-    record {
-      counted = q;
-      endsAre = (rw e at (l .inv .7)) ∙ rw (s .pre .1 .0, sets-front (tieRoom n) 0 (tieEnds all) (omega (arith, l .inv .3)), x);
-      tiesAre = (rw e at (l .inv .8)) ∙ rw (s .pre .1 .1, sets-front (tieRoom n) plus0 (tieParts all) (omega (arith, l .inv .3)), y);
-    }
+    let a = c .before .before .before .before .before .before .args in let l = c .before .loop in
+    let e = all-done (a .buses .now) (entryAt (a .n) (a .y .now)) (a .n) (l .i) (c .loop-test .left) in
+    record { behind = sym (add-zero (l .count)) ∙ (rw e at (l .inv .6)); endsAre = (rw e at (l .inv .7)); tiesAre = (rw e at (l .inv .8)) }
 
 pub tie-rows-spec : {M : Type 1} → statement M
 tie-rows-spec = tie.close (tie.spec Inv-loop μ-loop (λ c. omega (arith, c .before .before .before .before .pre)) loop-holds
     (λ c. omega (arith, room c)) (λ c. omega (arith, room c)) (λ c. omega (arith, room c)) (λ c. omega (arith, room c))
     (λ c. omega (arith, room c)) tie-row-requires (λ c. search needs) (λ c. search needs) loop-again
-    (λ c. c .before .loop .inv .4 ∙ sym (ap length (c .before .before .before .before .before .before .pre .1 .0) ∙ length-replicate _ 0))
-    (λ c. c .before .loop .inv .5 ∙ sym (ap length (c .before .before .before .before .before .before .pre .1 .1) ∙ length-zeros _))
+    (λ c. c .before .loop .inv .4 ∙ sym (c .before .before .before .before .before .before .pre .1 .0))
+    (λ c. c .before .loop .inv .5 ∙ sym (c .before .before .before .before .before .before .pre .1 .1))
     returns)
