@@ -1,58 +1,74 @@
--- Numbers that are not negative, NaN among them: which they are, and their order.
---     square-not-negative, sum-not-negative  squares, and sums of two such numbers, are such numbers
+-- Numbers that are not negative, NaN among them or not: which they are, and their order.
+--     square-not-negative, square-no-nan     squares, and those of finite numbers, are such numbers
+--     sum-not-negative, sum-unsigned         sums of two such numbers are
 --     lt-asym, lt-irrefl                     where x is below y, y is not below x; no x is below itself
 --     lt-apart                               where x is below z, y is above x, below z, or NaN
-use Rattle.prelude.proofs.Prelude.{_≡_, refl, sym, subst, Bool, true, false, not, cond, _⊎_, inl, inr, ℕ, zero, suc, _+_, _*_, _≤_, _<_, T, ltb, Float, nan, _^_, mul-le-mul-right, mul-lt-mul-of-pos-right, not-le-of-lt, ltb→lt, lt→ltb, inf, fin, Format, up, down, odd, units, round, sum, add, mul, lt, down-pos}
+use Rattle.prelude.proofs.Prelude.{_≡_, refl, sym, subst, Bool, true, false, not, cond, _⊎_, inl, inr, ℕ, zero, suc, _+_, _*_, _≤_, _<_, T, ltb, Float, nan, _^_, mul-le-mul-right, mul-lt-mul-of-pos-right, not-le-of-lt, ltb→lt, lt→ltb, inf, fin, Format, up, down, odd, units, round, sum, add, mul, lt, down-pos, finite}
 use native.Mathlib.Nat.{mul-right-comm, lt-of-mul-lt-mul-right, lt-of-le-of-lt, le-of-lt}
 use lib.Dec.{T-not, not-T, nltb→le}
 use lib.Ieee.{low, prec, emax}
 use lib.Ieee.Fits.{round-is}
 
+-- not negative; of NaN what P says
+abbrev pub Unsigned : Type 0 → Float → Type 0
+Unsigned P nan = P
+Unsigned P (inf s) = T (not s)
+Unsigned P (fin s m e) = T (not s)
+
 abbrev pub NotNegative : Float → Type 0
-NotNegative nan = Unit {0}
-NotNegative (inf s) = T (not s)
-NotNegative (fin s m e) = T (not s)
+NotNegative x = Unsigned (Unit {0}) x
 
 -- ---- squares and sums
 
-odd-not-negative : (d q k l : ℕ) → NotNegative (odd d false q k l)
-unfolding odd
-odd-not-negative d zero k l = tt
-odd-not-negative d (suc q) k l = tt
+module _ (P : Type 0) where
+  odd-unsigned : (d q k l : ℕ) → Unsigned P (odd d false q k l)
+  unfolding odd
+  odd-unsigned d zero k l = tt
+  odd-unsigned d (suc q) k l = tt
 
-pick : (b : Bool) (x y : Float) → NotNegative x → NotNegative y → NotNegative (cond b x y)
-pick true x y h k = h
-pick false x y h k = k
+  pick : (b : Bool) (x y : Float) → Unsigned P x → Unsigned P y → Unsigned P (cond b x y)
+  pick true x y h k = h
+  pick false x y h k = k
 
-units-not-negative : (f : Format) (q k : ℕ) → NotNegative (units f false q k)
-unfolding units
-units-not-negative f q k =
-    pick (ltb (q * 2 ^ k) (2 ^ (low f + suc (emax f)))) (odd (suc (prec f)) false q k (low f)) (inf false) (odd-not-negative (suc (prec f)) q k (low f)) tt
+  units-unsigned : (f : Format) (q k : ℕ) → Unsigned P (units f false q k)
+  unfolding units
+  units-unsigned f q k =
+      pick (ltb (q * 2 ^ k) (2 ^ (low f + suc (emax f)))) (odd (suc (prec f)) false q k (low f)) (inf false) (odd-unsigned (suc (prec f)) q k (low f)) tt
 
-round-not-negative : (f : Format) (a c : ℕ) → NotNegative (round f false a c)
-round-not-negative f a c = subst NotNegative (sym (round-is f false a c)) (units-not-negative f _ _)
+  round-unsigned : (f : Format) (a c : ℕ) → Unsigned P (round f false a c)
+  round-unsigned f a c = subst (Unsigned P) (sym (round-is f false a c)) (units-unsigned f _ _)
+
+  pub sum-unsigned : (f : Format) (x y : Float) → Unsigned P x → Unsigned P y → Unsigned P (add f x y)
+  unfolding add sum
+  sum-unsigned f nan y h k = h
+  sum-unsigned f (inf true) y h k = absurd h
+  sum-unsigned f (inf false) nan h k = k
+  sum-unsigned f (inf false) (inf true) h k = absurd k
+  sum-unsigned f (inf false) (inf false) h k = tt
+  sum-unsigned f (inf false) (fin t n d) h k = tt
+  sum-unsigned f (fin s m e) nan h k = k
+  sum-unsigned f (fin s m e) (inf t) h k = k
+  sum-unsigned f (fin true m e) (fin t n d) h k = absurd h
+  sum-unsigned f (fin false m e) (fin true n d) h k = absurd k
+  sum-unsigned f (fin false m e) (fin false n d) h k = round-unsigned f _ _
 
 pub square-not-negative : (f : Format) (x : Float) → NotNegative (mul f x x)
 unfolding mul
 square-not-negative f nan = tt
 square-not-negative f (inf true) = tt
 square-not-negative f (inf false) = tt
-square-not-negative f (fin true m e) = round-not-negative f _ _
-square-not-negative f (fin false m e) = round-not-negative f _ _
+square-not-negative f (fin true m e) = round-unsigned _ f _ _
+square-not-negative f (fin false m e) = round-unsigned _ f _ _
+
+pub square-no-nan : (f : Format) (x : Float) → T (finite x) → Unsigned ⊥ (mul f x x)
+unfolding mul
+square-no-nan f nan h = h
+square-no-nan f (inf s) h = absurd h
+square-no-nan f (fin true m e) h = round-unsigned ⊥ f _ _
+square-no-nan f (fin false m e) h = round-unsigned ⊥ f _ _
 
 pub sum-not-negative : (f : Format) (x y : Float) → NotNegative x → NotNegative y → NotNegative (add f x y)
-unfolding add sum
-sum-not-negative f nan y h k = tt
-sum-not-negative f (inf true) y h k = absurd h
-sum-not-negative f (inf false) nan h k = tt
-sum-not-negative f (inf false) (inf true) h k = absurd k
-sum-not-negative f (inf false) (inf false) h k = tt
-sum-not-negative f (inf false) (fin t n d) h k = tt
-sum-not-negative f (fin s m e) nan h k = tt
-sum-not-negative f (fin s m e) (inf t) h k = k
-sum-not-negative f (fin true m e) (fin t n d) h k = absurd h
-sum-not-negative f (fin false m e) (fin true n d) h k = absurd k
-sum-not-negative f (fin false m e) (fin false n d) h k = round-not-negative f _ _
+sum-not-negative f x y = sum-unsigned (Unit {0}) f x y
 
 -- ---- the order
 

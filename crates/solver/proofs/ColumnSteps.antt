@@ -122,7 +122,7 @@ module _ (n w c allowed : ℕ) (wide : n ≤ w) (here : c < n) (before swap : Li
   weighed-finite h t =
       let f = slice-entries n w before full h in
       search-tells n w c (entryAt w before) here wide f
-      (small-finite (pivoted operations n c (entryAt w before) c c) (swapped-finite n w c (entryAt w before) here f c c here (omega arith)) t)
+      (small-finite (pivoted operations n c (entryAt w before) c c) t)
 
   pub column-small : true ≡ operations .small (pivoted operations n c (entryAt w before) c c) → ColumnDone n w c allowed Small before swap
   unfolding stepsOfColumn numberOf meets isDone

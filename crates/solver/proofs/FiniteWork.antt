@@ -4,14 +4,14 @@
 --     swapped-finite  rows that change places
 --     scaling-tells   the pivot row, by its scaled entries
 --     reducing-tells  a row, by its reduced entries
-use Rattle.prelude.proofs.Prelude.{_≡_, refl, sym, ap, subst, _∙_, Bool, true, false, not, cond, List, [], _∷_, _++_, ℕ, zero, suc, _+_, _-_, _*_, _^_, _≤_, _<_, arith, T, eqb, ltb, Float, nan, inf, fin, Format, binary64, odd, units, round, sum, add, mul, lt, ofBits, finite, eqb-true, eq-eqb, true≢false}
-use lib.Ieee.{low, prec, emax}
-use lib.Ieee.Fits.{round-is}
+use Rattle.prelude.proofs.Prelude.{_≡_, refl, sym, ap, subst, _∙_, Bool, true, false, not, cond, List, [], _∷_, _++_, ℕ, zero, suc, _+_, _-_, _≤_, _<_, arith, T, eqb, Float, nan, inf, fin, binary64, lt, finite, eqb-true, eq-eqb}
 use Rattle.binary64.specs.Values.{allFinite}
+use Rattle.binary64.proofs.Order.{Unsigned, square-no-nan, sum-unsigned}
 use Rattle.complex.specs.{Complex, divisionLimit, _⊗_, cmul, csub, sqmag, complexInv, ofProduct, ofDifference, ofSqmag, Matrix}
 use Rattle.lists.specs.Buses.{upTo}
 use Rattle.complex.proofs.Finite.{none, all-more, all-join, all-left, all-right}
-use Rattle.complex.proofs.Sticky.{Finite, product-finite, product-result, factors-given, terms-given, square-finite, all-parts}
+use Rattle.complex.proofs.Sticky.{Finite, product-finite, product-result, factors-given, terms-given, square-finite, square-result, all-parts}
+use Rattle.complex.proofs.Squares.{sqmag-below}
 use Rattle.complex.proofs.FiniteEntries.{Each, each-upTo, each-at, AllFinite}
 use Rattle.solver.specs.GaussJordan.{stays, heldAfter, pivotRow, swapped, pivoted}
 use Rattle.solver.specs.Solving.{operations}
@@ -19,76 +19,19 @@ use Rattle.solver.specs.Steps.{workings, ofSearch, ofScaling, ofReducing
 use Rattle.solver.specs.Inner.Work.{withRow}
 use Rattle.solver.proofs.GaussJordan.{pick-below, pivot-below}
 
--- ---- a number that is not negative and no NaN
-
-abbrev Upper : Float → Type 0
-Upper nan = ⊥
-Upper (inf s) = T (not s)
-Upper (fin s m e) = T (not s)
-
-upper-odd : (d q k l : ℕ) → Upper (odd d false q k l)
-unfolding odd
-upper-odd d zero k l = tt
-upper-odd d (suc q) k l = tt
-
-upper-cond : (b : Bool) (x y : Float) → Upper x → Upper y → Upper (cond b x y)
-upper-cond true x y h k = h
-upper-cond false x y h k = k
-
-upper-units : (f : Format) (q k : ℕ) → Upper (units f false q k)
-unfolding units
-upper-units f q k = upper-cond (ltb (q * 2 ^ k) (2 ^ (low f + suc (emax f)))) (odd (suc (prec f)) false q k (low f)) (inf false) (upper-odd (suc (prec f)) q k (low f)) tt
-
-upper-round : (f : Format) (a c : ℕ) → Upper (round f false a c)
-upper-round f a c = subst Upper (sym (round-is f false a c)) (upper-units f _ _)
-
-upper-square : (f : Format) (x : Float) → T (finite x) → Upper (mul f x x)
-unfolding mul
-upper-square f nan h = absurd h
-upper-square f (inf s) h = absurd h
-upper-square f (fin true m e) h = upper-round f _ _
-upper-square f (fin false m e) h = upper-round f _ _
-
-upper-add : (f : Format) (x y : Float) → Upper x → Upper y → Upper (add f x y)
-unfolding add sum
-upper-add f nan y h k = absurd h
-upper-add f (inf true) y h k = absurd h
-upper-add f (inf false) nan h k = absurd k
-upper-add f (inf false) (inf true) h k = absurd k
-upper-add f (inf false) (inf false) h k = tt
-upper-add f (inf false) (fin t n d) h k = tt
-upper-add f (fin s m e) nan h k = absurd k
-upper-add f (fin s m e) (inf t) h k = k
-upper-add f (fin true m e) (fin t n d) h k = absurd h
-upper-add f (fin false m e) (fin true n d) h k = absurd k
-upper-add f (fin false m e) (fin false n d) h k = upper-round f _ _
-
-upper-sqmag : (c : Complex) → Finite c → Upper (sqmag c)
+-- the weight of a finite entry is not negative, and no NaN
+weight-unsigned : (c : Complex) → Finite c → Unsigned ⊥ (sqmag c)
 unfolding sqmag
-upper-sqmag c (h, k) = upper-add binary64 (c .re ⊗ c .re) (c .im ⊗ c .im) (upper-square binary64 (c .re) h) (upper-square binary64 (c .im) k)
-
--- such a number below a finite one is finite
-upper-below : (x y : Float) → Upper x → T (finite y) → lt x y ≡ true → T (finite x)
-unfolding lt
-upper-below nan y h f k = absurd h
-upper-below (inf true) y h f k = absurd h
-upper-below (inf false) nan h f k = absurd f
-upper-below (inf false) (inf t) h f k = absurd f
-upper-below (inf false) (fin t n d) h f k = absurd (true≢false (sym k))
-upper-below (fin t n d) y h f k = tt
-
-limit-finite : T (finite divisionLimit)
-unfolding divisionLimit ofBits
-limit-finite = tt
+weight-unsigned c (h, k) = sum-unsigned ⊥ binary64 (c .re ⊗ c .re) (c .im ⊗ c .im) (square-no-nan binary64 (c .re) h) (square-no-nan binary64 (c .im) k)
 
 -- a pivot that is too small has a finite weight
-pub small-finite : (c : Complex) → Finite c → operations .small c ≡ true → T (finite (sqmag c))
-small-finite c h k = upper-below (sqmag c) divisionLimit (upper-sqmag c h) limit-finite k
+pub small-finite : (c : Complex) → operations .small c ≡ true → T (finite (sqmag c))
+small-finite c k = square-result c (sqmag-below c divisionLimit (subst T (sym k) tt))
 
 -- ---- the search
 
 -- of two such weights the one that is held is finite only where both are
-both-finite : (h x : Float) → Upper h → Upper x → T (finite (cond (not (lt h x)) h x)) → T (finite h) × T (finite x)
+both-finite : (h x : Float) → Unsigned ⊥ h → Unsigned ⊥ x → T (finite (cond (not (lt h x)) h x)) → T (finite h) × T (finite x)
 unfolding lt
 both-finite nan x a b t = absurd a
 both-finite (inf true) x a b t = absurd a
@@ -114,7 +57,7 @@ search-finite A c n f held next zero l m h = (h, none)
 search-finite A c n f held next (suc count) l m h =
     let b = not (lt (sqmag (A held c)) (sqmag (A next c))) in
     let (w, rest) = search-finite A c n f (cond b held next) (suc next) count (pick-below b held next n l (omega arith)) (omega arith) h in
-    let (x, y) = both-finite (sqmag (A held c)) (sqmag (A next c)) (upper-sqmag (A held c) (f held l)) (upper-sqmag (A next c) (f next (omega arith))) (subst (λ (z : Float). T (finite z)) (held-weight A c held next b) w) in
+    let (x, y) = both-finite (sqmag (A held c)) (sqmag (A next c)) (weight-unsigned (A held c) (f held l)) (weight-unsigned (A next c) (f next (omega arith))) (subst (λ (z : Float). T (finite z)) (held-weight A c held next b) w) in
     (x, all-join (ofSqmag (A held c) ++ ofSqmag (A next c)) _ (all-join (ofSqmag (A held c)) _ (square-finite (A held c) x) (square-finite (A next c) y)) rest)
 
 -- the pivot stands in row c
