@@ -109,6 +109,6 @@ wardRows = record {
   extended = λ N a o f64s h. zero-rowX N a o f64s (search h);
   finite = λ N a o h. record { given = given-finite N a o h; computed = computed-finite N a o h };
   finite-extended = λ N a o h. record { given = given-finiteX N a o h; computed = computed-finiteX N a o h };
-  accepts = λ N a o shape f. finite-studies .accepted N a o shape (f .given) (f .computed);
-  accepts-extended = λ N a o shape f. finite-studies .accepted-extended N a o shape (f .given) (f .computed);
+  accepts = λ N a o shape f regular h. finite-studies .accepted N a o shape (f .given) (f .computed) regular (search h);
+  accepts-extended = λ N a o shape f regular h. finite-studies .accepted-extended N a o shape (f .given) (f .computed) regular (search h);
 }

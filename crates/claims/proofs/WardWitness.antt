@@ -134,9 +134,9 @@ unfolding studied reductions _noMoreThan_
 enough = lit≤ tt
 
 accepts : AcceptedStudy N eight o
-unfolding studied
-accepts = demand3 .ward .accepts N eight o refl finite-study regular enough
+unfolding studied reductions _noMoreThan_
+accepts = demand3 .ward .accepts N eight o refl finite-study regular (search enough)
 
 accepts-x : AcceptedExtended NX eight wide
-unfolding studied
-accepts-x = demand3 .ward .accepts-extended NX eight wide refl finite-extended regular enough
+unfolding studied reductions _noMoreThan_
+accepts-x = demand3 .ward .accepts-extended NX eight wide refl finite-extended regular (search enough)

@@ -110,9 +110,9 @@ unfoldable pub through : Pair → ℕ → ℕ
 through (pairs.Finite z) next = next
 through pairs.NotFinite next = computedNotFinite
 
--- Loops over rows do not take these operations: their numbers are steps of a call's work. Both say the same. An operation answers none
--- exactly where its numbers, as steps, meet 20, whatever is allowed; what the work meets goes by that answer and what comes behind it; and
--- two operations, the second on the first one's answer, are one that computes the numbers of both, in a row.
+-- Loops over rows do not take these operations: their numbers are steps of a call's work. Both say the same. An operation that
+-- computes answers none exactly where its numbers, as steps, meet 20, whatever is allowed; what the work meets goes by that answer and what
+-- comes behind it; and two operations, the second on the first one's answer, are one that computes the numbers of both, in a row.
 pub record LeafSteps : Type 0 where
   pub pair-none : (allowed : ℕ) (computed : List Float) (c : Complex)
       → (pair computed c ≡ pairs.NotFinite → meets allowed (computing computed) ≡ computedNotFinite)

@@ -24,6 +24,9 @@ numbers-alike : (xs ys : List Float) (es fs : List Step) → allFinite xs ≡ al
 numbers-alike xs ys es fs e rest m =
     meets-numbers m xs es ∙ ap₂ (λ (b : Bool) (k : ℕ). cond b k 20) e (rest m) ∙ sym (meets-numbers m ys fs)
 
+all-behind : (xs : List Float) (rows later es : List Step) → (computing xs ++ (rows ++ later)) ++ es ≡ computing xs ++ (rows ++ (later ++ es))
+all-behind xs rows later es = append-assoc (computing xs) (rows ++ later) es ∙ ap (λ (l : List Step). computing xs ++ l) (append-assoc rows later es)
+
 row-alike : (skipped : Bool) (xs ys : List Float) (es fs : List Step) → allFinite xs ≡ allFinite ys → Alike es fs
     → Alike (cond skipped [] (reduces ∷ computing xs) ++ es) (cond skipped [] (reduces ∷ computing ys) ++ fs)
 unfolding meets
@@ -60,20 +63,34 @@ module _ {E : Type 0} (O : Operations E) (W U : Workings E)
       ∙ row-alike (eqb i c || O .skips (C i c)) _ _ _ _ (reducing-alike C c i js) (rows-alike C c is js es fs rest) m
       ∙ sym (ap (meets m) (append-assoc (stepsOfRow O U C c i js) (stepsOfRows O U C c is js) fs))
 
-  from-alike : (n w count c : ℕ) (A : MatrixOf E) → Alike (stepsFrom O W n w count c A) (stepsFrom O U n w count c A)
+  -- a column's steps once its pivot is chosen, with those of the later columns behind them
+  abbrev afterPivot : Workings E → (n w c : ℕ) → MatrixOf E → Bool → List Step → List Step
+  afterPivot X n w c B small later =
+      cond small (pivotTooSmall ∷ []) (computing (X .ofInverse (B c c) ++ ofScaling O X B c (upTo w)) ++ (stepsOfRows O X (scaled O c B) c (upTo n) (upTo w) ++ later))
+
+  column-alike : (n w c : ℕ) (B : MatrixOf E) (small : Bool) (later later' es fs : List Step) → Alike (later ++ es) (later' ++ fs)
+      → Alike (afterPivot W n w c B small later ++ es) (afterPivot U n w c B small later' ++ fs)
+  unfolding meets
+  column-alike n w c B true later later' es fs rest m = refl
+  column-alike n w c B false later later' es fs rest m =
+      ap (meets m) (all-behind (W .ofInverse (B c c) ++ ofScaling O W B c (upTo w)) (stepsOfRows O W (scaled O c B) c (upTo n) (upTo w)) later es)
+      ∙ numbers-alike _ _ _ _ (both _ _ _ _ (inverted (B c c)) (scaling-alike B c (upTo w))) (rows-alike (scaled O c B) c (upTo n) (upTo w) _ _ rest) m
+      ∙ sym (ap (meets m) (all-behind (U .ofInverse (B c c) ++ ofScaling O U B c (upTo w)) (stepsOfRows O U (scaled O c B) c (upTo n) (upTo w)) later' fs))
+
+  from-alike : (n w count c : ℕ) (A : MatrixOf E) (es fs : List Step) → Alike es fs → Alike (stepsFrom O W n w count c A ++ es) (stepsFrom O U n w count c A ++ fs)
   unfolding stepsFrom
-  from-alike n w zero c A m = refl
-  from-alike n w (suc count) c A m =
+  from-alike n w zero c A es fs rest m = rest m
+  from-alike n w (suc count) c A es fs rest m =
       let B = pivoted O n c A in
-      numbers-alike _ _ _ _ (both _ _ _ _ (search-alike A c c (suc c) (n - suc c)) (weight (B c c))) (go B (O .small (B c c)) (from-alike n w count (suc c) (cleared O c B))) m
-    where
-      go : (B : MatrixOf E) (small : Bool) → Alike (stepsFrom O W n w count (suc c) (cleared O c B)) (stepsFrom O U n w count (suc c) (cleared O c B)) → Alike
-          (cond small (pivotTooSmall ∷ []) (computing (W .ofInverse (B c c) ++ ofScaling O W B c (upTo w)) ++ (stepsOfRows O W (scaled O c B) c (upTo n) (upTo w) ++ stepsFrom O W n w count (suc c) (cleared O c B))))
-          (cond small (pivotTooSmall ∷ []) (computing (U .ofInverse (B c c) ++ ofScaling O U B c (upTo w)) ++ (stepsOfRows O U (scaled O c B) c (upTo n) (upTo w) ++ stepsFrom O U n w count (suc c) (cleared O c B))))
-      go B true rest k = refl
-      go B false rest k =
-          numbers-alike _ _ _ _ (both _ _ _ _ (inverted (B c c)) (scaling-alike B c (upTo w)))
-          (rows-alike (scaled O c B) c (upTo n) (upTo w) _ _ rest) k
+      let small = O .small (B c c) in
+      let later = stepsFrom O W n w count (suc c) (cleared O c B) in
+      let later' = stepsFrom O U n w count (suc c) (cleared O c B) in
+      let xs = ofSearch O W A c c (suc c) (n - suc c) ++ W .ofWeight (B c c) in
+      let ys = ofSearch O U A c c (suc c) (n - suc c) ++ U .ofWeight (B c c) in
+      ap (meets m) (append-assoc (computing xs) (afterPivot W n w c B small later) es)
+      ∙ numbers-alike xs ys _ _ (both _ _ _ _ (search-alike A c c (suc c) (n - suc c)) (weight (B c c)))
+      (column-alike n w c B small later later' es fs (from-alike n w count (suc c) (cleared O c B) es fs rest)) m
+      ∙ sym (ap (meets m) (append-assoc (computing ys) (afterPivot U n w c B small later') fs))
 
 -- an answer is finite as all its numbers are
 told-tells : (xs : List Float) (c : Complex) → allFinite (told (pair xs c) ∷ []) ≡ allFinite xs
@@ -86,4 +103,4 @@ told-tells xs c = go (allFinite xs)
 
 pub run-passed-on : RunPassedOn
 unfolding product difference inverse quotient stepsOfRun
-run-passed-on m n w A = from-alike operations answers workings (λ a b. told-tells _ _) (λ a b. told-tells _ _) (λ b. told-tells _ _) (λ b. refl) n w n 0 A m
+run-passed-on m n w A rest = from-alike operations answers workings (λ a b. told-tells _ _) (λ a b. told-tells _ _) (λ b. told-tells _ _) (λ b. refl) n w n 0 A rest rest (λ (k : ℕ). refl) m

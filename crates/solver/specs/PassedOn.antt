@@ -2,7 +2,7 @@
 -- work meets is the same as if each product, difference and inverse answered a finite number or none, one after the other.
 use Prim.Native.Nat.{ℕ}
 use mathlib.Core.Path.{_≡_}
-use mathlib.Core.List.{[], _∷_}
+use mathlib.Core.List.{List, [], _∷_, _++_}
 use lib.Ieee.{Float, nan}
 use Rattle.complex.specs.declared.Complex.{Complex}
 use Rattle.complex.specs.declared.Pair.{Pair}
@@ -11,7 +11,7 @@ use Rattle.complex.specs.Constants.{plus0}
 use Rattle.complex.specs.Computed.{ofSqmag}
 use Rattle.complex.specs.Leaves.{product, difference, inverse}
 use Rattle.complex.specs.Matrices.{Matrix}
-use Rattle.refusals.specs.Work.{meets}
+use Rattle.refusals.specs.Work.{Step, meets}
 use Rattle.solver.specs.Solving.{operations}
 use Rattle.solver.specs.Steps.{Workings, workings, stepsOfRun}
 
@@ -29,7 +29,7 @@ answers = record {
   ofWeight = ofSqmag;
 }
 
--- of n rows of w entries, whatever is allowed: a solve has n + 1, an inverse 2 n
+-- of n rows of w entries, whatever is allowed and whatever comes behind: a solve has n + 1, an inverse 2 n
 abbrev pub RunPassedOn : Type 0
-RunPassedOn = (allowed n w : ℕ) (A : Matrix)
-    → meets allowed (stepsOfRun operations answers n w A) ≡ meets allowed (stepsOfRun operations workings n w A)
+RunPassedOn = (allowed n w : ℕ) (A : Matrix) (rest : List Step)
+    → meets allowed (stepsOfRun operations answers n w A ++ rest) ≡ meets allowed (stepsOfRun operations workings n w A ++ rest)

@@ -49,4 +49,4 @@ entry-passed S some i j =
 
 pub study-passed-on : StudyPassedOn
 unfolding boundaryCurrent
-study-passed-on = record { entries = entry-passed; currents = λ S i. row-passed S i (solvedCurrents S) }
+study-passed-on = record { entries = entry-passed; boundary-currents = λ S i. row-passed S i (solvedCurrents S) }

@@ -1,6 +1,6 @@
 -- A study passes on what the operations on single numbers answer: its sums and entries, computed first and looked at afterwards, are what
--- products, sums and differences answer one behind the other. Its solves are solver/PassedOn's; currents, injections and corrections take
--- real numbers, for which there is no such operation.
+-- products, sums and differences answer one behind the other. Its solves are solver/PassedOn's. Currents, injections and corrections take
+-- real numbers, of which the magnitude alone is such an operation: a correction's list has all its numbers (`ofTies`).
 use Prim.Native.Nat.{ℕ, zero, suc}
 use mathlib.Core.Path.{_≡_}
 use mathlib.Core.Bool.{not}
@@ -30,4 +30,5 @@ pub record StudyPassedOn : Type 0 where
   pub entries : (S : Study) → T (not (eqb (externals S) 0)) → (i j : ℕ)
       → passing (rowAnswer S i (solvedColumn S j)) (λ (s : Complex). difference (admittance S i j) s)
       ≡ pair (ofEquivalentEntry S i j) (equivalent S i j)
-  pub currents : (S : Study) (i : ℕ) → rowAnswer S i (solvedCurrents S) ≡ pair (ofRowTimes S i (solvedCurrents S)) (boundaryCurrent S i)
+  pub boundary-currents : (S : Study) (i : ℕ)
+      → rowAnswer S i (solvedCurrents S) ≡ pair (ofRowTimes S i (solvedCurrents S)) (boundaryCurrent S i)

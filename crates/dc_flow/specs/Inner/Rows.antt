@@ -22,7 +22,7 @@ Marked list marks = (k : ℕ) → k < length marks → getD marks k 0 ≡ markOf
 abbrev pub rowTransfer : List Float → ℕ → ℕ → Float
 rowTransfer row i j = getD row i nan ⊖ getD row j nan
 
--- the factor of the branch with this row for the outage of branch k, and whether it is that one, from the denominators
+-- the factor of the branch with this row for the outage of branch k, from the denominators; `same` tells that it is that branch
 abbrev pub rowFactor : Bool → List Float → List ℕ → List ℕ → List Float → ℕ → Float
 rowFactor same row froms tos ds k = outageFactor same (rowTransfer row (getD froms k 0) (getD tos k 0)) (getD ds k nan)
 
