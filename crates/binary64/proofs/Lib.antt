@@ -1,4 +1,5 @@
 pub mod Bits
+pub mod BitPatterns
 pub mod Floats
 pub mod Signs
 pub mod Order

@@ -1,3 +1,4 @@
 pub mod Root
 pub mod Values
+pub mod BitPatterns
 pub mod Inner

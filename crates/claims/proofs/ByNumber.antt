@@ -70,7 +70,7 @@ module _ (M : ReducerInput) (calls : List Call) (made : AcceptedMaking M) where
   unfolding fresh
   account-distinct = ap repeats (account-numbers (fresh M) calls) ∙ made-has M made .distinct
 
-  removed-below : T (allBelow (length (a .numbers)) (a .removed))
+  pub removed-below : T (allBelow (length (a .numbers)) (a .removed))
   removed-below =
       all-below (length (a .numbers)) (a .removed) (rw account-many (accepted-below (a .size) (start (a .size) (a .old)) (a .removed) (all-below-upTo (a .size)) (all-accepted M calls)))
 
@@ -159,7 +159,7 @@ module _ (M M' : ReducerInput) (calls calls' : List Call) (made : AcceptedMaking
   alike-by-number = (
     sym (account-many M' calls' made') ∙ ap length (same .numbers) ∙ account-many M calls made,
     sym (removed-rows M' calls' made') ∙ ap₂ rowsIn (same .numbers) (same .removed) ∙ removed-rows M calls made,
-    λ i m. rw (removed-rows M calls made) at (rows-among (b .numbers) G (numbersAt b (b .removed)) (same .group) i m),
+    λ i m. rw (removed-rows M calls made) at (rows-among (b .numbers) G (numbersAt b (b .removed)) (search same) i m),
     λ i j x y o o'.
         let k = getD (b .numbers) i 0 in
         let l = getD (b .numbers) j 0 in

@@ -3,14 +3,16 @@ use Rattle.prelude.proofs.Prelude.{_≡_, refl, sym, _∙_, inr, List, [], _∷
 use Rattle.complex.specs.{Matrix, _≈_}
 use Rattle.lists.specs.Buses.{upTo, _isOneOf_}
 use Rattle.lists.proofs.Buses.{in-upTo}
-use Rattle.kron_reduction.specs.Reducer.{ReducerInput, reducerInputOf}
+use Rattle.lists.proofs.Each.{of-each}
+use Rattle.binary64.specs.BitPatterns.{ofBitPatterns}
+use Rattle.binary64.proofs.BitPatterns.{words-f64s}
+use Rattle.kron_reduction.specs.Reducer.{ReducerInput, reducerInputOf, AcceptedMaking}
 use Rattle.claims.specs.Accounts.{Call, bus, left, entryIn, fresh, step, accountFrom, Account, account, kept}
 use Rattle.claims.specs.Chains.{Linked, Steps, Within, Into, SameOutside}
-use Rattle.claims.specs.Finite.{ofBitPatterns}
 use Rattle.claims.specs.Removals.{Alike, NoOut}
-use Rattle.claims.proofs.Demand3.{demand3}
-use Rattle.claims.proofs.BitPatterns.{words-f64s}
-use Rattle.claims.proofs.Witnesses.{opened, L, -L, LL, of-each, apart}
+use Rattle.claims.proofs.Removals.{removals}
+use Rattle.claims.proofs.Witnesses.{opened, L, -L, LL}
+use Rattle.claims.proofs.SecondWitness.{apart}
 
 abbrev one-way : ℕ → ℕ → List ℕ
 one-way towards own = LL ∷ 0 ∷ towards ∷ 0 ∷ 0 ∷ 0 ∷ own ∷ 0 ∷ []
@@ -33,6 +35,10 @@ h = account here here-calls
 abbrev t : Account
 t = account there there-calls
 
+both-made : AcceptedMaking here × AcceptedMaking there
+unfolding opened
+both-made = (tt, tt)
+
 both-removed : (h .removed ≡ 1 ∷ []) × (t .removed ≡ 1 ∷ [])
 unfolding opened
 both-removed = (refl, refl)
@@ -47,7 +53,7 @@ away i j x y = apart (upTo 2) (1 ∷ []) (λ i j. h .old i j ≈ t .old i j) (se
 
 alike-away : Alike h t (1 ∷ [])
 unfolding fresh step accountFrom
-alike-away = record { size = refl; removed = both-removed .1 ∙ sym (both-removed .0); group = rw (both-removed .0) (search); outside = search away }
+alike-away = record { size = refl; removed = both-removed .1 ∙ sym (both-removed .0); group = rw (both-removed .0) (search tt); outside = search away }
 
 -- where no removed bus has an entry to bus j, no chain leads to it
 no-out : (Y : Matrix) (R : List ℕ) (j : ℕ) → ((k : ℕ) → k isOneOf R → Linked Y k j → ⊥) → (g : ℕ) → g isOneOf R → (ks : List ℕ) → Within ks R → Steps Y g ks j → ⊥
@@ -71,6 +77,6 @@ an-into = (1, [], tt, tt, tt)
 
 column-same : entryIn (left here here-calls) 0 0 ≈ entryIn (left there there-calls) 0 0
 column-same =
-    (rw here-kept at (demand3 .removals .independent here there here-calls there-calls (words-f64s (one-way L LL)) (words-f64s (one-way -L L))
-    (unfold opened in search tt) (unfold opened in search tt) (1 ∷ []) alike-away 0 0))
+    (rw here-kept at (removals .independent here there here-calls there-calls (words-f64s (one-way L LL)) (words-f64s (one-way -L L))
+    (search (both-made .0, both-removed .0, tt)) (search (both-made .1, both-removed .1, tt)) (1 ∷ []) alike-away 0 0))
     (lit< tt) (lit< tt) (inr none-out)

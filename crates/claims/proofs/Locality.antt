@@ -74,7 +74,7 @@ module _ (Y : Matrix) (R : List ℕ) where
     listed : (k : ℕ) → k isOneOf ks → k isOneOf R
 
   walk-of : {c : Complex} {i j : ℕ} → (c ≋ Y i j) ⊎ Through i j → NonZero c → Walk (Linked Y) R j i
-  walk-of (inl p) n = last (nonzero-of (≋-sym p) n)
+  walk-of {i} {j} (inl p) n = let link : Linked Y i j = nonzero-of (≋-sym p) n in last link
   walk-of (inr (k, v, m, w)) n = join v m w
 
   first : {s : State} {k : ℕ} {ks : List ℕ} → Run s (k ∷ ks) → k isOneOf R

@@ -1,9 +1,8 @@
 -- What 01 says of demand 3's lists of calls, and what now holds of every accepted making: all numbers given, and all computed in the
 -- removals carried out, are finite.
-use Prim.Native.Nat.{ℕ}
-use mathlib.Core.List.{List, map}
+use mathlib.Core.List.{List}
 use lib.Dec.{T}
-use lib.Ieee.{Float, binary64, ofBits}
+use lib.Ieee.{Float}
 use Rattle.binary64.specs.Values.{allFinite}
 use Rattle.kron_reduction.specs.Kron.{start, ofRemovals}
 use Rattle.kron_reduction.specs.Reducer.{ReducerInput, AcceptedMaking}
@@ -18,7 +17,3 @@ pub record Finite (M : ReducerInput) (calls : List Call) : Type 0 where
   pub made : AcceptedMaking M
   pub given : T (allFinite (M .given))
   pub computed : T (allFinite (ofAccount (account M calls)))
-
--- the numbers with these bit patterns
-unfoldable pub ofBitPatterns : List ℕ → List Float
-ofBitPatterns = map (ofBits binary64)

@@ -4,5 +4,3 @@ pub mod Finite
 pub mod Untested
 pub mod Removals
 pub mod ByNumber
-pub mod Demand3
-pub mod WardRows

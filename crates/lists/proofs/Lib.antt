@@ -8,3 +8,4 @@ pub mod Lookups
 pub mod Naming
 pub mod Stores
 pub mod Within
+pub mod Each

@@ -1,4 +1,4 @@
--- The claims on runs, from the law of the drops and demand 3.
+-- The claims on runs, from the law of the drops and the claims on lists of calls.
 use Rattle.prelude.proofs.Prelude.{_≡_, refl, sym, ap, _∙_, subst, List, [], _∷_, ℕ, _+_, _*_, _≤_, arith, length, length-drop}
 use mathlib.Core.Path.{subst₂}
 use Rattle.binary64.specs.Values.{F64s}
@@ -11,7 +11,7 @@ use Rattle.claims.specs.Finite.{Finite}
 use Rattle.claims.specs.Removals.{Unchanged, Independent}
 use Rattle.claims.proofs.Bridge.{account-numbers, left-is, kept-state}
 use Rattle.claims.proofs.ByNumber.{removed-are as by-number, kept-numbers}
-use Rattle.claims.proofs.Demand3.{demand3}
+use Rattle.claims.proofs.Removals.{removals}
 use Rattle.text_numbers.specs.declared.Number.the-variants.{Is}
 use Rattle.reduce_text.specs.declared.read.End.{End}
 use Rattle.reduce_text.specs.declared.read.End.the-variants.{Kept, BadLine}
@@ -128,7 +128,7 @@ given-f64s input = f64s (entryPart input)
 pub unchanged : (input : Bytes) → IsKept input → Unchanged (accountOf input) (stateLeft input)
 unchanged input h =
     subst (λ (x : ReducerState). Unchanged (accountOf input) x) (sym (drops-are input h .ends))
-    (demand3 .removals .unchanged (makingIn input) (calls input) (given-f64s input) (is-made input h))
+    (removals .unchanged (makingIn input) (calls input) (given-f64s input) (is-made input h))
 
 -- ---- two inputs
 
@@ -136,12 +136,12 @@ pub independent : (input input' : Bytes) → IsKept input → IsKept input'
     → Independent (accountOf input) (stateLeft input) (accountOf input') (stateLeft input')
 independent input input' h h' =
     subst₂ (λ (x x' : ReducerState). Independent (accountOf input) x (accountOf input') x') (sym (drops-are input h .ends)) (sym (drops-are input' h' .ends))
-    (demand3 .removals .independent (makingIn input) (makingIn input') (calls input) (calls input') (given-f64s input) (given-f64s input') (is-made input h) (is-made input' h'))
+    (removals .independent (makingIn input) (makingIn input') (calls input) (calls input') (given-f64s input) (given-f64s input') (is-made input h) (is-made input' h'))
 
 -- ---- the numbers are finite
 
 pub finite : (input : Bytes) → IsKept input → Finite (makingIn input) (calls input)
-finite input h = demand3 .removals .finite (makingIn input) (calls input) (is-made input h)
+finite input h = removals .finite (makingIn input) (calls input) (is-made input h)
 
 -- ---- all of them
 

@@ -16,7 +16,8 @@ use Rattle.kron_reduction.specs.Reducer
 use Rattle.claims.specs.Accounts
 use Rattle.claims.specs.Accounts.{bus, entryIn}
 use Rattle.claims.specs.Chains.{Linked, Chain}
-use Rattle.claims.specs.Finite.{ofBitPatterns, ofAccount, Finite}
+use Rattle.binary64.specs.BitPatterns.{ofBitPatterns}
+use Rattle.claims.specs.Finite.{ofAccount, Finite}
 use Rattle.claims.proofs.Witnesses.{book-words, book}
 use Rattle.text_numbers.specs.Bytes.{Bytes, ascii}
 use Rattle.text_numbers.specs.Words

@@ -1,4 +1,4 @@
--- Demand 3, whole; on lists of calls both claims and their positive forms.
+-- Demand 3 of lists of calls (`removals`): both claims, and their positive forms.
 use Rattle.prelude.proofs.Prelude.{_≡_, refl, sym, subst, _⊎_, inl, inr, List, ℕ, _+_, _*_, _<_, arith, T, length, getD, Float, ⊎-elim, is-true}
 use mathlib.Core.Path.{subst₂}
 use Rattle.complex.specs.{Complex, entry as entryOf, Matrix, entryAt, _≈_}
@@ -13,12 +13,10 @@ use Rattle.refusals.proofs.Numbers.{given-all}
 use Rattle.lists.proofs.Buses.{getD-in}
 use Rattle.kron_reduction.proofs.States.{eliminate-active}
 use Rattle.claims.specs.Accounts.{Call, left, entryIn, Account, fresh, stateAfter, account, kept, rowAt}
-use Rattle.claims.specs.Chains.{Chain, Into, Out}
+use Rattle.claims.specs.Chains.{Chain, Into, Out, SameOutside}
 use Rattle.claims.specs.Finite.{ofAccount, Finite}
 use Rattle.claims.specs.Removals.{Unchanged, Alike, Independent, RemovalClaims}
 use Rattle.claims.specs.Untested.{untestedAccount}
-use Rattle.claims.specs.Demand3.{Demand3}
-use Rattle.claims.proofs.WardRows.{wardRows}
 use Rattle.claims.proofs.Locality.{Carried, after-all, old-or-chain, same-or-chains}
 use Rattle.claims.proofs.Computed.{computed-finite}
 use Rattle.claims.proofs.Untested.{account-is}
@@ -64,8 +62,7 @@ module _ (M : ReducerInput) (calls : List Call) (f : F64s (M .given)) (h : Finit
 
 -- ---- two lists of calls
 
-module _ (M M' : ReducerInput) (calls calls' : List Call) (f : F64s (M .given)) (f' : F64s (M' .given)) (h : Finite M calls) (h' : Finite M' calls')
-    (G : List ℕ) (alike : Alike (account M calls) (account M' calls') G) where
+module _ (M M' : ReducerInput) (calls calls' : List Call) (f : F64s (M .given)) (f' : F64s (M' .given)) (h : Finite M calls) (h' : Finite M' calls') where
   abbrev a : Account
   a = account M calls
 
@@ -73,29 +70,35 @@ module _ (M M' : ReducerInput) (calls calls' : List Call) (f : F64s (M .given)) 
   a' = account M' calls'
 
   -- an entry has one value in both, or in one its row bus has a chain into the group, and in one its column bus has one out of it
-  pub same-or-joined : (p q : ℕ) → p < length (kept a) → q < length (kept a)
+  pub same-or-joined : (G : List ℕ) → a' .size ≡ a .size → a' .removed ≡ a .removed → ((k : ℕ) → k isOneOf G → k isOneOf a .removed) → SameOutside (a .size) (a .old) (a' .old) G
+      → (p q : ℕ) → p < length (kept a) → q < length (kept a)
       → (entryIn (left M calls) p q ≈ entryIn (left M' calls') p q)
       ⊎ ((Into (a .old) (a .removed) G (rowAt a p) ⊎ Into (a' .old) (a' .removed) G (rowAt a p)) × (Out (a .old) (a .removed) G (rowAt a q) ⊎ Out (a' .old) (a' .removed) G (rowAt a q)))
   unfolding stateAfter
-  same-or-joined p q x y =
+  same-or-joined G size removed group outside p q x y =
       let i = rowAt a p in
       let j = rowAt a q in
       let on : rowAt a p isOneOf after-all (a .size) (a .old) (a .removed) .active = active-at (a .size) (a .old) (a .removed) p x in
       let to : rowAt a q isOneOf after-all (a .size) (a .old) (a .removed) .active = active-at (a .size) (a .old) (a .removed) q y in
       let run : Carried (a .size) (a' .old) (a .removed) =
-      subst₂ (λ (n : ℕ) (R : List ℕ). Carried n (a' .old) R) (alike .size) (alike .removed) (carried M' calls' f' h') in
+      subst₂ (λ (n : ℕ) (R : List ℕ). Carried n (a' .old) R) size removed (carried M' calls' f' h') in
       let there : entryIn (left M' calls') p q ≡ after-all (a .size) (a' .old) (a .removed) .entries i j =
       subst₂ (λ (n : ℕ) (R : List ℕ). let k = others R (upTo n) in p < length k → q < length k
       → entryIn (left M' calls') p q ≡ after-all n (a' .old) R .entries (getD k p 0) (getD k q 0))
-      (alike .size) (alike .removed) (entry-is M' calls' (h' .made) p q) x y in
-      rw (alike .removed, entry-is M calls (h .made) p q x y, there)
-      (same-or-chains (a .size) (a .old) (a' .old) (a .removed) G (carried M calls f h) run (search alike) (search alike) i j on to)
+      size removed (entry-is M' calls' (h' .made) p q) x y in
+      rw (removed, entry-is M calls (h .made) p q x y, there)
+      (same-or-chains (a .size) (a .old) (a' .old) (a .removed) G (carried M calls f h) run group outside i j on to)
 
+-- one of two, where no chain leads into the group, or none out of it
+pub cut : {A : Type 0} {I I' O O' : Type 0} → A ⊎ ((I ⊎ I') × (O ⊎ O')) → ((I → ⊥) × (I' → ⊥)) ⊎ ((O → ⊥) × (O' → ⊥)) → A
+cut (inl e) apart = e
+cut (inr (u, v)) (inl (n, n')) = absurd (⊎-elim n n' u)
+cut (inr (u, v)) (inr (n, n')) = absurd (⊎-elim n n' v)
+
+-- `search alike` takes the part of a premise that is wanted: one that says more has it too
 pub independent : (M M' : ReducerInput) (calls calls' : List Call) → F64s (M .given) → F64s (M' .given) → Finite M calls → Finite M' calls' → Independent (account M calls) (left M calls) (account M' calls') (left M' calls')
-independent M M' calls calls' f f' h h' G alike p q x y apart = elim (same-or-joined M M' calls calls' f f' h h' G alike p q x y) [
-  | inl e ↦ e
-  | inr (u, v) ↦ absurd (elim apart [ inl (n, n') ↦ ⊎-elim n n' u | inr (n, n') ↦ ⊎-elim n n' v ])
-]
+independent M M' calls calls' f f' h h' G alike p q x y apart =
+    cut (same-or-joined M M' calls calls' f f' h h' G (alike .size) (alike .removed) (search alike) (search alike) p q x y) apart
 
 -- ---- what acceptance gives
 
@@ -113,7 +116,7 @@ unfolding makingRefusal
 no-more-refused M calls shape given computed =
     (rw (← given-all 0 (makingShapeRefusal M) (M .given) (sym shape) refl (is-true (allFinite (M .given)) given)) tt, account-is (fresh M) calls computed)
 
--- ---- the demand
+-- ---- the claims
 
 pub removals : RemovalClaims
 removals = record {
@@ -122,6 +125,3 @@ removals = record {
   finite = finite;
   no-more-refused = no-more-refused;
 }
-
-pub demand3 : Demand3
-demand3 = record { removals = removals; ward = wardRows }

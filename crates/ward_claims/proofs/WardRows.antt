@@ -15,9 +15,9 @@ use Rattle.ward_equivalent.proofs.FiniteAnswers.{matrix-given, finite-studies}
 use Rattle.lists.proofs.Lookups.{getD-map}
 use Rattle.ward_equivalent.proofs.Sums.{Null, plus0-zero, sum-zero, magnitude-zero, none-above, each-at}
 use Rattle.ward_equivalent.specs.Numbers.{NumberedExtended, inRows, extendedInRows, AcceptedExtended, afterComputeExtended}
-use Rattle.claims.specs.WardRows.{old, rowBuses, busOfRow, ZeroRow, ZeroAt, KeepsRow, KeepsExtendedRow, WardRows}
+use Rattle.ward_claims.specs.WardRows.{old, rowBuses, busOfRow, ZeroRow, ZeroAt, KeepsRow, KeepsExtendedRow, WardRows}
 use Rattle.ward_equivalent.proofs.Steps.{study-computed, corrections-computed}
-use Rattle.claims.proofs.WardKeeps.{row-null, bus-at, keeps-row, zero-row}
+use Rattle.ward_claims.proofs.WardKeeps.{row-null, bus-at, keeps-row, zero-row}
 
 -- ---- the terms of one boundary tie
 

@@ -20,7 +20,7 @@ use Rattle.ward_equivalent.proofs.Laws.{Sound, sound, left-accepted, given-fini
 use Rattle.ward_equivalent.proofs.FiniteAnswers.{matrix-given}
 use Rattle.lists.proofs.Lookups.{getD-map}
 use Rattle.ward_equivalent.proofs.Sums.{Null, plus0-zero, products-null, each-at}
-use Rattle.claims.specs.WardRows.{old, rowBuses, busOfRow, ZeroRow, KeepsValues, ZeroAt, KeepsRow}
+use Rattle.ward_claims.specs.WardRows.{old, rowBuses, busOfRow, ZeroRow, KeepsValues, ZeroAt, KeepsRow}
 
 -- ---- rows and places
 

@@ -1,0 +1,3 @@
+pub mod WardKeeps
+pub mod WardRows
+pub mod WardWitness
