@@ -1,8 +1,8 @@
 -- Small systems computed from the definitions that the contracts cite: equal and incomparable pivots, a singular one, allowances around the count,
--- numbers that are not finite, inverses, and wrong lengths.
-use Rattle.prelude.proofs.Prelude.{_≡_, refl, sym, ap, _∙_, true, false, true≢false, List, [], _∷_, _-_, _*_, arith, eqb, replicate, Float, nan, inf, binary64, lt, add, sub, mul, div, ofBits}
+-- numbers that are not finite, inverses, wrong lengths, and calls that meet the premises of the theorems.
+use Rattle.prelude.proofs.Prelude.{_≡_, refl, sym, ap, _∙_, true, false, not, true≢false, List, [], _∷_, _++_, ℕ, _-_, _*_, _≤_, arith, lit≤, T, eqb, length, replicate, Float, nan, inf, binary64, lt, add, sub, mul, div, ofBits}
 use Rattle.binary64.specs.Values.{allFinite}
-use Rattle.complex.specs.{plus0, one, divisionLimit, csub, cmul, sqmag, cdiv, complexInv, abs, entry, entryAt, row, rows, grid, zeros}
+use Rattle.complex.specs.{Matrix, plus0, one, divisionLimit, csub, cmul, sqmag, cdiv, complexInv, abs, entry, entryAt, row, rows, grid, zeros}
 use Rattle.lists.specs.Buses.{upTo}
 use Rattle.refusals.specs.declared.Allowance.{Allowance}
 use Rattle.refusals.specs.declared.Allowance.the-variants.{Unlimited, Rows}
@@ -11,11 +11,12 @@ use Rattle.refusals.specs.declared.Outcome.the-variants as outcomes
 use Rattle.refusals.specs.declared.Counted.{Counted}
 use Rattle.refusals.specs.declared.Counted.the-variants.{Reduced, Refused}
 use Rattle.refusals.specs.Refusals.{thenGiven, outcome, counted, countedNumber, wrongLength, emptySystem, givenNotFinite, singular, beyondAllowance, computedNotFinite}
-use Rattle.refusals.specs.Work.{computing, reductions, meets, granted, workRefusal, thenWork, _noMoreThan_}
+use Rattle.refusals.specs.Work.{computing, numbersIn, reductions, meets, granted, workRefusal, thenWork, _noMoreThan_}
 use Rattle.solver.specs.GaussJordan.{stays, heldAfter, pivotRow, swapped, scaled, reduced, pivoted, cleared, gaussJordanFrom, gaussJordan, pairsIn, pairsFrom, pairs, augmented, solution, singularSystem}
 use Rattle.solver.specs.Solving.{operations, isSingular, skipped, unitColumn}
-use Rattle.solver.specs.Steps.{ofSearch, ofScaling, ofReducing, stepsOfRow, stepsOfRows, stepsFrom, stepsOfRun, stepsOfSolve, stepsOfInverse}
+use Rattle.solver.specs.Steps.{workings, ofSearch, ofScaling, ofReducing, stepsOfRow, stepsOfRows, stepsFrom, stepsOfRun, stepsOfSolve, stepsOfInverse}
 use Rattle.solver.proofs.Allowances.{solve-allowances}
+use Rattle.solver.proofs.FiniteAnswers.{accepted-answers}
 use Rattle.solver.specs.Calls.{AfterElimination, solveShapeRefusal, solveRefusal, inverseShapeRefusal, inverseRefusal, afterSolve, afterInverse, afterElimination}
 
 -- +0, 1, -1, 2, 3, 4, 5 and 0.5
@@ -205,6 +206,45 @@ taken-finite : afterSolve 2 (faint ∷ p4 ∷ most ∷ p1 ∷ faint ∷ p4 ∷ m
 unfolding opened
 taken-finite = refl
 
+-- 49, 2^600 / 1, (2^600 times the rounded 1/49, 1e-150) with right side 0, 0: 49 times its rounded inverse is not 1, so the second row keeps 2^-53 in
+-- the first column. Scaled by 1e150 and times the first row's 2^600 / 49 it is beyond all numbers, left of the second pivot. Nothing else is, so that
+-- rows scaled or reduced from their pivot's column on would be accepted.
+abbrev p49 : Float
+p49 = ofBits binary64 0x4048800000000000
+
+abbrev share : Float
+share = ofBits binary64 0x6514e5e0a72f0539
+
+abbrev leftOver : List Float
+leftOver = p49 ∷ o ∷ p600 ∷ o ∷ p1 ∷ o ∷ share ∷ faint ∷ []
+
+abbrev kept : Allowance → AfterElimination Counted
+kept allowance = afterSolve 2 leftOver (replicate 4 o) allowance (replicate 4 m1) (replicate 12 m1)
+
+its-share : share ≡ mul binary64 p600 (div binary64 p1 p49)
+unfolding opened
+its-share = refl
+
+-- both row reductions come before: the second begins, and then meets 20
+first-exceeds : (kept (Rows 0) .answer ≡ Refused beyondAllowance) × (kept (Rows 1) .answer ≡ Refused beyondAllowance)
+unfolding opened
+first-exceeds = (refl, refl)
+
+left-overflows : kept Unlimited ≡ record { answer = Refused computedNotFinite; output = replicate 4 m1; work = zeros 12 }
+unfolding opened
+left-overflows = refl
+
+from-two-on : (m : ℕ) → 2 ≤ m → kept (Rows m) ≡ kept Unlimited
+from-two-on m h = solve-allowances .from-bound 2 leftOver _ m _ _ h
+
+-- in the second row reduction, that of the first row, which has three columns, the first is lost and the others are not
+abbrev atSecond : Matrix
+atSecond = scaled operations 1 (pivoted operations 2 1 (cleared operations 0 (pivoted operations 2 0 (augmented operations 2 (entryAt 2 leftOver) (λ (r k : ℕ). entry (replicate 4 o) r)))))
+
+left-alone : (allFinite (ofReducing operations workings atSecond 1 0 (0 ∷ [])) ≡ false) × (allFinite (ofReducing operations workings atSecond 1 0 (1 ∷ 2 ∷ [])) ≡ true)
+unfolding opened
+left-alone = (refl, refl)
+
 -- ---- inverses
 
 -- the inverse of one number, by its bits
@@ -277,3 +317,59 @@ bound-reached = refl
 
 from-two : tied (Rows (2 * (2 - 1))) ≡ tied Unlimited
 from-two = solve-allowances .from-bound 2 tie _ _ _ _ (omega arith)
+
+-- ---- nothing finite is refused: calls that meet the premises, each shown by itself; the solve with an allowance of just as many rows as it reduces
+
+abbrev side : List Float
+side = o ∷ o ∷ p1 ∷ o ∷ []
+
+tied-shaped : solveShapeRefusal 2 (length tie) (length side) (length (replicate 4 m1)) (length (replicate 12 m1)) ≡ 0
+unfolding opened
+tied-shaped = refl
+
+tied-given : T (allFinite (tie ++ side))
+unfolding opened
+tied-given = tt
+
+tied-computed : T (allFinite (numbersIn (stepsOfSolve 2 (entryAt 2 tie) (entry side))))
+unfolding opened numbersIn
+tied-computed = tt
+
+tied-regular : T (not (isSingular 2 (entryAt 2 tie)))
+unfolding opened
+tied-regular = tt
+
+tied-enough : Rows (reductions (stepsOfSolve 2 (entryAt 2 tie) (entry side))) noMoreThan Rows 2
+unfolding opened _noMoreThan_
+tied-enough = lit≤ tt
+
+accepts-tied : tied (Rows 2) .answer ≡ Reduced (reductions (stepsOfSolve 2 (entryAt 2 tie) (entry side)))
+unfolding _noMoreThan_
+accepts-tied =
+    ap (λ (l : AfterElimination Counted). l .answer)
+    (accepted-answers .accepted-solve 2 tie side (Rows 2) (replicate 4 m1) (replicate 12 m1)
+    (search (tied-shaped, tt)) (search (tied-given, tt)) (search (tied-computed, tt)) (search (tied-regular, tt)) (search (tied-enough, lit≤, tt)))
+
+abbrev pair : List Float
+pair = p2 ∷ o ∷ []
+
+two-shaped : inverseShapeRefusal 1 (length pair) (length (m1 ∷ m1 ∷ [])) (length (replicate 4 m1)) ≡ 0
+unfolding opened
+two-shaped = refl
+
+two-given : T (allFinite pair)
+unfolding opened
+two-given = tt
+
+two-computed : T (allFinite (numbersIn (stepsOfInverse 1 (entryAt 1 pair))))
+unfolding opened numbersIn
+two-computed = tt
+
+two-regular : T (not (isSingular 1 (entryAt 1 pair)))
+unfolding opened
+two-regular = tt
+
+accepts-2 : inverted p2 .answer ≡ outcomes.Done
+accepts-2 =
+    ap (λ (l : AfterElimination Outcome). l .answer)
+    (accepted-answers .accepted-inverse 1 pair (m1 ∷ m1 ∷ []) (replicate 4 m1) (search (two-shaped, tt)) (search (two-given, tt)) (search (two-computed, tt)) (search (two-regular, tt)))

@@ -15,10 +15,10 @@ use Rattle.solver.specs.GaussJordan.{pivotRow, swapped, scaled, pivoted,
 use Rattle.solver.specs.Solving.{operations}
 use Rattle.solver.specs.Steps.{workings, ofSearch, ofScaling, stepsOfRows, stepsFrom, stepsOfRun}
 use Rattle.solver.specs.Inner.Work.{withRow, isDone, numberOf, Told, stepsOfClearing, stepsOfColumn, ColumnDone, Ran, Met}
-use Rattle.solver.proofs.GaussJordan.{Same, cleared-same, run-first, run-goes-on, run-ends}
+use Rattle.solver.proofs.GaussJordan.{Same, cleared-same, run-first, run-stops, run-goes-on, run-ends}
 use Rattle.solver.proofs.StepsSame.{others-same, clearing-same, steps-from-same, column-first}
 use Rattle.solver.proofs.FiniteWork.{small-finite, search-tells, swapped-finite, finite-swapped, scaling-tells, scaling-kept}
-use Rattle.solver.proofs.Told.{Came, came-first, came-done, came-then, came-ended, told-then, told-same, told-numbers, told-not-finite, not-done}
+use Rattle.solver.proofs.Told.{Came, came-first, came-done, came-then, came-ended, told-then, told-same, told-numbers, told-not-finite, not-done, not-small}
 
 module _ (n w c p : ℕ) (A B : Matrix) (g : ℕ → Complex) (chosen : p ≡ pivotRow operations n A c)
     (swap : (i j : ℕ) → j < w → B i j ≡ swapped operations c p A i j) (held : (j : ℕ) → j < w → g j ≡ B c j) where
@@ -137,12 +137,14 @@ module _ (n w c allowed : ℕ) (wide : n ≤ w) (here : c < n) (before swap : Li
               count = λ left e. absurd (not-done refl e);
             });
         entries = λ left e. absurd (not-done refl e);
+        small = λ _. (sym t, λ i j x y. same i j y);
       }
 
   -- the column is cleared, or the work ends on the way
   module _ (t : false ≡ operations .small (pivoted operations n c (entryAt w before) c c)) (after : List Float) (r : Eliminated)
       (turn : Told allowed (stepsOfClearing n w c (entryAt w swap)) swap after r)
-      (left : (rest : ℕ) → r ≡ Done rest → (i j : ℕ) → i < n → j < w → entryAt w after i j ≡ cleared operations c (entryAt w swap) i j) where
+      (left : (rest : ℕ) → r ≡ Done rest → (i j : ℕ) → i < n → j < w → entryAt w after i j ≡ cleared operations c (entryAt w swap) i j)
+      (large : r ≡ Small → ⊥) where
     alike : (i j : ℕ) → i < n → j < w → entryAt w swap i j ≡ pivoted operations n c (entryAt w before) i j
     alike i j x y = same i j y
 
@@ -162,6 +164,7 @@ module _ (n w c allowed : ℕ) (wide : n ≤ w) (here : c < n) (before swap : Li
                 count = λ rest e. ap (λ (k : ℕ). k + rest) (count-numbers (weights n c A) es) ∙ told .count rest e;
               });
           entries = λ rest e. (sym t, λ i j x y. left rest e i j x y ∙ cleared-same operations n w wide (entryAt w swap) B alike c here i j x y);
+          small = λ e. absurd (large e);
         }
 
 -- ---- the run over the columns
@@ -188,7 +191,7 @@ running-first n w allowed first row full room =
 
 module _ (n w c allowed left : ℕ) (first now row : List Float) (s : Running n w c allowed left first now row) where
   pub running-end : n ≤ c → Ran n w allowed (Done left) first now
-  unfolding stepsFrom
+  unfolding stepsFrom numberOf
   running-end h =
       let ends = run-ends operations n w c (entryAt w now) _ (omega (arith, s .most)) (s .ends) in
       let none : n - c ≡ 0 = omega arith in
@@ -196,6 +199,7 @@ module _ (n w c allowed left : ℕ) (first now row : List Float) (s : Running n 
         told = came-done allowed left (stepsOfRun operations workings n w (entryAt w first)) (stepsFrom operations workings n w (n - c) c (entryAt w now)) first now (s .came)
             (ap (λ (k : ℕ). stepsFrom operations workings n w k c (entryAt w now)) none);
         entries = λ _ _. grid-ext n w _ now (s .full) (ends .1);
+        small = λ e. absurd (not-small refl e);
       }
 
   -- the next column has its turn
@@ -213,6 +217,8 @@ module _ (n w c allowed left : ℕ) (first now row : List Float) (s : Running n 
           told = came-ended allowed left (stepsOfRun operations workings n w (entryAt w first)) (stepsFrom operations workings n w (n - c) c (entryAt w now)) first now (s .came)
               (stepsOfColumn n w c (entryAt w now)) _ next split r not (subst (λ (x : Eliminated). Told left (stepsOfColumn n w c (entryAt w now)) now next x) e (d .told));
           entries = λ rest k. absurd (not-done not k);
+          small = λ k. let (low, entered) = d .small (e ∙ k) in
+              grid-ext n w _ next (same ∙ s .full) (run-stops operations n w c (entryAt w now) (entryAt w next) _ h low entered (s .ends) .1);
         }
 
     pub running-next : n ≤ w → (after : List Float) → length after ≡ length row → (rest : ℕ) → turn ≡ Done rest → Running n w (c + 1) allowed rest first next after
@@ -242,9 +248,10 @@ module _ (n w allowed : ℕ) (r : Eliminated) (first last : List Float) (ran : R
   met-finite h = record {
     number = sym (ran .told .finite h .1);
     done = λ left e. record { count = ran .told .count left e; entries = ran .entries left e; finite = h };
+    small = λ e. (ran .small e, h);
     length-kept = kept;
   }
 
   pub met-lost : T (allFinite first) → allFinite last ≡ false → Met n w allowed NotFinite first last
   unfolding numberOf isDone
-  met-lost h k = record { number = sym (ran .told .lost h k); done = λ left e. absurd (not-done refl e); length-kept = kept }
+  met-lost h k = record { number = sym (ran .told .lost h k); done = λ left e. absurd (not-done refl e); small = λ e. absurd (not-small refl e); length-kept = kept }

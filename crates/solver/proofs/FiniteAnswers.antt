@@ -1,26 +1,29 @@
--- An accepted solve or inverse is finite throughout.
---     run-finite  where a matrix and every number that its elimination computes are finite, so is the matrix that is left
-use Rattle.prelude.proofs.Prelude.{_≡_, refl, sym, ap, subst, Bool, true, false, _||_, cond, List, [], _∷_, _++_, ℕ, zero, suc, _+_, _-_, _≤_, _<_, arith, T, eqb, length, Float, eqb-true}
+-- An accepted solve or inverse is finite throughout, and nothing finite is refused.
+--     run-finite   where a matrix and every number that its elimination computes are finite, so is the matrix that is left
+--     run-regular  where every number is finite and no pivot too small, an elimination meets nothing but 18
+use Rattle.prelude.proofs.Prelude.{_≡_, refl, sym, ap, _∙_, subst, Bool, true, false, not, _||_, cond, List, [], _∷_, _++_, ℕ, zero, suc, _+_, _-_, _≤_, _<_, arith, T, eqb, ltb, length, Float, eqb-true, le-ltb, is-true}
 use Rattle.binary64.specs.Values.{allFinite}
-use Rattle.complex.specs.{cmul, csub, complexInv, unit, ofQuotient, ofSqmag, entry, entryAt, grid, Matrix}
+use Rattle.complex.specs.{cmul, csub, complexInv, unit, ofQuotient, ofSqmag, entry, entryAt, grid, zeros, Matrix}
 use Rattle.complex.proofs.Finite.{none, all-left, all-right}
 use Rattle.complex.proofs.Sticky.{Finite}
 use Rattle.complex.proofs.FiniteEntries.{Each, each-at, AllFinite, grid-finite, slice-entries}
 use Rattle.lists.specs.Buses.{upTo}
 use Rattle.refusals.specs.declared.Allowance.{Allowance}
-use Rattle.refusals.specs.declared.Allowance.the-variants.{Unlimited}
+use Rattle.refusals.specs.declared.Allowance.the-variants.{Unlimited, Rows}
 use Rattle.refusals.specs.declared.Counted.the-variants.{Reduced}
 use Rattle.refusals.specs.declared.Outcome.the-variants.{Done}
-use Rattle.refusals.specs.Refusals.{outcome, number}
-use Rattle.refusals.specs.Work.{Step, reduces, pivotTooSmall, computing, numbersIn, thenWork}
+use Rattle.refusals.specs.Refusals.{outcome, number, counted}
+use Rattle.refusals.specs.Work.{Step, reduces, pivotTooSmall, computing, numbersIn, reductions, meets, granted, workRefusal, thenWork, _noMoreThan_}
 use Rattle.refusals.proofs.Answering.{counted-reduces}
-use Rattle.refusals.proofs.Work.{numbers-both, numbers-alone, work-accepted}
-use Rattle.solver.specs.GaussJordan.{scaled, reduced, pivoted, cleared, gaussJordanFrom, gaussJordan, augmented}
-use Rattle.solver.specs.Solving.{operations, solve, inverse, unitColumn}
+use Rattle.refusals.proofs.Numbers.{given-all}
+use Rattle.refusals.proofs.Work.{numbers-both, numbers-alone, work-accepted, work-met, finite-unlost}
+use Rattle.solver.specs.GaussJordan.{scaled, reduced, pivoted, cleared, gaussJordanFrom, gaussJordan, pairs, augmented}
+use Rattle.solver.specs.Solving.{operations, isSingular, solve, inverse, unitColumn}
 use Rattle.solver.specs.Steps.{workings, ofSearch, ofScaling, ofReducing, stepsOfRow, stepsOfRows, stepsFrom, stepsOfRun, stepsOfSolve, stepsOfInverse}
-use Rattle.solver.specs.Calls.{afterElimination, solveRefusal, inverseRefusal, afterSolve, afterInverse}
-use Rattle.solver.specs.FiniteAnswers.{FiniteSolve, FiniteInverse, FiniteAnswers}
-use Rattle.solver.proofs.GaussJordan.{column-alone}
+use Rattle.solver.specs.Calls.{afterElimination, solveShapeRefusal, solveRefusal, inverseShapeRefusal, inverseRefusal, afterSolve, afterInverse}
+use Rattle.solver.specs.FiniteAnswers.{FiniteSolve, FiniteInverse, FiniteAnswers, AcceptedAnswers}
+use Rattle.solver.proofs.GaussJordan.{column-alone, augmented-singular}
+use Rattle.solver.proofs.Steps.{metBy, run-count, run-met}
 use Rattle.solver.proofs.FiniteWork.{swapped-finite, each-scaling, each-reducing}
 use Rattle.solver.proofs.Solutions.{augmented-finite, side-finite, identity-finite}
 use Rattle.solver.proofs.Accepted.{solve-accepted, inverse-accepted}
@@ -157,3 +160,59 @@ finite-inverse n mat out work e =
 
 pub finite-answers : FiniteAnswers
 finite-answers = record { solve = finite-solve; inverse = finite-inverse }
+
+-- ---- what is accepted
+
+-- an elimination with right sides R
+module _ (n w : ℕ) (A R : Matrix) where
+  abbrev run : List Step
+  run = stepsOfRun operations workings n w (augmented operations n A R)
+
+  run-regular : T (allFinite (numbersIn (stepsOfRun operations workings n w (augmented operations n A R)))) → T (not (isSingular n A)) → (m : ℕ) → meets m run ≡ cond (ltb m (reductions run)) 18 0
+  run-regular f r m =
+      run-met operations workings n w (augmented operations n A R) m (finite-unlost (reductions run) run f)
+      ∙ ap (metBy m (pairs operations n (augmented operations n A R))) (augmented-singular operations n A R ∙ is-false (isSingular n A) r)
+      ∙ ap (λ (k : ℕ). cond (ltb m k) 18 0) (sym (run-count operations workings n w (augmented operations n A R)))
+    where
+      is-false : (b : Bool) → T (not b) → b ≡ false
+      is-false true t = absurd t
+      is-false false t = refl
+
+enough : (a : Allowance) (es : List Step) → ((m : ℕ) → meets m es ≡ cond (ltb m (reductions es)) 18 0) → Rows (reductions es) noMoreThan a → workRefusal a es ≡ 0
+unfolding workRefusal granted _noMoreThan_
+enough Unlimited es h k = h (reductions es) ∙ ap (λ (b : Bool). cond b 18 0) (le-ltb (reductions es) (reductions es) (omega arith))
+enough (Rows m) es h k = h m ∙ ap (λ (b : Bool). cond b 18 0) (le-ltb m (reductions es) k)
+
+pub inverse-regular : (n : ℕ) (A : Matrix) → T (allFinite (numbersIn (stepsOfInverse n A))) → T (not (isSingular n A)) → workRefusal Unlimited (stepsOfInverse n A) ≡ 0
+unfolding stepsOfInverse _noMoreThan_
+inverse-regular n A f r = enough Unlimited (stepsOfInverse n A) (run-regular n (n + n) A (λ (i k : ℕ). unitColumn k i) f r) tt
+
+accepted-solve : (n : ℕ) (a b : List Float) (allowance : Allowance) (x work : List Float) → solveShapeRefusal n (length a) (length b) (length x) (length work) ≡ 0
+    → T (allFinite (a ++ b)) → T (allFinite (numbersIn (stepsOfSolve n (entryAt n a) (entry b)))) → T (not (isSingular n (entryAt n a)))
+    → Rows (reductions (stepsOfSolve n (entryAt n a) (entry b))) noMoreThan allowance
+    → afterSolve n a b allowance x work ≡ record { answer = Reduced (reductions (stepsOfSolve n (entryAt n a) (entry b))); output = grid n 1 (λ (i k : ℕ). solve n (entryAt n a) (entry b) i); work = zeros (length work) }
+unfolding afterSolve afterElimination solveRefusal stepsOfSolve counted
+accepted-solve n a b allowance x work shape given computed regular much =
+    let steps = stepsOfSolve n (entryAt n a) (entry b) in
+    let told = solveRefusal n a b (length x) (length work) in
+    let none : told ≡ 0 = sym (given-all 0 (solveShapeRefusal n (length a) (length b) (length x) (length work)) (a ++ b) (sym shape) refl (is-true (allFinite (a ++ b)) given)) in
+    let met : workRefusal allowance steps ≡ 0 = enough allowance steps (run-regular n (n + 1) (entryAt n a) (λ (r k : ℕ). entry b r) computed regular) much in
+    rw (work-met told allowance steps none, none, met)
+
+accepted-inverse : (n : ℕ) (mat out work : List Float) → inverseShapeRefusal n (length mat) (length out) (length work) ≡ 0
+    → T (allFinite mat) → T (allFinite (numbersIn (stepsOfInverse n (entryAt n mat)))) → T (not (isSingular n (entryAt n mat)))
+    → afterInverse n mat out work ≡ record { answer = Done; output = grid n n (inverse n (entryAt n mat)); work = zeros (length work) }
+unfolding afterInverse afterElimination inverseRefusal outcome
+accepted-inverse n mat out work shape given computed regular =
+    let steps = stepsOfInverse n (entryAt n mat) in
+    let told = inverseRefusal n mat (length out) (length work) in
+    let none : told ≡ 0 = sym (given-all 0 (inverseShapeRefusal n (length mat) (length out) (length work)) mat (sym shape) refl (is-true (allFinite mat) given)) in
+    rw (work-met told Unlimited steps none, none, inverse-regular n (entryAt n mat) computed regular)
+
+-- `search` takes the part of a premise that is wanted: one that says more has it too
+pub accepted-answers : AcceptedAnswers
+accepted-answers = record {
+  accepted-solve = λ n a b allowance x work shape given computed regular much.
+      accepted-solve n a b allowance x work (search shape) (search given) (search computed) (search regular) (search much);
+  accepted-inverse = λ n mat out work shape given computed regular. accepted-inverse n mat out work (search shape) (search given) (search computed) (search regular);
+}

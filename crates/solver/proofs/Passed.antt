@@ -9,15 +9,16 @@ pub record Passed (i : ℕ) (New Old : ℕ → Type 0) : Type 0 where
   pub behind : (k : ℕ) → k < i → New k
   pub ahead : (k : ℕ) → i ≤ k → Old k
 
+-- index i, or one before it
+pub up-to : (i : ℕ) (P : ℕ → Type 0) → P i → ((k : ℕ) → k < i → P k) → (k : ℕ) → k < i + 1 → P k
+up-to i P here before k l = ⊎-elim (λ e. subst P (sym e) here) (λ l'. before k l') (eq-or-lt-of-le {n = k} {m = i} (omega arith))
+
 -- a turn at i makes i new, and leaves every other index as it was
 turn : (i : ℕ) (New Old New' Old' : ℕ → Type 0) → Passed i New Old → New' i
     → ((k : ℕ) → (k ≡ i → ⊥) → New k → New' k) → ((k : ℕ) → (k ≡ i → ⊥) → Old k → Old' k) → Passed (i + 1) New' Old'
 turn i New Old New' Old' p here new old =
     record {
-      behind = λ (k : ℕ) (l : k < i + 1). ⊎-elim
-          (λ e. subst New' (sym e) here)
-          (λ l'. new k (λ (e : k ≡ i). omega arith) (p .behind k l'))
-          (eq-or-lt-of-le {n = k} {m = i} (omega arith));
+      behind = up-to i New' here (λ (k : ℕ) (l : k < i). new k (λ (e : k ≡ i). omega arith) (p .behind k l));
       ahead = λ (k : ℕ) (l : i + 1 ≤ k). old k (λ (e : k ≡ i). omega arith) (p .ahead k (omega arith));
     }
 

@@ -1,7 +1,6 @@
 -- Rows as parts of the work slice: a row read, the slice when its row came back, rows swapped, scaled and reduced.
 use Rattle.prelude.proofs.Prelude.{_≡_, refl, sym, ap, _∙_, Bool, true, false, _||_, cond, List, ℕ, _+_, _-_, _*_, _<_, arith, eqb, length, take, drop, Float, zero-add, sub-zero, eqb-true, eq-eqb, length-take-le}
 use Rattle.complex.specs.{Complex, cmul, csub, complexInv, entry, Matrix, entryAt}
-use Rattle.complex.proofs.Entries.{entry-take}
 use Rattle.complex.proofs.Matrices.{entry-within}
 use Rattle.lists.proofs.Parts.{back}
 use Rattle.solver.specs.GaussJordan.{swapped, scaled, reduced}
@@ -28,9 +27,6 @@ pub entry-inside : {n w long i c : ℕ} → WorkRows n w long → i < n → c < 
 entry-inside {n = n} {w = w} {i = i} {c = c} rows h k = let within = entry-within n w i c h (omega (arith, rows .wide)) in omega (arith, rows .full)
 
 -- a row at the front of a longer list
-pub front-read : (w : ℕ) (xs : List Float) (j : ℕ) → j < w → entry (take (2 * w - 0) (drop 0 xs)) j ≡ entry xs j
-front-read w xs j h = rw (sub-zero (2 * w)) (entry-take w xs j h)
-
 pub front-long : (w : ℕ) (xs : List Float) → length xs ≡ 4 * w → length (take (2 * w - 0) (drop 0 xs)) ≡ 2 * w
 front-long w xs l = rw (sub-zero (2 * w)) (length-take-le (2 * w) xs (omega arith))
 

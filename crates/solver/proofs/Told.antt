@@ -27,6 +27,10 @@ pub not-done : {r : Eliminated} {left : ℕ} → isDone r ≡ false → r ≡ Do
 unfolding isDone
 not-done h e = true≢false (sym (ap isDone e) ∙ h)
 
+pub not-small : {r : Eliminated} → eqb (numberOf r) 13 ≡ false → r ≡ Small → ⊥
+unfolding numberOf
+not-small h e = true≢false (sym (ap (λ (x : Eliminated). eqb (numberOf x) 13) e) ∙ h)
+
 pub some-number : (r : Eliminated) → isDone r ≡ false → numberOf r ≡ 0 → ⊥
 unfolding isDone numberOf
 some-number (Done left) h e = true≢false h

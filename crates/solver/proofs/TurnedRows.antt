@@ -1,39 +1,79 @@
--- A row with the same row turned behind it: how it is made, and that a row reduced by it number by number is reduced entry by entry, to the bit.
-use Rattle.prelude.proofs.Prelude.{_≡_, refl, sym, ap, _∙_, List, ℕ, _+_, _*_, _≤_, _<_, arith, length, getD, Float, nan, ⊎-elim, eq-or-lt-of-le, binary64, sub}
+-- A row scaled, with the same row turned behind it, and a factor times a number that is turned beside it.
+use Rattle.prelude.proofs.Prelude.{_≡_, refl, sym, ap, _∙_, List, ℕ, _+_, _*_, _≤_, _<_, arith, length, Float, binary64, sub}
 use Rattle.binary64.proofs.Signs.{mul-neg}
-use Rattle.complex.specs.{Complex, _⊕_, _⊖_, _⊗_, cmul, csub, entry, put}
+use Rattle.complex.specs.{Complex, _⊕_, _⊗_, cmul, entry, put}
 use Rattle.complex.proofs.Entries.{parts-same, length-put, entry-put-same, entry-put-other}
 use Rattle.solver.specs.Inner.Work.{turned, BesideTurned}
+use Rattle.solver.proofs.Passed.{up-to}
 
--- ---- made: the first w entries as they were, those behind them turned up to the j-th
+-- ---- made: the first j entries are scaled and stand in `to` and, turned, behind the first w; the others of the w are as they were
 
-pub record TurnedTo (w : ℕ) (ys₀ ys : List Float) (j : ℕ) : Type 0 where
+pub record ScaledTo (w : ℕ) (by : Complex) (ys₀ ys to : List Float) (j : ℕ) : Type 0 where
+  pub most : j ≤ w
   pub long : length ys ≡ 4 * w
-  pub kept : (k : ℕ) → k < w → entry ys k ≡ entry ys₀ k
-  pub behind : (k : ℕ) → k < j → entry ys (w + k) ≡ turned (entry ys₀ k)
+  pub room : length to ≡ 2 * w
+  pub ahead : (k : ℕ) → j ≤ k → k < w → entry ys k ≡ entry ys₀ k
+  pub behind : (k : ℕ) → k < j → entry ys k ≡ cmul (entry ys₀ k) by
+  pub halves : (k : ℕ) → k < j → entry ys (w + k) ≡ turned (entry ys k)
+  pub stored : (k : ℕ) → k < j → entry to k ≡ entry ys k
 
-pub turned-none : (w : ℕ) (ys : List Float) → length ys ≡ 4 * w → TurnedTo w ys ys 0
-turned-none w ys l =
-    record { long = l; kept = λ (k : ℕ) (h : k < w). refl; behind = λ (k : ℕ) (h : k < 0). absurd (omega arith) }
+pub scaled-none : (w : ℕ) (by : Complex) (ys to : List Float) → length ys ≡ 4 * w → length to ≡ 2 * w → ScaledTo w by ys ys to 0
+scaled-none w by ys to l r = record {
+  most = omega arith;
+  long = l;
+  room = r;
+  ahead = λ k h g. refl;
+  behind = λ k h. absurd (omega arith);
+  halves = λ k h. absurd (omega arith);
+  stored = λ k h. absurd (omega arith);
+}
 
-pub turned-more : (w : ℕ) (ys₀ ys ys' : List Float) (j : ℕ) → j < w → TurnedTo w ys₀ ys j → ys' ≡ put ys (w + j) (turned (entry ys j)) → TurnedTo w ys₀ ys' (j + 1)
-turned-more w ys₀ ys ys' j h p e =
-    let l : length ys ≡ 4 * w = p .long in
-    let v = turned (entry ys j) in
-    record {
-      long = ap length e ∙ length-put ys (w + j) v ∙ l;
-      kept = λ (k : ℕ) (g : k < w).
-          ap (λ (zs : List Float). entry zs k) e ∙ entry-put-other ys (w + j) v k (λ (n : k ≡ w + j). omega arith) ∙ p .kept k g;
-      behind = λ (k : ℕ) (g : k < j + 1). ap (λ (zs : List Float). entry zs (w + k)) e ∙ ⊎-elim
-          (λ n. ap (λ (i : ℕ). entry (put ys (w + j) v) (w + i)) n ∙ entry-put-same ys (w + j) v (omega arith)
-          ∙ ap turned (p .kept j h) ∙ ap (λ (i : ℕ). turned (entry ys₀ i)) (sym n))
-          (λ g'. entry-put-other ys (w + j) v (w + k) (λ (n : w + k ≡ w + j). omega arith) ∙ p .behind k g')
-          (eq-or-lt-of-le {n = k} {m = j} (omega arith));
-    }
+module _ (w : ℕ) (by : Complex) (ys₀ ys to : List Float) (j : ℕ) (h : j < w) (s : ScaledTo w by ys₀ ys to j) (p : Complex) where
+  abbrev once : List Float
+  once = put ys j p
 
-pub turned-all : (w : ℕ) (ys₀ ys : List Float) (j : ℕ) → w ≤ j → TurnedTo w ys₀ ys j → BesideTurned w ys
-turned-all w ys₀ ys j g p =
-    record { long = p .long; halves = λ (q : ℕ) (h : q < w). p .behind q (omega arith) ∙ ap turned (sym (p .kept q h)) }
+  abbrev twice : List Float
+  twice = put once (w + j) (turned p)
+
+  here : entry twice j ≡ p
+  here = entry-put-other once (w + j) (turned p) j (λ (n : j ≡ w + j). omega arith) ∙ entry-put-same ys j p (omega (arith, s .long))
+
+  beside : entry twice (w + j) ≡ turned p
+  beside = let l = length-put ys j p in entry-put-same once (w + j) (turned p) (omega (arith, s .long))
+
+  front : (k : ℕ) → k < w → (k ≡ j → ⊥) → entry twice k ≡ entry ys k
+  front k g n = entry-put-other once (w + j) (turned p) k (λ (m : k ≡ w + j). omega arith) ∙ entry-put-other ys j p k n
+
+  back : (k : ℕ) → k < j → entry twice (w + k) ≡ entry ys (w + k)
+  back k g = entry-put-other once (w + j) (turned p) (w + k) (λ (m : w + k ≡ w + j). omega arith) ∙ entry-put-other ys j p (w + k) (λ (m : w + k ≡ j). omega arith)
+
+  scaled-more : p ≡ cmul (entry ys j) by → ScaledTo w by ys₀ twice (put to j p) (j + 1)
+  scaled-more e = record {
+    most = omega arith;
+    long = length-put once (w + j) (turned p) ∙ length-put ys j p ∙ s .long;
+    room = length-put to j p ∙ s .room;
+    ahead = λ k g l. front k l (λ (n : k ≡ j). omega arith) ∙ s .ahead k (omega arith) l;
+    behind = up-to j (λ (k : ℕ). entry twice k ≡ cmul (entry ys₀ k) by)
+        (here ∙ e ∙ ap (λ (x : Complex). cmul x by) (s .ahead j (omega arith) h))
+        (λ k g. front k (omega arith) (λ (n : k ≡ j). omega arith) ∙ s .behind k g);
+    halves = up-to j (λ (k : ℕ). entry twice (w + k) ≡ turned (entry twice k))
+        (beside ∙ ap turned (sym here))
+        (λ k g. back k g ∙ s .halves k g ∙ ap turned (sym (front k (omega arith) (λ (n : k ≡ j). omega arith))));
+    stored = up-to j (λ (k : ℕ). entry (put to j p) k ≡ entry twice k)
+        (entry-put-same to j p (omega (arith, s .room)) ∙ sym here)
+        (λ k g. entry-put-other to j p k (λ (n : k ≡ j). omega arith) ∙ s .stored k g ∙ sym (front k (omega arith) (λ (n : k ≡ j). omega arith)));
+  }
+
+  pub scaled-next : (zs ts : List Float) → zs ≡ twice → ts ≡ put to j p → p ≡ cmul (entry ys j) by → ScaledTo w by ys₀ zs ts (j + 1)
+  scaled-next zs ts a b e = rw (a, b) (scaled-more e)
+
+pub scaled-all : (w : ℕ) (by : Complex) (ys₀ ys to : List Float) (j : ℕ) → w ≤ j → ScaledTo w by ys₀ ys to j
+    → BesideTurned w ys × ((q : ℕ) → q < w → entry ys q ≡ cmul (entry ys₀ q) by) × ((q : ℕ) → q < w → entry to q ≡ entry ys q)
+scaled-all w by ys₀ ys to j g s = (
+  record { long = s .long; halves = λ q h. s .halves q (omega arith) },
+  λ q h. s .behind q (omega arith),
+  λ q h. s .stored q (omega arith),
+)
 
 -- ---- used
 
@@ -46,32 +86,8 @@ turned-im : (f p : Complex) → f .re ⊗ p .im ⊕ f .im ⊗ turned p .im ≡ c
 unfolding turned cmul
 turned-im f p = refl
 
-module _ (w : ℕ) (pivot : List Float) (f : Complex) where
-  -- what is taken from number k of a row
-  unfoldable pub taken : ℕ → Float
-  taken k = f .re ⊗ getD pivot k nan ⊕ f .im ⊗ getD pivot (2 * w + k) nan
-
-  module _ (beside : BesideTurned w pivot) (q : ℕ) (h : q < w) where
-    taken-re : taken (2 * q) ≡ cmul f (entry pivot q) .re
-    unfolding taken entry
-    taken-re =
-        let at : 2 * w + 2 * q ≡ 2 * (w + q) = omega arith in
-        ap (λ (k : ℕ). f .re ⊗ getD pivot (2 * q) nan ⊕ f .im ⊗ getD pivot k nan) at
-        ∙ ap (λ (c : Complex). f .re ⊗ getD pivot (2 * q) nan ⊕ f .im ⊗ c .re) (beside .halves q h)
-        ∙ turned-re f (entry pivot q)
-
-    taken-im : taken (2 * q + 1) ≡ cmul f (entry pivot q) .im
-    unfolding taken entry
-    taken-im =
-        let at : 2 * w + (2 * q + 1) ≡ 2 * (w + q) + 1 = omega arith in
-        ap (λ (k : ℕ). f .re ⊗ getD pivot (2 * q + 1) nan ⊕ f .im ⊗ getD pivot k nan) at
-        ∙ ap (λ (c : Complex). f .re ⊗ getD pivot (2 * q + 1) nan ⊕ f .im ⊗ c .im) (beside .halves q h)
-        ∙ turned-im f (entry pivot q)
-
-  pub number-by-number : (row row' : List Float) → BesideTurned w pivot → ((k : ℕ) → k < 2 * w → getD row' k nan ≡ getD row k nan ⊖ taken k)
-      → (q : ℕ) → q < w → entry row' q ≡ csub (entry row q) (cmul f (entry pivot q))
-  unfolding entry csub
-  number-by-number row row' beside each q h =
-      parts-same
-      (each (2 * q) (omega arith) ∙ ap (λ (x : Float). getD row (2 * q) nan ⊖ x) (taken-re beside q h))
-      (each (2 * q + 1) (omega arith) ∙ ap (λ (x : Float). getD row (2 * q + 1) nan ⊖ x) (taken-im beside q h))
+pub turned-product : (f p t : Complex) → t ≡ turned p → record { re = f .re ⊗ p .re ⊕ f .im ⊗ t .re; im = f .re ⊗ p .im ⊕ f .im ⊗ t .im } ≡ cmul f p
+turned-product f p t e =
+    parts-same
+    (ap (λ (x : Complex). f .re ⊗ p .re ⊕ f .im ⊗ x .re) e ∙ turned-re f p)
+    (ap (λ (x : Complex). f .re ⊗ p .im ⊕ f .im ⊗ x .im) e ∙ turned-im f p)

@@ -22,7 +22,7 @@ ghost use Rattle.complex.specs.Entries.{entry};
 ghost use Rattle.complex.specs.Matrices.{entryAt};
 ghost use Rattle.lists.specs.Buses.{upTo};
 ghost use Rattle.refusals.specs.Refusals.{limit};
-ghost use Rattle.solver.specs.declared.elimination.Eliminated.the-variants.{Done};
+ghost use Rattle.solver.specs.declared.elimination.Eliminated.the-variants.{Done, Small};
 ghost use Rattle.solver.specs.GaussJordan as spec;
 ghost use Rattle.solver.specs.Solving.{operations};
 ghost use Rattle.solver.specs.Steps as steps;
@@ -70,7 +70,7 @@ fn swap(work: &mut [f64], n: usize, w: usize, c: usize, p: usize, row: &mut [f64
     let Span { start: a, end: b } = span_of(n, w, 0, w, c);
     let Span { start, end } = span_of(n, w, 0, w, p);
     rows::copy(&work[a..b], row);
-    rows::exchange(&mut work[start..end], row);
+    rows::exchange(&mut work[start..end], row, w);
     rows::copy(row, &mut work[a..b]);
 }
 
@@ -151,6 +151,7 @@ fn reduce_others(
         (now (work .exit)) r)
         × ((left : ℕ) → r ≡ Done left → (i j : ℕ) → i < n → j < w
         → entryAt w (now (work .exit)) i j ≡ spec.reduced operations c (entryAt w (now (work .entry))) i j)
+        × (r ≡ Small → ⊥)
         ⌝ }
 {
     let mut left = allowed;
@@ -189,16 +190,14 @@ fn clear_column(
         (Told allowed (stepsOfClearing n w c (entryAt w (now (work .entry)))) (now (work .entry)) (now (work .exit)) r)
         × ((left : ℕ) → r ≡ Done left → (i j : ℕ) → i < n → j < w
         → entryAt w (now (work .exit)) i j ≡ spec.cleared operations c (entryAt w (now (work .entry))) i j)
+        × (r ≡ Small → ⊥)
         ⌝ }
 {
     let Pair::Finite(inverse) = complex_inv(get(row, c)) else {
         return Eliminated::NotFinite;
     };
-    rows::scale(row, w, inverse);
     let Span { start, end } = span_of(n, w, 0, w, c);
-    let e = 2 * w;
-    rows::copy(&row[0..e], &mut work[start..end]);
-    rows::turn(row, w);
+    rows::scale(row, w, inverse, &mut work[start..end]);
     reduce_others(work, n, w, c, row, allowed)
 }
 

@@ -18,9 +18,10 @@ pub mod solving;
 
 // x becomes the solution of a x = b: a has n rows of n complex entries, b and x have n, and the work slice has n rows of n + 1. Answers how
 // many rows were reduced: the pairs of column and other row whose factor was not skipped, at most n (n - 1).
-// Refused: 1, 2, 5 from the input, 19 where a number of a or b is not finite; 13 where a pivot is too small, 18 before the row reduction
-// that would exceed the allowance, 20 where a number computed is not finite, whichever the work meets first. The work slice is all +0 after
-// acceptance, 13, 18 or 20.
+// Refused: 1, 2, 5 from the input, 19 where a number of a or b is not finite; 13 where a pivot is below 1e-150 in size, 18 before the row
+// reduction that would exceed the allowance, 20 where a number computed is not finite, whichever the work meets first. The work slice is
+// all +0 after acceptance, 13, 18 or 20. 13 is no test for a singular system: rounding leaves most of them a larger pivot, and what they
+// do not determine is noise.
 pub fn solve_linear(
     n: usize,
     a: &[f64],
@@ -49,8 +50,9 @@ pub fn solve_linear(
 }
 
 // `inverse` becomes the inverse of mat, both n rows of n complex entries; the work slice has n rows of 2 n.
-// Refused: 1, 2, 5 from the input, 19 where a number of mat is not finite; 13 where a pivot is too small, 20 where a number computed is not
-// finite, whichever the work meets first. The work slice is all +0 after acceptance, 13 or 20.
+// Refused: 1, 2, 5 from the input, 19 where a number of mat is not finite; 13 where a pivot is below 1e-150 in size, 20 where a number
+// computed is not finite, whichever the work meets first. The work slice is all +0 after acceptance, 13 or 20. 13 is no test for a singular
+// matrix: the inverse of a bus matrix needs a shunt to ground in every island, and without one it is mostly answered, as noise.
 pub fn complex_matrix_inverse(
     n: usize,
     mat: &[f64],

@@ -89,15 +89,23 @@ stepsOfColumn n w c A =
     computing (ofSearch operations workings A c c (suc c) (n - suc c) ++ workings .ofWeight (B c c))
     ++ cond (operations .small (B c c)) (pivotTooSmall ∷ []) (stepsOfClearing n w c B)
 
+-- Column c's turn. What the slice holds is said where the column is done, and where its pivot is too small. It is free, but for its length,
+-- in two cases, here and in the whole elimination. At 18 row c is scaled, and of the others those above the one that would exceed the
+-- allowance have had their turn, the rest not. At 20 it is what the columns left, to whichever end they came, with or without numbers that
+-- are not finite. No answer depends on it then: the calls that are offered leave +0. The room for a row is free at every end.
 pub record ColumnDone (n w c allowed : ℕ) (answered : Eliminated) (before after : List Float) : Type 0 where
   pub told : Told allowed (stepsOfColumn n w c (entryAt w before)) before after answered
   pub entries : (left : ℕ) → answered ≡ Done left → let B = pivoted operations n c (entryAt w before) in
       (operations .small (B c c) ≡ false) × ((i j : ℕ) → i < n → j < w → entryAt w after i j ≡ cleared operations c B i j)
+  -- the two rows have changed places, and no more
+  pub small : answered ≡ Small → let B = pivoted operations n c (entryAt w before) in
+      (operations .small (B c c) ≡ true) × ((i j : ℕ) → i < n → j < w → entryAt w after i j ≡ B i j)
 
 -- all columns' turn, before the slice is looked at
 pub record Ran (n w allowed : ℕ) (answered : Eliminated) (before after : List Float) : Type 0 where
   pub told : Told allowed (stepsOfRun operations workings n w (entryAt w before)) before after answered
   pub entries : (left : ℕ) → answered ≡ Done left → after ≡ grid n w (gaussJordan operations n (entryAt w before) .left)
+  pub small : answered ≡ Small → after ≡ grid n w (gaussJordan operations n (entryAt w before) .left)
 
 -- an elimination that is done: how many row reductions are left, and what the slice holds
 pub record Finished (n w allowed left : ℕ) (before after : List Float) : Type 0 where
@@ -109,6 +117,8 @@ pub record Met (n w allowed : ℕ) (answered : Eliminated) (before after : List 
   -- the refusal that the work meets first, 0 where it is done
   pub number : numberOf answered ≡ meets allowed (stepsOfRun operations workings n w (entryAt w before))
   pub done : (left : ℕ) → answered ≡ Done left → Finished n w allowed left before after
+  -- at 13 the slice holds the matrix where the work ended, and all of it is finite: where something is not, 20 is told in its stead
+  pub small : answered ≡ Small → (after ≡ grid n w (gaussJordan operations n (entryAt w before) .left)) × T (allFinite after)
   pub length-kept : length after ≡ length before
 
 -- ---- blocks of m columns from column `at` on

@@ -58,7 +58,7 @@ returns-2 : tie.Need-returns-2
 unfolding divisionLimit
 returns-2 c =
     let t = c .before .before .before .before .before .before .before .before in let x = c .before .before .before .before .clear-column in
-    column-cleared _ _ _ _ (s t .pre .0 .wide) (s t .pre .1) _ _ (s t .pre .0 .full) (long t) (rows t) (answer t false (c .before .before .before .before .before .before .before .if1 .left)) _ _ (x .ensures .0) (x .ensures .1)
+    column-cleared _ _ _ _ (s t .pre .0 .wide) (s t .pre .1) _ _ (s t .pre .0 .full) (long t) (rows t) (answer t false (c .before .before .before .before .before .before .before .if1 .left)) _ _ (x .ensures .0) (x .ensures .1) (x .ensures .2)
 
 pub column-spec : {M : Type 1} → statement M
 column-spec = tie.close (tie.spec (λ c κs. search needs) (λ c. search needs) (λ c. search needs) (λ c. search needs) (λ c. search needs)

@@ -2,8 +2,8 @@
 use Rattle.prelude.proofs.Prelude.{_≡_, refl, sym, ap, _∙_, inl, inr, ℕ, _+_, _-_, _*_, _<_, arith, needs, length, add-one, not-true, not-false}
 use native.Mathlib.Nat.{suc-mul}
 use Rattle.complex.proofs.Matrices.{row-within}
-use Rattle.solver.specs.Inner.Work.{isDone}
-use Rattle.solver.proofs.Told.{not-done}
+use Rattle.solver.specs.Inner.Work.{isDone, numberOf}
+use Rattle.solver.proofs.Told.{not-done, not-small}
 use Rattle.solver.proofs.RowTurns.{Reducing, reducing-first, reducing-same, reducing-alone, reducing-more, reducing-exceeded, reducing-end}
 use Rattle.solver.proofs.elimination.reduce_others.Statement.{statement}
 use Rattle.solver.proofs.elimination.reduce_others.Tie as tie
@@ -23,12 +23,13 @@ module _ (c : tie.After-left-alone Inv-loop μ-loop) where
   here = omega (arith, start .pre .1, start .pre .0 .wide)
 
 returns : tie.Need-returns Inv-loop μ-loop
-unfolding isDone
+unfolding isDone numberOf
 returns c =
     let t = c .before .before in (
       reducing-exceeded _ _ _ _ _ _ _ _ (t .before .before .before .loop .inv .0) (here t) (t .before .before .loop-test .taken)
           (sym (t .left-alone .ensures) ∙ not-true _ (c .before .if1 .taken)) (c .if2 .taken),
       λ left e. absurd (not-done refl e),
+      λ e. not-small refl e,
     )
 
 -- row i done, the next row's factor is w places on
@@ -60,10 +61,15 @@ module _ (c : tie.Joined1 Inv-loop μ-loop) where
       let inside = row-within (s .args .n) (s .args .w) row (turn .before .before .loop-test .taken) in
       omega (arith, l .inv .1, s .pre .0 .full, s .pre .0 .wide, s .pre .1)
 
+returns-2 : tie.Need-returns-2 Inv-loop μ-loop
+unfolding numberOf
+returns-2 c =
+    let s = c .before .before .before .before in
+    let e = reducing-end _ _ _ _ _ _ _ _ (c .before .loop .inv .0) (omega (arith, s .pre .1, s .pre .0 .wide)) (c .loop-test .left) in
+    (e .0, λ left k. e .1, λ k. not-small refl k)
+
 pub reduce-others-spec : {M : Type 1} → statement M
 reduce-others-spec = tie.close (tie.spec Inv-loop μ-loop (λ c. (reducing-first _ _ _ _ _ (c .before .before .pre .0 .full), omega arith)) (λ c κs. search needs)
     (λ c. search needs) returns (λ c κs. search needs) (λ c. search needs) (λ c. record { fits = omega (arith, far c) }) (λ c. search needs) (λ c. search needs)
     (λ c. (reduced c, omega (arith, c .before .before .before .before .loop .inv .1, next c))) (λ c. search needs)
-    (λ c. let s = c .before .before .before .before in
-    let e = reducing-end _ _ _ _ _ _ _ _ (c .before .loop .inv .0) (omega (arith, s .pre .1, s .pre .0 .wide)) (c .loop-test .left) in
-    (e .0, λ left k. e .1)))
+    returns-2)

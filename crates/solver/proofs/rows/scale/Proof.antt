@@ -1,30 +1,35 @@
--- `solver::rows::scale` meets its contract. The invariant: the entries below j are multiplied, the others as they were.
-use Rattle.prelude.proofs.Prelude.{_≡_, refl, ap, _∙_, ℕ, _-_, _≤_, _<_, arith, needs, length}
-use Rattle.complex.specs.{Complex, cmul, entry, put}
-use Rattle.solver.proofs.Passed.{Mapped, put-none, mapped-at}
+-- `solver::rows::scale` meets its contract.
+use Rattle.prelude.proofs.Prelude.{ap, _∙_, List, _+_, _-_, arith, needs, Float}
+use Rattle.complex.specs.{Complex, cmul, put}
+use Rattle.solver.proofs.TurnedRows.{ScaledTo, scaled-none, scaled-next, scaled-all}
 use Rattle.solver.proofs.rows.scale.Statement.{statement}
 use Rattle.solver.proofs.rows.scale.Tie as tie
 
 abbrev Inv-loop : tie.InvT-loop
-Inv-loop row₀ w by j₀ row j = (j ≤ w) × (length row ≡ length row₀) × Mapped (λ (k : ℕ) (x : Complex). cmul x by) row₀ row j
+Inv-loop row₀ w by to₀ j₀ row to j = ScaledTo w by row₀ row to j
 
 abbrev μ-loop : tie.MeasureT-loop
-μ-loop row₀ w by j₀ row j = w - j
+μ-loop row₀ w by to₀ j₀ row to j = w - j
 
 loop-holds : tie.Need-loop-holds Inv-loop μ-loop
-loop-holds c = (omega arith, refl, put-none (c .before .args .row .now) (λ (k : ℕ). cmul (entry (c .before .args .row .now) k) (c .before .args .by)))
+loop-holds c = let s = c .before .before in scaled-none (s .args .w) (s .args .by) (s .args .row .now) (s .args .to .now) (s .pre .0) (s .pre .1)
 
 loop-again : tie.Need-loop-again Inv-loop μ-loop
 loop-again c =
-    let p = c .before .before .put in let m = c .before .before .before .cmul in let g = c .before .before .before .before .before .get in
-    let t = c .before .before .before .before .before .before .before in let l = t .before .loop in let start = t .before .before .before in
-    let more = mapped-at (λ (k : ℕ) (x : Complex). cmul x (start .args .by)) (start .args .row .now) (l .row) (p .last .0) (l .j) (omega arith) (l .inv .2)
-    (p .ensures ∙ ap (put (l .row) (l .j)) (m .ensures ∙ ap (λ (x : Complex). cmul x (start .args .by)) (g .ensures))) in
-    (omega arith, more .0 ∙ l .inv .1, more .1)
+    let m = c .before .before .before .before .before .before .before .before .before .before .before .before .before .cmul in let l = c .before .before .before .before .before .before .before .before .before .before .before .before .before .before .before .before .before .loop in let a = c .before .before .before .before .before .before .before .before .before .before .before .before .before .before .before .before .before .before .before .before .args in
+    scaled-next (a .w) (a .by) (a .row .now) (l .row) (l .to) (l .j) (c .before .before .before .before .before .before .before .before .before .before .before .before .before .before .before .before .loop-test .taken) (l .inv) (m .result) _ _
+    (c .before .before .before .before .before .before .put2 .ensures
+    ∙ ap (λ (ys : List Float). put ys (a .w + l .j) (c .before .before .before .before .before .before .before .turn .result)) (c .before .before .before .before .before .before .before .before .before .before .before .put .ensures)
+    ∙ ap (put (put (l .row) (l .j) (m .result)) (a .w + l .j)) (c .before .before .before .before .before .before .before .turn .ensures))
+    (c .before .before .put3 .ensures)
+    (m .ensures ∙ ap (λ (x : Complex). cmul x (a .by)) (c .before .before .before .before .before .before .before .before .before .before .before .before .before .before .get .ensures))
 
 returns : tie.Need-returns Inv-loop μ-loop
-returns c = λ (q : ℕ) (h : q < c .before .before .before .args .w). c .before .loop .inv .2 .behind q (omega arith)
+returns c =
+    let l = c .before .loop in let a = c .before .before .before .before .args in
+    scaled-all (a .w) (a .by) (a .row .now) (l .row) (l .to) (l .j) (c .loop-test .left) (l .inv)
 
 pub scale-spec : {M : Type 1} → statement M
-scale-spec = tie.close (tie.spec Inv-loop μ-loop loop-holds (λ c κs. search needs) (λ c κs. search needs) (λ c κs. search needs)
-    (λ c. search needs) (λ c. search needs) loop-again (λ c. search needs) returns)
+scale-spec = tie.close (tie.spec Inv-loop μ-loop loop-holds (λ c κs. search needs) (λ c κs. search needs) (λ c κs. search needs) (λ c. search needs)
+    (λ c κs. search needs) (λ c κs. search needs) (λ c κs. search needs) (λ c. search needs) (λ c. search needs) loop-again (λ c. search needs)
+    (λ c. search needs) returns)
