@@ -1,9 +1,7 @@
 -- What the calls on a record answer and leave, from the tests that the code makes and from what a list of removals leaves.
 use Rattle.prelude.proofs.Prelude.{_≡_, refl, sym, ap, _∙_, true, false, not, _||_, _⊎_, inl, inr, List, [], _∷_, _++_, ℕ, zero, suc, _+_, _-_, _*_, _≤_, _<_, arith, T, eqb, ltb, length, take, drop, Float, ap₂, append-nil, zero-add, sub-zero, le-trans, mul-le-mul, mul-le-mul-left, ne-eqb, ltb-false, length-drop, drop-of-length-le, length-take-le}
-use Rattle.complex.specs.{entryAt, zeros, rows}
+use Rattle.complex.specs.{zeros}
 use Rattle.lists.proofs.Parts.{back}
-use Rattle.complex.proofs.Entries.{entry-take}
-use Rattle.complex.proofs.Matrices.{rows-ext, entry-within}
 use Rattle.refusals.proofs.Answering.{passed, accepting}
 use Rattle.refusals.proofs.Numbers.{given-none, given-before, given-not, given-all}
 use Rattle.refusals.specs.Refusals.{limit, givenNotFinite}
@@ -13,10 +11,11 @@ use Rattle.kron_reduction.specs.declared.AfterRemovals.{AfterRemovals}
 use Rattle.kron_reduction.specs.declared.removal.Ran.{Ran}
 use Rattle.kron_reduction.specs.Kron.{State, eliminate, carriedOut, stoppedBy}
 use Rattle.kron_reduction.specs.Reducer.{reducerOf, recordOf, activeOf, numbersOf, sound, inputShapeRefusal, present, inputRefusal, stateIn, stateOf, reducerStateOf, rowMajor, stored, leaves, rowsOf, removedRows, removalsRefusal, removalsOf, ReducerState, AfterBuses, afterBuses, padded}
-use Rattle.kron_reduction.specs.Inner.Removal.{StandsIn, Holds, RemovedAll}
+use Rattle.kron_reduction.specs.Inner.Removal.{StandsIn, leftBy, Holds, RemovedAll}
 use Rattle.lists.proofs.Buses.{neither, rising-length}
 use Rattle.kron_reduction.proofs.States.{Accepted, taken-accepted}
 use Rattle.kron_reduction.proofs.Reducer.{Sound, sound-has, filled-places}
+use Rattle.kron_reduction.proofs.Showing.{front-rows}
 use Rattle.kron_reduction.proofs.Taking.{holds-long, length-eliminate}
 
 -- ---- the input refusals
@@ -89,21 +88,10 @@ accepted-holds r ys l long e = shaped-holds r ys l long (input-shaped r ys l e)
 
 -- ---- rows at the front, +0 behind
 
-pub entryAt-take : (w n : ℕ) (ys : List Float) (p q : ℕ) → p * w + q < n → entryAt w (take (2 * n) ys) p q ≡ entryAt w ys p q
-unfolding entryAt
-entryAt-take w n ys p q h = entry-take n ys (p * w + q) h
-
 pub stored-front : (s : State) (m len : ℕ) (ys : List Float) → length (s .active) ≡ m → StandsIn s ys → length ys ≡ len → 2 * (m * m) ≤ len
     → take (2 * (m * m)) ys ++ zeros (len - 2 * (m * m)) ≡ rowMajor len (s .active) (s .entries)
 unfolding rowMajor
-stored-front s m len ys e shows long fits = ap₂ (λ (a b : List Float). a ++ b) front (ap (λ (k : ℕ). zeros (len - 2 * (k * k))) (sym e))
-  where
-    front : take (2 * (m * m)) ys ≡ rows (s .entries) (s .active) (s .active)
-    front =
-        rows-ext (s .entries) (s .active) (s .active) (take (2 * (m * m)) ys)
-        (length-take-le (2 * (m * m)) ys (rw long fits) ∙ ap (λ (k : ℕ). 2 * (k * k)) (sym e))
-        λ (p q : ℕ) (u : p < length (s .active)) (v : q < length (s .active)).
-        entryAt-take (length (s .active)) (m * m) ys p q (rw (← e) (entry-within (length (s .active)) (length (s .active)) p q u v)) ∙ shows p q u v
+stored-front s m len ys e shows long fits = ap₂ (λ (a b : List Float). a ++ b) (front-rows s m ys e shows (rw long fits)) (ap (λ (k : ℕ). zeros (len - 2 * (k * k))) (sym e))
 
 -- a list whose end came back as zs
 pub back-end : (a len : ℕ) (ys zs : List Float) → length ys ≡ len → back a (len - a) ys zs ≡ take a ys ++ zs
@@ -169,13 +157,14 @@ module _ (r : KronReducer) (ys : List Float) (ks : List ℕ) where
           ∙ ap (λ (x : AfterBuses). x .out) (sym after)
 
       pub buses-none : ran .done ≡ 0 → (removalsOf (ran .stopped) (ran .done) left ≡ afterBuses r ys ks .out) × (zs ≡ afterBuses r ys ks .slice)
+      unfolding leftBy
       buses-none z =
           let none : carriedOut s rs ≡ [] = nothing (carriedOut s rs) (sym (t .count) ∙ z) in
           let kept : leaves r ys (carriedOut s rs) ≡ reducerStateOf r ys = ap (leaves r ys) none ∙ leaves-none r ys in
           let places : bs ≡ r .«active_buses» = t .places ∙ ap (λ (ts : List ℕ). padded (eliminate s ts .active)) none ∙ same-places in
           let all : left ≡ r = ap₂ (λ (n : ℕ) (xs : List ℕ). reducerOf (r .made) n xs (r .numbers)) (ap (λ (d : ℕ). r .«n_buses» - d) z ∙ sub-zero (r .«n_buses»)) places in (
             answered (all ∙ ap (λ (h : ReducerState). h .rec) (sym kept)),
-            t .none z ∙ ap (λ (h : ReducerState). h .slice) (sym kept) ∙ ap (λ (x : AfterBuses). x .slice) (sym after),
+            t .slice ∙ ap (leftBy s ys) none ∙ ap (λ (h : ReducerState). h .slice) (sym kept) ∙ ap (λ (x : AfterBuses). x .slice) (sym after),
           )
 
       -- the state that is left

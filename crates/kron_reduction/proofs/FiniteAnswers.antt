@@ -1,26 +1,27 @@
--- What an accepted call leaves in the present rows, or writes, is finite.
-use Rattle.prelude.proofs.Prelude.{_≡_, refl, sym, ap, _∙_, subst, List, [], _∷_, _++_, ℕ, zero, suc, _+_, _*_, arith, T, length, replicate, Float, ofBits, take-at}
+-- What an accepted call leaves in the present rows, or writes, is finite, and no impedance is refused whose numbers are finite.
+use Rattle.prelude.proofs.Prelude.{_≡_, refl, sym, ap, _∙_, subst, not, is-true, List, [], _∷_, _++_, ℕ, zero, suc, _+_, _*_, arith, T, length, replicate, Float, ofBits, take-at}
 use Rattle.binary64.specs.Values.{allFinite}
 use Rattle.complex.specs.{Complex, plus0, cadd, cmul, ofParts, ofSum, ofDifference, ofProduct, entry as entryOf, entryAt, zeros, rows, Matrix}
-use Rattle.complex.proofs.Finite.{none, all-more, all-join, all-right, all-at}
+use Rattle.complex.proofs.Finite.{none, all-more, all-join, all-left, all-right, all-at}
 use Rattle.complex.proofs.Matrices.{length-rows, entry-within}
 use Rattle.lists.proofs.Buses.{below-upTo}
 use Rattle.refusals.specs.Refusals.{limit}
 use Rattle.refusals.proofs.Answering.{then-none}
-use Rattle.refusals.proofs.Numbers.{given-none}
-use Rattle.refusals.proofs.Work.{all-finite, numbers-both, numbers-alone}
+use Rattle.refusals.proofs.Numbers.{given-none, given-all}
+use Rattle.refusals.proofs.Work.{all-finite, numbers-both, numbers-alone, then-numbers, work-met}
 use Rattle.refusals.specs.declared.Allowance.the-variants.{Unlimited}
 use Rattle.refusals.specs.Work.{computing, numbersIn, workRefusal, thenWork}
 use Rattle.lists.specs.Buses.{place}
-use Rattle.solver.specs.Solving.{inverse}
+use Rattle.solver.specs.Solving.{isSingular, inverse}
 use Rattle.solver.specs.Steps.{stepsOfInverse}
+use Rattle.solver.proofs.FiniteAnswers.{inverse-regular}
 use Rattle.kron_reduction.specs.declared.KronReducer.{KronReducer}
 use Rattle.kron_reduction.specs.declared.Impedance.{Impedance}
 use Rattle.kron_reduction.specs.declared.Impedance.the-variants.{Value, Refused}
 use Rattle.kron_reduction.specs.Kron.{start, remove, eliminate, carriedOut}
 use Rattle.kron_reduction.specs.Reducer.{recordOf, activeOf, rowOf, numbersOf, present, inputRefusal, stateOf, rowMajor, stored, leaves, rowsOf, removedRows, afterBus, afterBuses}
 use Rattle.kron_reduction.specs.Reading.{readingShapeRefusal, readingRefusal, afterMatrix, two, theveninOf, ofThevenin, stepsOfImpedance, impedance, impedanceNumber, impedanceTold, afterImpedance}
-use Rattle.kron_reduction.specs.FiniteAnswers.{FiniteAnswers}
+use Rattle.kron_reduction.specs.FiniteAnswers.{FiniteAnswers, AcceptedImpedance}
 use Rattle.kron_reduction.proofs.States.{Accepted, taken-accepted, FiniteIn, finite-remove, finite-eliminate, rows-finite}
 use Rattle.kron_reduction.proofs.Calls.{accepts-finite, shaped-has}
 use Rattle.kron_reduction.proofs.Reading.{reading-accepted, reading-shaped, matrix-holds, stored-now}
@@ -105,3 +106,26 @@ finite-answers r ys full = record {
   matrix = λ (os : List Float) (e : readingRefusal 2 r ys (length os) ≡ 0). written-finite r ys os full e;
   impedance = λ (a b : ℕ) (ws : List Float) (z : Complex) (e : afterImpedance r ys a b ws .answer ≡ Value z). answered-finite r ys a b ws z e;
 }
+
+-- ---- what is accepted
+
+accepted-across : (n : ℕ) (Y : Matrix) (p q : ℕ) → T (allFinite (numbersIn (stepsOfImpedance n Y p q))) → T (not (isSingular n Y)) → workRefusal Unlimited (stepsOfImpedance n Y p q) ≡ 0
+unfolding stepsOfImpedance
+accepted-across n Y p q f r =
+    let es = stepsOfInverse n Y in let xs = ofThevenin (inverse n Y) p q in
+    let both : T (allFinite (numbersIn es ++ xs)) = subst (λ (l : List Float). T (allFinite l)) (numbers-both es (computing xs) ∙ ap (λ (l : List Float). numbersIn es ++ l) (numbers-alone xs)) f in
+    then-numbers es xs ∙ rw (inverse-regular n Y (all-left (numbersIn es) xs both) r, is-true (allFinite xs) (all-right (numbersIn es) xs both))
+
+accepted : (r : KronReducer) (ys : List Float) (a b : ℕ) (ws : List Float) → let n = r .«n_buses» in let Y = entryAt n ys in let p = place (rowOf r a) (activeOf r) in let q = place (rowOf r b) (activeOf r) in
+    impedanceTold (readingShapeRefusal 4 r ys (length ws)) (activeOf r) (rowOf r a) (rowOf r b) ≡ 0 → T (allFinite (present r ys)) → T (allFinite (numbersIn (stepsOfImpedance n Y p q))) → T (not (isSingular n Y))
+    → afterImpedance r ys a b ws ≡ record { answer = Value (theveninOf (inverse n Y) p q); work = zeros (length ws) }
+unfolding afterImpedance impedanceTold readingRefusal impedance
+accepted r ys a b ws told given computed regular =
+    let n = r .«n_buses» in let Y = entryAt n ys in let p = place (rowOf r a) (activeOf r) in let q = place (rowOf r b) (activeOf r) in
+    let (shape, active) = then-none (readingShapeRefusal 4 r ys (length ws)) _ told in
+    let none = sym (given-all 0 (readingShapeRefusal 4 r ys (length ws)) (present r ys) (sym shape) refl (is-true (allFinite (present r ys)) given)) in
+    rw (none, active, work-met 0 Unlimited (stepsOfImpedance n Y p q) refl, accepted-across n Y p q computed regular)
+
+-- `search` takes the part of a premise that is wanted: one that says more has it too
+pub accepted-impedance : AcceptedImpedance
+accepted-impedance r ys a b ws told given computed regular = accepted r ys a b ws (search told) (search given) (search computed) (search regular)

@@ -1,7 +1,9 @@
 -- A state whose matrix stands at a slice's front, and what is left of it when a row and a column drop out.
-use Rattle.prelude.proofs.Prelude.{_≡_, refl, sym, ap, _∙_, inl, inr, List, [], _∷_, _++_, ℕ, zero, suc, _+_, _-_, _≤_, _<_, arith, T, length, getD, take, drop, replicate, set, Float, ap₂, length-append, length-drop, length-replicate, List·getD-append, length-take-le, getD-take, getD-drop, ext-getD}
+use Rattle.prelude.proofs.Prelude.{_≡_, refl, sym, ap, _∙_, inl, inr, List, [], _∷_, _++_, ℕ, zero, suc, _+_, _-_, _*_, _≤_, _<_, arith, T, length, getD, take, drop, replicate, set, Float, ap₂, length-append, length-drop, length-replicate, List·getD-append, length-take-le, getD-take, getD-drop, ext-getD}
 use lib.Seq.{getD-append-add}
-use Rattle.complex.specs.{Matrix, entryAt}
+use Rattle.complex.specs.{Matrix, entryAt, rows}
+use Rattle.complex.proofs.Entries.{entry-take}
+use Rattle.complex.proofs.Matrices.{rows-ext, entry-within}
 use Rattle.refusals.specs.Refusals.{limit}
 use Rattle.lists.specs.Buses.{_isOneOf_, place, others, rising}
 use Rattle.kron_reduction.specs.Kron.{newEntry, kron, State, remove}
@@ -139,3 +141,16 @@ agree-shows s t ys a h p q u v =
     ∙ h p q u' v'
     ∙ a .entries (getD (s .active) p 0) (getD (s .active) q 0) (getD-in (s .active) p u') (getD-in (s .active) q v')
     ∙ ap₂ (t .entries) (ap (λ (xs : List ℕ). getD xs p 0) e) (ap (λ (xs : List ℕ). getD xs q 0) e)
+
+-- ---- the rows at the front of a slice
+
+pub entryAt-take : (w n : ℕ) (ys : List Float) (p q : ℕ) → p * w + q < n → entryAt w (take (2 * n) ys) p q ≡ entryAt w ys p q
+unfolding entryAt
+entryAt-take w n ys p q h = entry-take n ys (p * w + q) h
+
+pub front-rows : (s : State) (m : ℕ) (ys : List Float) → length (s .active) ≡ m → StandsIn s ys → 2 * (m * m) ≤ length ys → take (2 * (m * m)) ys ≡ rows (s .entries) (s .active) (s .active)
+front-rows s m ys e shows fits =
+    rows-ext (s .entries) (s .active) (s .active) (take (2 * (m * m)) ys)
+    (length-take-le (2 * (m * m)) ys fits ∙ ap (λ (k : ℕ). 2 * (k * k)) (sym e))
+    λ (p q : ℕ) (u : p < length (s .active)) (v : q < length (s .active)).
+    entryAt-take (length (s .active)) (m * m) ys p q (rw (← e) (entry-within (length (s .active)) (length (s .active)) p q u v)) ∙ shows p q u v

@@ -1,18 +1,18 @@
 -- What one removal, and a list of them, answers and leaves, from what the code finds: the row of the bus, its own entry, the places and the rows closed up.
-use Rattle.prelude.proofs.Prelude.{_≡_, refl, sym, ap, _∙_, true, false, List, [], _∷_, _++_, ℕ, suc, _+_, _-_, _*_, _≤_, _<_, add-one, arith, T, eqb, length, getD, take, drop, replicate, Float, ap₂, append-nil, append-assoc, le-trans, add-zero, sub-zero, mul-le-mul, mul-le-mul-left, eq-eqb, ne-eqb, length-take, drop-of-length-le, length-take-le, take-suc, drop-cons, take-append-seam}
-use Rattle.complex.specs.{entryAt}
+use Rattle.prelude.proofs.Prelude.{_≡_, refl, sym, ap, _∙_, true, false, _⊎_, inl, inr, List, [], _∷_, _++_, ℕ, zero, suc, _+_, _-_, _*_, _≤_, _<_, add-one, arith, T, eqb, length, getD, take, drop, replicate, Float, nan, ap₂, append-nil, append-assoc, le-trans, add-zero, sub-zero, mul-le-mul, mul-le-mul-left, eq-eqb, ne-eqb, length-take, drop-of-length-le, length-take-le, take-suc, drop-cons, take-append-seam, take-append-drop, length-drop, getD-drop, ext-getD}
+use Rattle.complex.specs.{Complex, entry, entryAt, rows}
 use Rattle.complex.specs.Inner.Ordinary.{allOrdinary}
 use Rattle.refusals.specs.Refusals.{limit, notActive}
 use Rattle.lists.specs.declared.Found.the-variants.{At, Nothing}
 use Rattle.lists.specs.Buses.{_isOneOf_, rising, foundIn}
 use Rattle.kron_reduction.specs.Kron.{kron, State, start, remove, removalRefusal, accepts, eliminate, carriedOut, stoppedBy}
-use Rattle.kron_reduction.specs.Inner.Removal.{oldRow, StandsIn, Holds, RemovedOne, RemovedAll}
+use Rattle.kron_reduction.specs.Inner.Removal.{oldRow, StandsIn, leftBy, Holds, RemovedOne, RemovedAll}
 use Rattle.kron_reduction.specs.Reducer.{padded, stateIn}
 use Rattle.lists.proofs.Buses.{place-lt, rising-others}
 use Rattle.lists.proofs.Lookups.{found-at, found-not}
 use Rattle.kron_reduction.proofs.States.{Accepted, accepted-active, eliminate-append, eliminate-active, Agree, agree-remove, agree-refusal}
 use Rattle.kron_reduction.proofs.Rows.{refusal-by-row}
-use Rattle.kron_reduction.proofs.Showing.{length-padded, length-others-one, places-closed, shows-removed, shown-shows, shows-agree, agree-shows}
+use Rattle.kron_reduction.proofs.Showing.{length-padded, length-others-one, places-closed, shows-removed, shown-shows, shows-agree, agree-shows, front-rows}
 
 -- ---- one removal
 
@@ -33,6 +33,7 @@ module _ (n : ℕ) (bs : List ℕ) (ys : List Float) (h : Holds n bs ys) where
     refused = λ _. (refl, refl);
     places = λ z. absurd (omega arith);
     shows = λ z. absurd (omega arith);
+    behind = λ z. absurd (omega arith);
   }
 
   module _ (k p : ℕ) (e : foundIn k (take n bs) ≡ At p) where
@@ -54,13 +55,15 @@ module _ (n : ℕ) (bs : List ℕ) (ys : List Float) (h : Holds n bs ys) where
       refused = λ _. (refl, refl);
       places = λ z. absurd (some z);
       shows = λ z. absurd (some z);
+      behind = λ z. absurd (some z);
     }
 
     pub took : 0 ≡ removalRefusal (start n (entryAt n ys)) p → (cs : List ℕ) (zs : List Float) → length cs ≡ length bs
         → ((i : ℕ) → i < n - 1 → getD cs i 0 ≡ getD bs (oldRow p i) 0) × (getD cs (n - 1) 0 ≡ 0) × ((i : ℕ) → n ≤ i → getD cs i 0 ≡ getD bs i 0)
         → ((i j : ℕ) → i < n - 1 → j < n - 1 → entryAt (n - 1) zs i j ≡ kron p (entryAt n ys) (oldRow p i) (oldRow p j))
+        → ((t : ℕ) → (n - 1) * (n - 1) ≤ t → entry zs t ≡ entry ys t)
         → RemovedOne n bs ys k 0 cs zs
-    took none cs zs long closed rows =
+    took none cs zs long closed rows behind =
         let f = found-at k (take n bs) p e in
         let xs = take n bs in
         let more : length xs ≡ n = holds-long in
@@ -75,6 +78,7 @@ module _ (n : ℕ) (bs : List ℕ) (ys : List Float) (h : Holds n bs ys) where
           shows = λ _.
               shows-removed k xs (h .rises) (f .0) n ys zs more
               (λ (i j : ℕ) (l : i < n - 1) (u : j < n - 1). rows i j l u ∙ ap (λ (a : ℕ). kron a (entryAt n ys) (oldRow a i) (oldRow a j)) (sym (f .1)));
+          behind = λ _. behind;
         }
 
 -- ---- a list of removals
@@ -98,6 +102,42 @@ length-eliminate s (k ∷ ks) r ok =
     let ih = length-eliminate (remove s k) ks (rising-others (k ∷ []) (s .active) r) (ok .1) in
     let e = length-remove s k r m in
     omega (arith, ih, e)
+
+-- ---- what stands behind the rows
+
+half : (i : ℕ) → (q : ℕ) × ((i ≡ 2 * q) ⊎ (i ≡ 2 * q + 1))
+half zero = (0, inl refl)
+half (suc i) = let (q, c) = half i in elim c [ inl e ↦ (q, inr (omega arith)) | inr e ↦ (q + 1, inl (omega arith)) ]
+
+behind-same : (a : ℕ) (xs ys : List Float) → length xs ≡ length ys → ((t : ℕ) → a ≤ t → entry xs t ≡ entry ys t) → drop (2 * a) xs ≡ drop (2 * a) ys
+unfolding entry
+behind-same a xs ys long h =
+    ext-getD nan (drop (2 * a) xs) (drop (2 * a) ys) (length-drop (2 * a) xs ∙ ap (λ (k : ℕ). k - 2 * a) long ∙ sym (length-drop (2 * a) ys))
+    λ (i : ℕ) (_ : i < length (drop (2 * a) xs)). getD-drop (2 * a) xs i nan ∙ at i (half i) ∙ sym (getD-drop (2 * a) ys i nan)
+  where
+    at : (i : ℕ) → (q : ℕ) × ((i ≡ 2 * q) ⊎ (i ≡ 2 * q + 1)) → getD xs (2 * a + i) nan ≡ getD ys (2 * a + i) nan
+    at i (q, inl e) =
+        let same : 2 * a + i ≡ 2 * (a + q) = omega arith in
+        ap (λ (k : ℕ). getD xs k nan) same ∙ ap (λ (c : Complex). c .re) (h (a + q) (omega arith)) ∙ ap (λ (k : ℕ). getD ys k nan) (sym same)
+    at i (q, inr e) =
+        let same : 2 * a + i ≡ 2 * (a + q) + 1 = omega arith in
+        ap (λ (k : ℕ). getD xs k nan) same ∙ ap (λ (c : Complex). c .im) (h (a + q) (omega arith)) ∙ ap (λ (k : ℕ). getD ys k nan) (sym same)
+
+-- a state's rows over the front of a slice
+over-front : (s : State) (m : ℕ) (ys zs : List Float) → length (s .active) ≡ m → StandsIn s zs → length zs ≡ length ys → 2 * (m * m) ≤ length ys → ((t : ℕ) → m * m ≤ t → entry zs t ≡ entry ys t)
+    → zs ≡ rows (s .entries) (s .active) (s .active) ++ drop (2 * (length (s .active) * length (s .active))) ys
+over-front s m ys zs e shows long fits behind =
+    sym (take-append-drop (2 * (m * m)) zs)
+    ∙ ap₂ (λ (a b : List Float). a ++ b) (front-rows s m zs e shows (rw long fits)) (behind-same (m * m) zs ys long behind ∙ ap (λ (k : ℕ). drop (2 * (k * k)) ys) (sym e))
+
+left-append : (s : State) (ys : List Float) (first last : List ℕ) → leftBy s ys (first ++ last) ≡ leftBy (eliminate s first) (leftBy s ys first) last
+unfolding leftBy eliminate
+left-append s ys [] last = refl
+left-append s ys (k ∷ first) last = left-append (remove s k) _ first last
+
+pub left-none : (s : State) (ys zs : List Float) (ks : List ℕ) (done : ℕ) → done ≡ 0 → zs ≡ leftBy s ys (take done ks) → zs ≡ ys
+unfolding leftBy
+left-none s ys zs ks done z e = e ∙ ap (λ (d : ℕ). leftBy s ys (take d ks)) z
 
 -- the state s with the first `done` buses of ks removed, as places and slice hold it
 pub record Ongoing (s : State) (ks : List ℕ) (done : ℕ) (bs : List ℕ) (ys : List Float) : Type 0 where
@@ -189,28 +229,44 @@ module _ (s : State) (ks : List ℕ) (done : ℕ) (bs : List ℕ) (ys : List Flo
           stops = h .stops ∙ ap (stoppedBy now) on ∙ rw yes (sym (ap₂ stoppedBy next tail));
         }
 
+    -- and the slice that it leaves
+    pub ongoing-left : answer ≡ 0 → (ys₀ : List Float) → ys ≡ leftBy s ys₀ (take done ks) → length zs ≡ length ys → 2 * (left * left) ≤ length ys → zs ≡ leftBy s ys₀ (take (done + 1) ks)
+    unfolding leftBy
+    ongoing-left z ys₀ e long fits =
+        let yes : accepts now k ≡ true = ap (λ (a : ℕ). eqb a 0) (sym says) ∙ eq-eqb answer 0 z in
+        let m : k isOneOf now .active = accepted-active now k (rw yes tt) in
+        let agree = agree-remove (stateIn left (take left bs) ys) now k seen (rw (now-active) m) in
+        let shown = agree-shows (remove (stateIn left (take left bs) ys) k) (remove now k) zs agree (t .shows z) in
+        let count = length-remove now k now-rises m in
+        let fewer : length (remove now k .active) ≡ left - 1 = omega (arith, now-length, count) in
+        let one : take (done + 1) ks ≡ take done ks ++ (k ∷ []) = rw add-one (take-suc ks done 0 l) in
+        over-front (remove now k) (left - 1) ys zs fewer shown long (le-trans (mul-le-mul-left 2 (mul-le-mul (omega arith) (omega arith))) fits) (t .behind z)
+        ∙ ap (λ (l : List Float). rows (remove now k .entries) (remove now k .active) (remove now k .active) ++ drop (2 * (length (remove now k .active) * length (remove now k .active))) l) e
+        ∙ sym (left-append s ys₀ (take done ks) (k ∷ []))
+        ∙ ap (leftBy s ys₀) (sym one)
+
 -- how a list of removals ends
 module _ (n : ℕ) (bs : List ℕ) (ys : List Float) (h : Holds n bs ys) (ks : List ℕ) where
   abbrev first : State
   first = stateIn n (take n bs) ys
 
   pub took-so-far : (done stopped : ℕ) (cs : List ℕ) (zs : List Float) → Ongoing first ks done cs zs → carriedOut first ks ≡ take done ks → stoppedBy first ks ≡ stopped
-      → (done ≡ 0 → zs ≡ ys) → RemovedAll n bs ys ks (record { stopped = stopped; done = done }) cs zs
-  took-so-far done stopped cs zs o e f none = record {
+      → zs ≡ leftBy first ys (take done ks) → RemovedAll n bs ys ks (record { stopped = stopped; done = done }) cs zs
+  took-so-far done stopped cs zs o e f slice = record {
     says = sym f;
     count = sym (ap length e ∙ length-take-le done ks (o .within));
     within = omega (arith, o .count, holds-long n bs ys h);
     places = o .places ∙ ap (λ (ts : List ℕ). padded (eliminate first ts .active)) (sym e);
     shows = rw e (o .shows);
-    none = none;
+    slice = slice ∙ ap (leftBy first ys) (sym e);
   }
 
   pub took-all : (done : ℕ) (cs : List ℕ) (zs : List Float) → Ongoing first ks done cs zs → length ks ≤ done
-      → (done ≡ 0 → zs ≡ ys) → RemovedAll n bs ys ks (record { stopped = 0; done = done }) cs zs
+      → zs ≡ leftBy first ys (take done ks) → RemovedAll n bs ys ks (record { stopped = 0; done = done }) cs zs
   unfolding carriedOut stoppedBy
-  took-all done cs zs o l none =
+  took-all done cs zs o l slice =
       let nothing : drop done ks ≡ [] = drop-of-length-le ks l in
       took-so-far done 0 cs zs o
       (o .rest ∙ ap (λ (l : List ℕ). take done ks ++ carriedOut (eliminate first (take done ks)) l) nothing ∙ append-nil (take done ks))
       (o .stops ∙ ap (stoppedBy (eliminate first (take done ks))) nothing)
-      none
+      slice

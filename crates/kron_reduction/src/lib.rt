@@ -44,7 +44,7 @@ ghost use Rattle.kron_reduction.specs.Reading.{activeNumbers, activeRefu
 ghost use Rattle.kron_reduction.specs.Reading.{afterActive, afterImpedance};
 
 mod careful;
-pub mod removal;
+mod removal;
 mod thevenin;
 
 const ROW: usize = 2 * LIMIT;
@@ -525,8 +525,9 @@ pub fn active_buses(r: KronReducer, out: &mut [u32]) -> Outcome
     Outcome::Done
 }
 
-// The impedance seen between two buses, in per unit. Refusals: 1, 2, 9, 19; 11, of the first bus or of the second; 13 or 20 as the work
-// meets them.
+// The impedance seen between two buses, in per unit, from the inverse, for which every island needs a shunt to ground: without one 13,
+// which tells only pivots below 1e-150 in size, seldom comes, and the answer is noise. Refusals: 1, 2, 9, 19; 11, of the first bus or of
+// the second; 13 or 20 as the work meets them.
 // The work slice has four numbers for each entry at making; it is +0 after an answer, 13 or 20.
 pub fn thevenin_impedance(
     r: KronReducer,

@@ -171,6 +171,7 @@ fn reduce_row(n: usize, k: usize, at: usize, s: &mut [f64], row: &[f64])
         ((q : ℕ) → q < n - 1 → entry (now (s .exit)) q
         ≡ newEntry (entry (now (s .entry)) (at + oldRow k q)) (entry (now (s .entry)) (at + k)) (entry (now (row .entry)) (oldRow k q))
         (entry (now (row .entry)) k))
+        × ((q : ℕ) → n - 1 ≤ q → entry (now (s .exit)) q ≡ entry (now (s .entry)) q)
         ⌝ }
 {
     left_columns(k, at, s, row);
@@ -187,6 +188,7 @@ fn put_row(n: usize, k: usize, i: usize, p: usize, y: &mut [f64], row: &[f64])
         (entry (now (row .entry)) k))
         × ((r q : ℕ) → r < p → q < n - 1 → entryAt (n - 1) (now (y .exit)) r q ≡ entryAt (n - 1) (now (y .entry)) r q)
         × ((r q : ℕ) → i < r → entryAt n (now (y .exit)) r q ≡ entryAt n (now (y .entry)) r q)
+        × ((t : ℕ) → p * (n - 1) + (n - 1) ≤ t → entry (now (y .exit)) t ≡ entry (now (y .entry)) t)
         ⌝ }
 {
     let b = p * (n - 1);
@@ -213,6 +215,7 @@ fn put_rows(n: usize, k: usize, d: usize, first: usize, end: usize, y: &mut [f64
         (entry (now (row .entry)) (oldRow k q)) (entry (now (row .entry)) k))
         × ((r q : ℕ) → r < first → q < n - 1 → entryAt (n - 1) (now (y .exit)) r q ≡ entryAt (n - 1) (now (y .entry)) r q)
         × ((r q : ℕ) → end + d ≤ r → entryAt n (now (y .exit)) r q ≡ entryAt n (now (y .entry)) r q)
+        × ((t : ℕ) → end * (n - 1) ≤ t → entry (now (y .exit)) t ≡ entry (now (y .entry)) t)
         ⌝ }
 {
     let mut p = first;
@@ -229,18 +232,20 @@ fn other_rows(n: usize, k: usize, y: &mut [f64], row: &[f64])
         ((p q : ℕ) → p < n - 1 → q < n - 1 → entryAt (n - 1) (now (y .exit)) p q
         ≡ newEntry (entryAt n (now (y .entry)) (oldRow k p) (oldRow k q)) (entryAt n (now (y .entry)) (oldRow k p) k)
         (entry (now (row .entry)) (oldRow k q)) (entry (now (row .entry)) k))
+        × ((t : ℕ) → (n - 1) * (n - 1) ≤ t → entry (now (y .exit)) t ≡ entry (now (y .entry)) t)
         ⌝ }
 {
     put_rows(n, k, 0, 0, k, y, row);
     put_rows(n, k, 1, k, n - 1, y, row);
 }
 
-// Row and column k drop out of the n rows at the slice's front. `row` is room for a row.
+// Row and column k drop out of the n rows at the slice's front; what stands behind the rows left stays. `row` is room for a row.
 fn remove_row(n: usize, k: usize, y: &mut [f64], row: &mut [f64])
     requires { ⌜ (n ≤ limit) × (k < n) × (2 * (n * n) ≤ length (now y)) × (length (now row) ≡ 2 * limit) ⌝ }
     ensures { λ _. ⌜
         ((p q : ℕ) → p < n - 1 → q < n - 1 → entryAt (n - 1) (now (y .exit)) p q
         ≡ kron k (entryAt n (now (y .entry))) (oldRow k p) (oldRow k q))
+        × ((t : ℕ) → (n - 1) * (n - 1) ≤ t → entry (now (y .exit)) t ≡ entry (now (y .entry)) t)
         ⌝ }
 {
     let w = 2 * n;

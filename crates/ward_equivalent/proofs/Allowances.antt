@@ -3,11 +3,11 @@ use Rattle.prelude.proofs.Prelude.{_≡_, refl, sym, ap, _∙_, Bool, true, fal
 use lib.Dec.{eqb·suc-zero}
 use Rattle.refusals.specs.declared.Allowance.{Allowance}
 use Rattle.refusals.specs.declared.Allowance.the-variants.{Unlimited, Rows}
-use Rattle.refusals.specs.Work.{Step, reductions, meets, granted, workRefusal, thenWork, _noMoreThan_, allowedRows}
+use Rattle.refusals.specs.Work.{Step, computing, reductions, meets, granted, workRefusal, thenWork, _noMoreThan_, allowedRows}
 use Rattle.binary64.specs.Values.{allFinite}
 use Rattle.refusals.specs.Refusals.{thenGiven}
 use Rattle.refusals.proofs.Answering.{then-none}
-use Rattle.refusals.proofs.Work.{meets-within, larger-work, from-count, unlimited-met, allowed-met, count-both, none-counted}
+use Rattle.refusals.proofs.Work.{meets-after, meets-first, numbers-met, meets-within, larger-work, from-count, unlimited-met, allowed-met, count-both, none-counted}
 use Rattle.lists.specs.Buses.{rowsIn}
 use Rattle.lists.proofs.Lookups.{length-rowsIn}
 use Rattle.ward_equivalent.specs.declared.answers.WardSummary.{WardSummary}
@@ -23,7 +23,7 @@ use Rattle.ward_equivalent.proofs.Told.{Fitting, told-most}
 use Rattle.ward_equivalent.proofs.Named.{bus-most}
 use Rattle.ward_equivalent.proofs.Steps.{rowsOfSolve, singularStudy, study-count, study-bound}
 use Rattle.ward_equivalent.proofs.Meeting.{study-met}
-use Rattle.ward_equivalent.proofs.Extended.{number-answered, done-is}
+use Rattle.ward_equivalent.proofs.Extended.{correctionNumbers, number-answered, done-is}
 
 -- ---- the bound, of rows and of numbers
 
@@ -215,12 +215,35 @@ met-first S m some unlost = study-met S (pick (eqb (externals S) 0) some) unlost
     pick true h = absurd h
     pick false h = refl
 
+-- the corrections behind it
+met-first-extended : (X : ExtendedStudy) (m : ℕ) → T (not (eqb (externals (X .study)) 0)) → (workRefusal Unlimited (stepsOf (X .study)) ≡ 20 → ⊥)
+    → workRefusal (Rows m) (stepsOfExtended X)
+    ≡ cond (singularStudy (X .study)) (cond (ltb m (rowsOfSolve (X .study))) 18 13)
+    (cond (ltb m ((length (retained (X .study)) + 1) * rowsOfSolve (X .study))) 18 (cond (not (allFinite (correctionNumbers X))) 20 0))
+unfolding workRefusal granted stepsOfExtended
+met-first-extended X m some unlost =
+    let S = X .study in
+    pick (singularStudy S) (ltb m (rowsOfSolve S)) (ltb m ((length (retained S) + 1) * rowsOfSolve S)) (allFinite (correctionNumbers X)) refl (met-first S m some unlost)
+  where
+    pick : (singular first all fine : Bool) → allFinite (correctionNumbers X) ≡ fine → meets m (stepsOf (X .study)) ≡ cond singular (cond first 18 13) (cond all 18 0)
+        → meets m (stepsOf (X .study) ++ computing (correctionNumbers X)) ≡ cond singular (cond first 18 13) (cond all 18 (cond (not fine) 20 0))
+    pick true true a f t e = meets-first m (stepsOf (X .study)) (computing (correctionNumbers X)) (λ (z : meets m (stepsOf (X .study)) ≡ 0). omega arith) ∙ e
+    pick true false a f t e = meets-first m (stepsOf (X .study)) (computing (correctionNumbers X)) (λ (z : meets m (stepsOf (X .study)) ≡ 0). omega arith) ∙ e
+    pick false b true f t e = meets-first m (stepsOf (X .study)) (computing (correctionNumbers X)) (λ (z : meets m (stepsOf (X .study)) ≡ 0). omega arith) ∙ e
+    pick false b false true t e =
+        meets-after m (stepsOf (X .study)) (computing (correctionNumbers X)) e
+        ∙ numbers-met (m - reductions (stepsOf (X .study))) (correctionNumbers X) ∙ ap (λ (b : Bool). cond b 0 20) t
+    pick false b false false t e =
+        meets-after m (stepsOf (X .study)) (computing (correctionNumbers X)) e
+        ∙ numbers-met (m - reductions (stepsOf (X .study))) (correctionNumbers X) ∙ ap (λ (b : Bool). cond b 0 20) t
+
 pub study-allowances : StudyAllowances
 study-allowances = record {
   counts-pairs = study-count;
   at-most = study-bound;
   meets-first = met-first;
   within = within;
+  meets-first-extended = met-first-extended;
   within-extended = within-extended;
   larger = larger-study;
   from-bound = from-bound;

@@ -15,7 +15,7 @@ use Rattle.refusals.specs.Refusals.{limit, beyondAllowance, computedNotFinite, 
 use Rattle.binary64.specs.Values.{allFinite}
 use Rattle.refusals.specs.Work.{computing, reductions, meets, granted, workRefusal, thenWork, _noMoreThan_}
 use Rattle.solver.specs.Steps.{ofSearch, ofScaling, ofReducing, stepsOfRow, stepsOfRows, stepsFrom, stepsOfRun, stepsOfSolve}
-use Rattle.solver.specs.GaussJordan.{stays, heldAfter, pivotRow, swapped, scaled, reduced, pivoted, cleared, gaussJordanFrom, gaussJordan, augmented, solution, singularSystem}
+use Rattle.solver.specs.GaussJordan.{stays, heldAfter, pivotRow, swapped, scaled, reduced, pivoted, cleared, gaussJordanFrom, gaussJordan, augmented, solution, singularSystem, pairs, pairsFrom, pairsIn}
 use Rattle.solver.specs.Solving.{skipped}
 use Rattle.binary64.specs.Root.{root, rootOf, wholeRoot, half, radicand}
 use Rattle.ward_equivalent.specs.Extended.{ExtendedOutputs, addUp, deviation, weight, weightSum, weightedSum, meanOf, voltageCorrection, reactive, qCompensation}
@@ -221,6 +221,38 @@ product-first : after (study rows-own (I ∷ z ∷ huge ∷ z ∷ huge ∷ z ∷
 unfolding opened
 product-first = refl
 
+-- ---- the order of the work
+
+-- internal 0, boundary 1, external 2 and 3 with 2, 1 / 1, 2: solves for buses 0 and 1 and one for the currents, of two row reductions each. Bus 0
+-- has s towards bus 2, and t and u come to it from buses 2 and 3.
+abbrev quartet : Float → Float → Float → NumberedStudy
+quartet s t u =
+    numberedOf (0 ∷ 1 ∷ 2 ∷ 3 ∷ [])
+    (studyOf 4
+    (I ∷ z ∷ z ∷ z ∷ s ∷ z ∷ z ∷ z
+    ∷ z ∷ z ∷ I ∷ z ∷ I ∷ z ∷ z ∷ z
+    ∷ t ∷ z ∷ I ∷ z ∷ II ∷ z ∷ I ∷ z
+    ∷ u ∷ z ∷ z ∷ z ∷ I ∷ z ∷ II ∷ z ∷ [])
+    (0 ∷ []) (2 ∷ 3 ∷ []) (1 ∷ []) C (C ∷ z ∷ []) (z ∷ z ∷ []))
+
+-- The column of bus 0 overflows in its solve's first reduction, that of bus 1 never: with one reduction allowed it is met, since internal buses
+-- come before boundary ones.
+internal-first : under 1 (quartet z most (float 0xffefffffffffffff)) .answer ≡ Refused computedNotFinite
+unfolding opened
+internal-first = refl
+
+-- The entry of bus 0 overflows, and no solve: with two reductions allowed the second column's solve is met before it, with four it is met before
+-- the currents' solve.
+entries-behind : under 2 (quartet huge huge z) .answer ≡ Refused beyondAllowance
+unfolding opened
+entries-behind = refl
+
+entries-first : under 4 (quartet huge huge z) .answer ≡ Refused computedNotFinite
+unfolding opened
+entries-first = refl
+
+-- ---- given
+
 -- a given number that is not finite, of a bus in no list too, and a base; told last, and the work slice as it was
 not-given : refused (study rows-own (infinite ∷ z ∷ -I ∷ z ∷ -I ∷ z ∷ II ∷ z ∷ []) [] [] (1 ∷ []) [] []) 19
 unfolding opened
@@ -401,6 +433,15 @@ loud-study = refl
 loud-correction : afterComputeExtended loud Unlimited (wide loud) ≡ afterExtended (Refused computedNotFinite) (outputsOf (I ∷ I ∷ []) (I ∷ []) (I ∷ []) (zeros 6)) (I ∷ []) (I ∷ [])
 unfolding opened-extended
 loud-correction = refl
+
+-- the same by `meets-first-extended`, whose premise it meets: its own study's work meets no 20
+loud-unlost : eqb (workRefusal Unlimited (stepsOf (inRows (loud .study)))) computedNotFinite ≡ false
+unfolding opened
+loud-unlost = refl
+
+loud-by-law : workRefusal (Rows 0) (stepsOfExtended (extendedInRows loud)) ≡ computedNotFinite
+unfolding opened-extended pairs pairsFrom pairsIn
+loud-by-law = study-allowances .meets-first-extended (extendedInRows loud) 0 tt (λ (e : workRefusal Unlimited (stepsOf (inRows (loud .study))) ≡ computedNotFinite). true≢false (sym (ap (λ (x : ℕ). eqb x computedNotFinite) e) ∙ loud-unlost))
 
 -- a voltage that is not finite
 v-not-given : let X = extended 3 (infinite ∷ []) in afterComputeExtended X Unlimited (wide X) ≡ record { answer = Refused 19; outputs = wide X }

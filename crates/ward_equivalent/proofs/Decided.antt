@@ -47,14 +47,16 @@ module _ (n : ℕ) (ys : List Float) (bs : List ℕ) (e f : ℕ) (base : Float) 
   abbrev Decision : Decided → Type 0
   Decision r = Decides n ys (take e bs) (drop e bs) bs S m r after
 
-  pub refused-decided : (k : ℕ) → suc k ≡ meets m (stepsOf (cut n ys bs e f base ps qs)) → Decides n ys (take e bs) (drop e bs) bs (cut n ys bs e f base ps qs) m (Refused (suc k)) after
+  pub refused-decided : (k : ℕ) → suc k ≡ meets m (stepsOf (cut n ys bs e f base ps qs)) → (r : Decided) → r ≡ Refused (suc k) → (long : ℕ) → length after ≡ long → after ≡ zeros long
+      → Decides n ys (take e bs) (drop e bs) bs (cut n ys bs e f base ps qs) m r after
   unfolding decidedNumber tag rowsIn
-  refused-decided k h = record {
+  refused-decided k h r said long kept clear = subst Decision (sym said) (record {
     number = h;
     refuses = λ (j : ℕ) q z. let same : suc k ≡ j = ap rowsIn q in omega arith;
+    cleared = λ (j : ℕ) q. clear ∙ ap zeros (sym kept);
     together = λ (rows : ℕ) q. absurd (let z : _≡_ {A = ℕ} 2 0 = ap tag q in omega arith);
     apart = λ (rows : ℕ) q. absurd (let z : _≡_ {A = ℕ} 2 1 = ap tag q in omega arith);
-  }
+  })
 
   pub together-decided : (rows : ℕ) → meets m (stepsOf (cut n ys bs e f base ps qs)) ≡ 0 → rows ≡ reductions (stepsOf (cut n ys bs e f base ps qs)) → AllTogether n ys bs (length (take e bs)) base ps qs after
       → Decides n ys (take e bs) (drop e bs) bs (cut n ys bs e f base ps qs) m (Together rows) after
@@ -62,6 +64,7 @@ module _ (n : ℕ) (ys : List Float) (bs : List ℕ) (e f : ℕ) (base : Float) 
   together-decided rows h count held = record {
     number = sym h;
     refuses = λ (j : ℕ) q z. let t : _≡_ {A = ℕ} 0 2 = ap tag q in omega arith;
+    cleared = λ (j : ℕ) q. absurd (let t : _≡_ {A = ℕ} 0 2 = ap tag q in omega arith);
     together = λ (k : ℕ) q. (sym (ap rowsIn q) ∙ count, held);
     apart = λ (k : ℕ) q. absurd (let z : _≡_ {A = ℕ} 0 1 = ap tag q in omega arith);
   }
@@ -74,7 +77,8 @@ module _ (n : ℕ) (ys : List Float) (bs : List ℕ) (e f : ℕ) (base : Float) 
     met : numberOf end ≡ meets m (stepsOf S)
     met = ended .number ∙ ap (λ (T : Study). meets m (stepsOf T)) as-cut
 
-    pub apart-refused : (d : Eliminated) (k : ℕ) → end ≡ d → numberOf d ≡ suc k → Decides n ys (take e bs) (drop e bs) bs (cut n ys bs e f base ps qs) m (Refused (suc k)) after
+    pub apart-refused : (d : Eliminated) (k : ℕ) → end ≡ d → numberOf d ≡ suc k → (r : Decided) → r ≡ Refused (suc k) → (long : ℕ) → length after ≡ long → after ≡ zeros long
+        → Decides n ys (take e bs) (drop e bs) bs (cut n ys bs e f base ps qs) m r after
     apart-refused d k q h = refused-decided k (sym h ∙ sym (ap numberOf q) ∙ met)
 
     pub apart-done : (left : ℕ) → end ≡ ends.Done left → ColumnsApart n ys es ks (length ks) after → CurrentsApart n ys es base ps qs after
@@ -86,6 +90,7 @@ module _ (n : ℕ) (ys : List Float) (bs : List ℕ) (e f : ℕ) (base : Float) 
         record {
           number = sym (ap numberOf d) ∙ met;
           refuses = λ (j : ℕ) q z. let t : _≡_ {A = ℕ} 1 2 = ap tag q in omega arith;
+          cleared = λ (j : ℕ) q. absurd (let t : _≡_ {A = ℕ} 1 2 = ap tag q in omega arith);
           together = λ (k : ℕ) q. absurd (let z : _≡_ {A = ℕ} 1 0 = ap tag q in omega arith);
           apart = λ (k : ℕ) q. (
             sym (ap rowsIn q) ∙ omega arith,

@@ -9,6 +9,7 @@ pub mod Tells
 pub mod Ratio
 pub mod Parts
 pub mod Tests
+pub mod Trying
 pub mod Alone
 pub mod Kept
 pub mod Decided

@@ -1,7 +1,6 @@
 -- Sums whose terms are zero are zero: of products with zero factors that are finite, of weights of zero admittances.
 use Rattle.prelude.proofs.Prelude.{_≡_, refl, ap, _∙_, true, false, List, [], _∷_, _++_, ℕ, zero, suc, _*_, _<_, arith, T, ltb, length, getD, Float, nan, zero-mul, lit<, ℤ, inf, fin, binary64, fits, lt, ofBits, up, down}
 use lib.Dec.{leb·suc-zero}
-use lib.IntN.{negsuc}
 use lib.Ieee.Fits.{add-fits, sub-fits, mul-fits}
 use Rattle.complex.specs.{Complex, plus0, smallMagnitude, _⊕_, _⊗_, cadd, cmul, sqmag, ofProduct, ofSum, ofSqmag, magnitude}
 use Rattle.binary64.specs.Values.{allFinite}
@@ -84,7 +83,7 @@ not-above m d (fin false zero e) z = ap (ltb (m * up d * down e)) (simp zero-mul
 -- nor above 1e-12
 pub none-above : (x : Float) → Zero x → lt smallMagnitude x ≡ false
 unfolding smallMagnitude ofBits
-none-above x z = not-above 0x119799812dea11 (negsuc 91) x z
+none-above x z = not-above _ _ x z
 
 -- ---- lists of computed numbers
 

@@ -3,7 +3,7 @@ use Rattle.prelude.proofs.Prelude.{_≡_, refl, sym, ap, _∙_, subst, Bool, tr
 use mir.Syntax.{w64}
 use mir.Val.{Fits}
 use Rattle.binary64.specs.Values.{allFinite}
-use Rattle.complex.specs.{csub, entryAt}
+use Rattle.complex.specs.{csub, entryAt, zeros}
 use Rattle.complex.proofs.Finite.{none, all-join}
 use Rattle.complex.proofs.Matrices.{length-grid}
 use Rattle.complex.proofs.Sticky.{Finite}
@@ -19,6 +19,7 @@ use Rattle.solver.proofs.StepsSame.{run-steps-same}
 use Rattle.solver.proofs.Steps.{run-count, run-met}
 use Rattle.solver.proofs.Pairs.{pairs-bound}
 use Rattle.solver.proofs.ChosenSteps.{alone-numbers}
+use Rattle.ward_equivalent.specs.declared.sequence.Decided.{Decided}
 use Rattle.ward_equivalent.specs.declared.sequence.Decided.the-variants.{Together, Refused}
 use Rattle.ward_equivalent.specs.Arithmetic.{current}
 use Rattle.ward_equivalent.specs.Ward.{Study, externals, externalAt, retained, admittance, yEE, rowTimes, solvedColumn, solvedCurrents, boundaryCurrent}
@@ -241,10 +242,11 @@ module _ (n : ℕ) (ys : List Float) (bs : List ℕ) (e f : ℕ) (base : Float) 
       let each : allowed - left ≤ 65536 = omega (arith, rows-are) in
       product-fits (length bs + 1 - e) (allowed - left) 257 65536 solves each tt
 
-  pub decided-beyond : allowed < (length bs + 1 - e) * (allowed - left) → Decides n ys (take e bs) (drop e bs) bs (cut n ys bs e f base ps qs) allowed (Refused 18) after
-  decided-beyond h =
-      refused-decided n ys bs e f base ps qs (G .first) allowed after 17
-      (sym (met-is ∙ ap (λ (b : Bool). cond b 18 0) (lt-ltb allowed ((length (retained S) + 1) * rowsOfSolve S) (subst (λ (k : ℕ). allowed < k) total h))))
+  pub decided-beyond : allowed < (length bs + 1 - e) * (allowed - left) → (r : Decided) → r ≡ Refused 18 → (last : List Float) → length last ≡ length after → last ≡ zeros (length after)
+      → Decides n ys (take e bs) (drop e bs) bs (cut n ys bs e f base ps qs) allowed r last
+  decided-beyond h r said last long clear =
+      refused-decided n ys bs e f base ps qs (G .first) allowed last 17
+      (sym (met-is ∙ ap (λ (b : Bool). cond b 18 0) (lt-ltb allowed ((length (retained S) + 1) * rowsOfSolve S) (subst (λ (k : ℕ). allowed < k) total h)))) r said (length after) long clear
 
   pub decided-done : (length bs + 1 - e) * (allowed - left) ≤ allowed → Decides n ys (take e bs) (drop e bs) bs (cut n ys bs e f base ps qs) allowed (Together ((length bs + 1 - e) * (allowed - left))) after
   decided-done h =

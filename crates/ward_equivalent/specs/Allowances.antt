@@ -4,6 +4,7 @@ use mathlib.Core.Path.{_≡_}
 use mathlib.Core.Bool.{not, cond}
 use lib.Dec.{T, eqb, ltb}
 use lib.ListN.{length}
+use Rattle.binary64.specs.Values.{allFinite}
 use Rattle.refusals.specs.declared.Allowance.{Allowance}
 use Rattle.refusals.specs.declared.Allowance.the-variants.{Unlimited, Rows}
 use Rattle.refusals.specs.Refusals.{singular, beyondAllowance, computedNotFinite, refuse}
@@ -13,8 +14,8 @@ use Rattle.solver.specs.Solving.{operations, isSingular}
 use Rattle.ward_equivalent.specs.declared.answers.WardSummary.{WardSummary}
 use Rattle.ward_equivalent.specs.declared.answers.WardAnswer.the-variants.{Done, Refused}
 use Rattle.ward_equivalent.specs.Ward.{Study, Outputs, externals, retained, yEE}
-use Rattle.ward_equivalent.specs.Extended.{ExtendedOutputs}
-use Rattle.ward_equivalent.specs.Steps.{stepsOf}
+use Rattle.ward_equivalent.specs.Extended.{ExtendedStudy, ExtendedOutputs}
+use Rattle.ward_equivalent.specs.Steps.{ofEach, stepsOf, ofCorrection, stepsOfExtended}
 use Rattle.ward_equivalent.specs.Numbers.{NumberedStudy, NumberedExtended, afterCompute, afterComputeExtended}
 
 -- the most rows that a study can reduce: retained + 1 solves of e external buses each
@@ -22,18 +23,22 @@ unfoldable pub mostRows : Study → ℕ
 unfolding retained
 mostRows S = (length (retained S) + 1) * (externals S * (externals S - 1))
 
+-- What a study meets first with this many rows allowed, where its own work does not meet 20: 18 in the first solve, or 13 where Y_ee is
+-- singular; else 18 where all solves together exceed the allowance, and `behind` where they do not.
+abbrev pub firstMet : Study → ℕ → ℕ → ℕ
+firstMet S allowed behind =
+    let count = pairs operations (externals S) (yEE S) in
+    cond (isSingular (externals S) (yEE S)) (refuse (ltb allowed count) beyondAllowance singular)
+    (refuse (ltb allowed ((length (retained S) + 1) * count)) beyondAllowance behind)
+
 pub record StudyAllowances : Type 0 where
   -- the solves of a study reduce equally many rows: the pairs of column and other row whose factor is not skipped as Y_ee is eliminated
   pub counts-pairs : (S : Study) → reductions (stepsOf S) ≡ (length (retained S) + 1) * pairs operations (externals S) (yEE S)
   pub at-most : (S : Study) → reductions (stepsOf S) ≤ mostRows S
-  -- Where the work without a limit does not meet 20: the first solve meets 18, or 13 where Y_ee is singular; else 18 comes where all solves
-  -- together exceed the allowance.
+  -- where the work without a limit does not meet 20
   pub meets-first : (S : Study) (allowed : ℕ) → T (not (eqb (externals S) 0))
       → (workRefusal Unlimited (stepsOf S) ≡ computedNotFinite → ⊥)
-      → let count = pairs operations (externals S) (yEE S) in
-      workRefusal (Rows allowed) (stepsOf S)
-      ≡ cond (isSingular (externals S) (yEE S)) (refuse (ltb allowed count) beyondAllowance singular)
-      (refuse (ltb allowed ((length (retained S) + 1) * count)) beyondAllowance 0)
+      → workRefusal (Rows allowed) (stepsOf S) ≡ firstMet S allowed 0
   -- an accepted study reduces no more rows than are allowed
   pub within : (N : NumberedStudy) (allowed : ℕ) (o : Outputs) (s : WardSummary)
       → afterCompute N (Rows allowed) o .answer ≡ Done s → s .«rows_reduced» ≤ allowed
@@ -45,7 +50,11 @@ pub record StudyAllowances : Type 0 where
       → afterCompute N (Rows allowed) o ≡ afterCompute N Unlimited o
   -- without a limit there is no 18
   pub unlimited : (N : NumberedStudy) (o : Outputs) → afterCompute N Unlimited o .answer ≡ Refused beyondAllowance → ⊥
-  -- the same of an extended study
+  -- the same of an extended study, where 20 of a correction stands behind its own work
+  pub meets-first-extended : (X : ExtendedStudy) (allowed : ℕ) → T (not (eqb (externals (X .study)) 0))
+      → (workRefusal Unlimited (stepsOf (X .study)) ≡ computedNotFinite → ⊥)
+      → workRefusal (Rows allowed) (stepsOfExtended X)
+      ≡ firstMet (X .study) allowed (refuse (not (allFinite (ofEach (ofCorrection X) (X .study .boundary)))) computedNotFinite 0)
   pub within-extended : (X : NumberedExtended) (allowed : ℕ) (o : ExtendedOutputs) (s : WardSummary)
       → afterComputeExtended X (Rows allowed) o .answer ≡ Done s → s .«rows_reduced» ≤ allowed
   pub larger-extended : (X : NumberedExtended) (less more : Allowance) (o : ExtendedOutputs) → less noMoreThan more

@@ -12,21 +12,22 @@ ghost use Rattle.ward_equivalent.specs.Calls as spec;
 ghost use Rattle.ward_equivalent.specs.Numbers as ward;
 
 pub mod answers;
-pub mod corrections;
-pub mod given;
-pub mod lengths;
-pub mod numbers;
-pub mod rows;
-pub mod sequence;
-pub mod study;
+mod corrections;
+mod given;
+mod lengths;
+mod numbers;
+mod rows;
+mod sequence;
+mod study;
 
 // Ward's equivalent of the n buses of y for the internal and boundary buses, in this order: its matrix in y_ward, and what each boundary
 // bus gets, in MW and MVAr, in p_ward and q_ward. p_ext and q_ext are the injections at the external buses, in MW and MVAr, base_mva in
 // MVA; at unit voltage the current of P + jQ is P - jQ. numbers[i] is the number of the bus of row i; the three lists hold numbers.
 // Answers how many rows its r + 1 solves reduced, one for each of r retained buses and one for the currents: at most (r + 1) e (e - 1)
-// for e external buses. Refused: 1, 2, 3, 7, 8, 19 from the input; 13 where a pivot is too small, 18 before the row reduction that would
-// exceed the allowance over the whole study, 20 where a number computed is not finite, whichever the work meets first; then no output is
-// written. The work slice has 2 e (e + r + 1) numbers, all +0 unless the input was refused.
+// for e external buses. Refused: 1, 2, 3, 7, 8, 19 from the input; 13 where a pivot is below 1e-150 in size, 18 before the row reduction
+// that would exceed the allowance over the whole study, 20 where a number computed is not finite, whichever the work meets first; then no
+// output is written. The work slice has 2 e (e + r + 1) numbers, all +0 unless the input was refused. External buses without
+// a tie to a retained bus are mostly not refused, and what is fed in there is lost.
 pub fn compute(
     n: usize,
     y: &[f64],

@@ -7,7 +7,7 @@ use refusals::NO_SUCH_BUS;
 ghost use mathlib.Core.Path.{_≡_};
 ghost use mathlib.Core.List.{_++_};
 ghost use Prim.Native.Nat.{_+_, _≤_};
-ghost use lib.ListN.{length, take};
+ghost use lib.ListN.{length, drop};
 ghost use Rattle.lists.specs.Buses as buses;
 ghost use Rattle.ward_equivalent.specs.Numbers as ward;
 
@@ -28,13 +28,13 @@ fn repeats(list: &[usize]) -> bool
     false
 }
 
-// The rows of the external, the internal and the boundary buses one after the other, at the front of a longer list.
+// The rows of the external, the internal and the boundary buses one after the other, at the front of a longer list; the rest of it stays.
 fn join_rows(ns: &[u32], internal: &[u32], external: &[u32], boundary: &[u32], rows: &mut [usize])
     requires { ⌜ length (now external) + (length (now internal) + length (now boundary)) ≤ length (now rows) ⌝ }
     ensures { λ _. ⌜
-        take (length (now (external .entry)) + (length (now (internal .entry)) + length (now (boundary .entry)))) (now (rows .exit))
-        ≡ buses.rowsIn (now (ns .entry)) (now (external .entry)) ++
-        (buses.rowsIn (now (ns .entry)) (now (internal .entry)) ++ buses.rowsIn (now (ns .entry)) (now (boundary .entry)))
+        now (rows .exit) ≡ (buses.rowsIn (now (ns .entry)) (now (external .entry)) ++
+        (buses.rowsIn (now (ns .entry)) (now (internal .entry)) ++ buses.rowsIn (now (ns .entry)) (now (boundary .entry))))
+        ++ drop (length (now (external .entry)) + (length (now (internal .entry)) + length (now (boundary .entry)))) (now (rows .entry))
         ⌝ }
 {
     let e = external.len();
@@ -55,9 +55,9 @@ pub fn placed(
 ) -> u32
     requires { ⌜ length (now external) + (length (now internal) + length (now boundary)) ≤ length (now rows) ⌝ }
     ensures { λ r. ⌜
-        (take (length (now (external .entry)) + (length (now (internal .entry)) + length (now (boundary .entry)))) (now (rows .exit))
-        ≡ buses.rowsIn (now (ns .entry)) (now (external .entry)) ++
+        (now (rows .exit) ≡ (buses.rowsIn (now (ns .entry)) (now (external .entry)) ++
         (buses.rowsIn (now (ns .entry)) (now (internal .entry)) ++ buses.rowsIn (now (ns .entry)) (now (boundary .entry))))
+        ++ drop (length (now (external .entry)) + (length (now (internal .entry)) + length (now (boundary .entry)))) (now (rows .entry)))
         × (r ≡ ward.busRefusal (now (ns .entry)) (now (external .entry) ++ (now (internal .entry) ++ now (boundary .entry))))
         ⌝ }
 {

@@ -9,6 +9,7 @@ use binary64::finite::all_finite;
 use binary64::finite::finite;
 use complex::ordinary::all_ordinary;
 use complex::ordinary::ordinary;
+use complex::slices::clear;
 use refusals::BEYOND_ALLOWANCE;
 use refusals::COMPUTED_NOT_FINITE;
 use refusals::LIMIT;
@@ -26,13 +27,13 @@ ghost use lib.ListN.{length, getD, take, drop};
 ghost use lib.Ieee.Scale as scale;
 ghost use Rattle.binary64.specs.Values.{allFinite};
 ghost use Rattle.complex.specs.Entries.{entry};
-ghost use Rattle.complex.specs.Matrices.{entryAt};
+ghost use Rattle.complex.specs.Matrices.{entryAt, zeros};
 ghost use Rattle.refusals.specs.Refusals.{limit};
 ghost use Rattle.refusals.specs.Work.{computing};
 ghost use Rattle.solver.specs.Solving.{solve};
 ghost use Rattle.solver.specs.Inner.Work.{Ended};
 ghost use Rattle.solver.specs.declared.elimination.Eliminated.the-variants.{Done};
-ghost use Rattle.ward_equivalent.specs.declared.sequence.Tried.the-variants.{Left};
+ghost use Rattle.ward_equivalent.specs.declared.sequence.Decided.the-variants.{Refused};
 ghost use Rattle.ward_equivalent.specs.Arithmetic as ward;
 ghost use Rattle.ward_equivalent.specs.Steps as steps;
 ghost use Rattle.ward_equivalent.specs.Calls as spec;
@@ -452,6 +453,14 @@ fn one_by_one(
     }
 }
 
+// A refusal, with the work slice +0.
+fn refuse(number: u32, work: &mut [f64]) -> Decided
+    ensures { λ r. ⌜ (r ≡ Refused number) × (now (work .exit) ≡ zeros (length (now (work .entry)))) ⌝ }
+{
+    clear(work);
+    Decided::Refused(number)
+}
+
 // The decision by the whole work.
 fn decide_apart(
     n: usize,
@@ -485,9 +494,21 @@ fn decide_apart(
         allowed,
     ) {
         Eliminated::Done(left) => Decided::Apart(allowed - left),
-        Eliminated::Small => Decided::Refused(SINGULAR),
-        Eliminated::Exceeded => Decided::Refused(BEYOND_ALLOWANCE),
-        Eliminated::NotFinite => Decided::Refused(COMPUTED_NOT_FINITE),
+        Eliminated::Small => refuse(SINGULAR, work),
+        Eliminated::Exceeded => refuse(BEYOND_ALLOWANCE, work),
+        Eliminated::NotFinite => refuse(COMPUTED_NOT_FINITE, work),
+    }
+}
+
+// An elimination that is not done does not decide.
+fn left_of(end: Eliminated) -> Tried
+    ensures { λ r. ⌜ r ≡ sequence.leftOf end ⌝ }
+{
+    match end {
+        Eliminated::Done(left) => Tried::Left(left),
+        Eliminated::Small => Tried::Wild,
+        Eliminated::Exceeded => Tried::Wild,
+        Eliminated::NotFinite => Tried::Wild,
     }
 }
 
@@ -506,8 +527,8 @@ fn together(
 ) -> Tried
     requires { ⌜ (0 < e) × (listed.StudyGiven n (now y) (now buses) e f (now p) (now q) (now work)) ⌝ }
     ensures { λ r. ⌜
-        ((left : ℕ) → r ≡ Left left → sequence.TogetherDone n (now (y .entry)) (now (buses .entry)) e base (now (p .entry)) (now (q .entry))
-        allowed left (now (work .exit)))
+        sequence.Tries n (now (y .entry)) (now (buses .entry)) e base (now (p .entry)) (now (q .entry)) allowed r (now (work .entry))
+        (now (work .exit))
         ⌝ }
 {
     if !ordinary(base) {
@@ -520,16 +541,15 @@ fn together(
     if !all_finite(work) {
         return Tried::Wild;
     }
-    let Eliminated::Done(left) = eliminate(work, e, buses.len() + 1, allowed) else {
-        return Tried::Wild;
-    };
+    let end = eliminate(work, e, buses.len() + 1, allowed);
     if !all_ordinary(work) {
         return Tried::Wild;
     }
-    Tried::Left(left)
+    left_of(end)
 }
 
-// Whether a study is refused, and where the work slice holds its solutions. Each of its solves reduces as many rows as the one elimination.
+// Whether a study is refused, the work slice then +0; else where that holds its solutions. Each of its solves reduces as many rows as the
+// one elimination.
 pub fn decide(
     n: usize,
     y: &[f64],
@@ -553,7 +573,7 @@ pub fn decide(
     };
     let reduced = (buses.len() + 1 - e) * (allowed - left);
     if reduced > allowed {
-        return Decided::Refused(BEYOND_ALLOWANCE);
+        return refuse(BEYOND_ALLOWANCE, work);
     }
     Decided::Together(reduced)
 }

@@ -213,10 +213,7 @@ fn eliminated(
                 work,
             )
         }
-        Decided::Refused(number) => {
-            clear(work);
-            WardAnswer::Refused(number)
-        }
+        Decided::Refused(met) => WardAnswer::Refused(met),
     }
 }
 

@@ -1,21 +1,26 @@
 -- The work of a study in the order of its steps: how its solves end, and where the work slice holds their solutions. Its front is a system
 -- of the e external buses beside one right side, e rows of e + 1 entries; behind it stand the columns of X, e rows of r entries.
-use Prim.Native.Nat.{ℕ, _+_, _*_, _<_}
+use Prim.Native.Nat.{ℕ, _+_, _*_, _-_, _<_}
 use mathlib.Core.Path.{_≡_}
-use mathlib.Core.Bool.{Bool, false}
+use mathlib.Core.Bool.{Bool, false, _&&_, cond}
 use mathlib.Core.List.{List, [], _++_}
-use lib.Dec.{T}
+use lib.Dec.{T, eqb}
 use lib.ListN.{length, getD, take, drop}
 use lib.Ieee.{Float, nan}
 use lib.Ieee.Scale.{finite}
 use Rattle.binary64.specs.Values.{allFinite}
 use Rattle.complex.specs.declared.Complex.{Complex}
-use Rattle.complex.specs.Matrices.{Matrix, entryAt, grid}
+use Rattle.complex.specs.Matrices.{Matrix, entryAt, grid, zeros}
 use Rattle.refusals.specs.Work.{Step, computing, meets, reductions}
 use Rattle.complex.specs.Inner.Ordinary.{ordinary, allOrdinary}
+use Rattle.solver.specs.declared.elimination.Eliminated.{Eliminated}
+use Rattle.solver.specs.declared.elimination.Eliminated.the-variants.{Done, Small, Exceeded, NotFinite}
+use Rattle.solver.specs.Inner.Work.{Met}
 use Rattle.solver.specs.Solving.{operations, solve}
 use Rattle.solver.specs.Steps.{workings, stepsOfRun}
 use Rattle.solver.specs.GaussJordan.{gaussJordan}
+use Rattle.ward_equivalent.specs.declared.sequence.Tried.{Tried}
+use Rattle.ward_equivalent.specs.declared.sequence.Tried.the-variants.{Left, Wild}
 use Rattle.ward_equivalent.specs.declared.sequence.Decided.{Decided}
 use Rattle.ward_equivalent.specs.declared.sequence.Decided.the-variants.{Together, Apart, Refused}
 use Rattle.ward_equivalent.specs.Arithmetic.{current}
@@ -103,6 +108,46 @@ pub record TogetherDone (n : ℕ) (ys : List Float) (bs : List ℕ) (e : ℕ) (b
   pub base-below : T (ordinary base)
   pub work : T (allOrdinary after)
 
+-- the slice that it starts from
+abbrev pub filledRows : ℕ → List Float → List ℕ → ℕ → Float → List Float → List Float → List Float
+filledRows n ys bs e base ps qs = grid e (length bs + 1) (workMatrix n ys bs base ps qs)
+
+-- whether what it makes is of ordinary size, of e rows of w entries that stand in xs
+abbrev pub madeOrdinary : ℕ → ℕ → List Float → Bool
+madeOrdinary e w xs = allOrdinary (grid e w (gaussJordan operations e (entryAt w xs) .left))
+
+-- Whether it decides: base and given matrix are of ordinary size, the elimination starts from finite numbers and is done within the
+-- allowance, and what it makes is of ordinary size too.
+unfoldable pub decidesAll : Float → List Float → ℕ → ℕ → ℕ → List Float → Bool
+decidesAll base ys e w allowed xs =
+    (ordinary base && allOrdinary ys)
+    && (allFinite xs
+    && (eqb (meets allowed (stepsOfRun operations workings e w (entryAt w xs))) 0
+    && madeOrdinary e w xs))
+
+-- what its end alone tells
+unfoldable pub leftOf : Eliminated → Tried
+leftOf (Done left) = Left left
+leftOf Small = Wild
+leftOf Exceeded = Wild
+leftOf NotFinite = Wild
+
+-- How it is tried: what is answered, and the slice after it: as it was, filled, or as the elimination leaves it.
+pub record Tries (n : ℕ) (ys : List Float) (bs : List ℕ) (e : ℕ) (base : Float) (ps qs : List Float) (allowed : ℕ) (answered : Tried)
+    (before after : List Float)
+    : Type 0 where
+  pub answer : answered
+      ≡ cond (decidesAll base ys e (length bs + 1) allowed (filledRows n ys bs e base ps qs))
+      (Left
+      (allowed - reductions (stepsOfRun operations workings e (length bs + 1) (entryAt (length bs + 1) (filledRows n ys bs e base ps qs)))))
+      Wild
+  pub untouched : (ordinary base && allOrdinary ys) ≡ false → after ≡ before
+  pub filled : T (ordinary base && allOrdinary ys) → allFinite (filledRows n ys bs e base ps qs) ≡ false
+      → after ≡ filledRows n ys bs e base ps qs
+  pub end : Eliminated
+  pub eliminated : T (ordinary base && allOrdinary ys) → T (allFinite (filledRows n ys bs e base ps qs))
+      → Met e (length bs + 1) allowed end (filledRows n ys bs e base ps qs) after
+
 -- ---- the decision
 
 unfoldable pub decidedNumber : Decided → ℕ
@@ -110,11 +155,13 @@ decidedNumber (Together rows) = 0
 decidedNumber (Apart rows) = 0
 decidedNumber (Refused k) = k
 
--- whether a study S of the first e buses of bs is refused, how many rows its solves reduce, and where the slice holds their solutions
+-- Whether a study S of the first e buses of bs is refused, the slice then +0; how many rows its solves reduce, and where the slice holds
+-- their solutions.
 pub record Decides (n : ℕ) (ys : List Float) (es ks bs : List ℕ) (S : Study) (allowed : ℕ) (answered : Decided) (after : List Float)
     : Type 0 where
   pub number : decidedNumber answered ≡ meets allowed (stepsOf S)
   pub refuses : (k : ℕ) → answered ≡ Refused k → k ≡ 0 → ⊥
+  pub cleared : (k : ℕ) → answered ≡ Refused k → after ≡ zeros (length after)
   pub together : (rows : ℕ) → answered ≡ Together rows
       → (rows ≡ reductions (stepsOf S)) × AllTogether n ys bs (length es) (S .base) (S .p-ext) (S .q-ext) after
   pub apart : (rows : ℕ) → answered ≡ Apart rows

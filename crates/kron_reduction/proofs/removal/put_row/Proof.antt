@@ -1,6 +1,7 @@
 -- `kron_reduction::removal::put_row` meets its contract: the part of the slice that comes back begins with row p of the smaller matrix.
-use Rattle.prelude.proofs.Prelude.{_≡_, ap, _∙_, List, ℕ, _+_, _-_, _*_, _≤_, _<_, arith, needs, length, take, drop, Float}
+use Rattle.prelude.proofs.Prelude.{_≡_, sym, ap, _∙_, ⊎-elim, List, ℕ, _+_, _-_, _*_, _≤_, _<_, arith, needs, length, take, drop, Float}
 use Rattle.complex.specs.{Complex, entry, entryAt}
+use Rattle.lists.proofs.Order.{lt-or-ge}
 use Rattle.lists.proofs.Parts.{back}
 use Rattle.complex.proofs.Entries.{entry-take, entry-drop, entry-back-before, entry-back-in, entry-back-after}
 use Rattle.complex.proofs.Matrices.{row-within, entry-within}
@@ -47,7 +48,7 @@ returns c =
       λ (q : ℕ) (l : q < m).
           ap (λ (ys : List Float). entry ys (p * m + q)) shape
           ∙ entry-back-in (p * m) (at + n) y z fits long q (omega arith)
-          ∙ run .reduce-row .ensures q l
+          ∙ run .reduce-row .ensures .0 q l
           ∙ ap (λ (x : Complex). newEntry x (entry (take w (drop f y)) (at + k)) (entry row (oldRow k q)) (entry row k)) (old (oldRow k q) (kept-lt k q n l))
           ∙ ap (λ (x : Complex). newEntry (entry y (i * n + oldRow k q)) x (entry row (oldRow k q)) (entry row k)) (old k (s .pre .1)),
       λ (r q : ℕ) (l : r < p) (u : q < m).
@@ -55,6 +56,21 @@ returns c =
       λ (r q : ℕ) (l : i < r).
           ap (λ (ys : List Float). entry ys (r * n + q)) shape
           ∙ entry-back-after (p * m) (at + n) y z fits long (r * n + q) (let b = row-within r n i l in omega (arith, h .1)),
+      λ (t : ℕ) (l : p * m + m ≤ t).
+          ap (λ (ys : List Float). entry ys t) shape
+          ∙ ⊎-elim
+          (λ (u : t < p * m + (at + n)).
+          let j = t - p * m in
+          let e : t ≡ p * m + j = omega arith in
+          ap (entry (back f (2 * (at + n)) y z)) e
+          ∙ entry-back-in (p * m) (at + n) y z fits long j (omega arith)
+          ∙ run .reduce-row .ensures .1 j (omega arith)
+          ∙ ap (λ (w : ℕ). entry (take w (drop f y)) j) wide
+          ∙ entry-take (at + n) (drop f y) j (omega arith)
+          ∙ entry-drop (p * m) y j
+          ∙ ap (entry y) (sym e))
+          (λ (u : p * m + (at + n) ≤ t). entry-back-after (p * m) (at + n) y z fits long t u)
+          (lt-or-ge t (p * m + (at + n))),
     )
 
 pub put-row-spec : {M : Type 1} → statement M

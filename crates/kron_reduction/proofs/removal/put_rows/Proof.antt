@@ -1,9 +1,10 @@
 -- `kron_reduction::removal::put_rows` meets its contract. The loop's invariant: the rows passed are the smaller matrix's, the old rows further down are as they were.
-use Rattle.prelude.proofs.Prelude.{_≡_, refl, sym, ap, _∙_, ℕ, _+_, _-_, _≤_, _<_, arith, needs, length, ⊎-elim}
+use Rattle.prelude.proofs.Prelude.{_≡_, refl, sym, ap, _∙_, subst, ℕ, _+_, _-_, _*_, _≤_, _<_, arith, needs, length, ⊎-elim}
 use Rattle.complex.specs.{Complex, entry, entryAt}
 use Rattle.kron_reduction.specs.Kron.{newEntry}
 use Rattle.kron_reduction.specs.Inner.Removal.{oldRow}
 use Rattle.lists.proofs.Order.{lt-or-ge}
+use Rattle.complex.proofs.Matrices.{row-within}
 use Rattle.kron_reduction.proofs.removal.put_rows.Statement.{statement}
 use Rattle.kron_reduction.proofs.removal.put_rows.Tie as tie
 
@@ -14,6 +15,7 @@ Inv-loop n k d first end y₀ row p₀ y p =
     ≡ newEntry (entryAt n y₀ (oldRow k r) (oldRow k q)) (entryAt n y₀ (oldRow k r) k) (entry row (oldRow k q)) (entry row k))
     × ((r q : ℕ) → r < first → q < n - 1 → entryAt (n - 1) y r q ≡ entryAt (n - 1) y₀ r q)
     × ((r q : ℕ) → p + d ≤ r → entryAt n y r q ≡ entryAt n y₀ r q)
+    × ((t : ℕ) → p * (n - 1) ≤ t → entry y t ≡ entry y₀ t)
 
 abbrev μ-loop : tie.MeasureT-loop
 μ-loop n k d first end y₀ row p₀ y p = end - p
@@ -26,6 +28,7 @@ loop-holds c = (
   λ (r q : ℕ) (l : _ ≤ r) (u : r < _). absurd (omega arith),
   λ (r q : ℕ) (l : r < _) (u : q < _). refl,
   λ (r q : ℕ) (l : _ ≤ r). refl,
+  λ (t : ℕ) (l : _ ≤ t). refl,
 )
 
 loop-again : tie.Need-loop-again Inv-loop μ-loop
@@ -55,6 +58,7 @@ loop-again c =
           (lt-or-ge r p),
       λ (r q : ℕ) (l : r < s .args .first) (v : q < m). did .1 r q (omega arith) v ∙ inv .4 r q l v,
       λ (r q : ℕ) (l : p + 1 + d ≤ r). did .2 r q (omega arith) ∙ inv .5 r q (omega arith),
+      λ (t : ℕ) (l : (p + 1) * m ≤ t). let b = row-within (p + 1) m p (omega arith) in did .3 t (omega arith) ∙ inv .6 t (omega arith),
     )
 
 returns : tie.Need-returns Inv-loop μ-loop
@@ -65,6 +69,7 @@ returns c =
       λ (r q : ℕ) (l : s .args .first ≤ r) (u : r < s .args .end) (v : q < s .args .n - 1). inv .3 r q l (omega arith) v,
       inv .4,
       λ (r q : ℕ) (l : s .args .end + s .args .d ≤ r). inv .5 r q (omega arith),
+      λ (t : ℕ) (l : s .args .end * (s .args .n - 1) ≤ t). let same : s .args .end ≡ p = omega arith in inv .6 t (subst (λ (e : ℕ). e * (s .args .n - 1) ≤ t) same l),
     )
 
 pub put-rows-spec : {M : Type 1} → statement M

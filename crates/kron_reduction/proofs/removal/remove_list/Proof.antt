@@ -1,20 +1,22 @@
--- `kron_reduction::removal::remove_list` meets its contract. The loop's invariant: the first `done` buses of the list are removed, and where there are none the slice is as it was.
+-- `kron_reduction::removal::remove_list` meets its contract. The loop's invariant: the first `done` buses of the list are removed.
 use Rattle.prelude.proofs.Prelude.{_≡_, refl, _∙_, _-_, arith, needs, length, take}
+use Rattle.kron_reduction.specs.Inner.Removal.{leftBy}
 use Rattle.kron_reduction.specs.Reducer.{stateIn}
-use Rattle.kron_reduction.proofs.Taking.{holds-long, first-ordinary, Ongoing, ongoing-start, ongoing-same, ongoing-holds, ongoing-stopped, ongoing-next, took-so-far, took-all}
+use Rattle.kron_reduction.proofs.Taking.{holds-long, first-ordinary, Ongoing, ongoing-start, ongoing-same, ongoing-holds, ongoing-stopped, ongoing-next, ongoing-left, left-none, took-so-far, took-all}
 use Rattle.kron_reduction.proofs.removal.remove_list.Statement.{statement}
 use Rattle.kron_reduction.proofs.removal.remove_list.Tie as tie
 
 abbrev Inv-loop : tie.InvT-loop
 Inv-loop n active₀ y₀ row₀ buses ordinary done₀ active y row done =
     Ongoing (stateIn n (take n active₀) y₀) buses done active y
-    × (length active ≡ length active₀) × (length y ≡ length y₀) × (length row ≡ length row₀) × (done ≡ 0 → y ≡ y₀)
+    × (length active ≡ length active₀) × (length y ≡ length y₀) × (length row ≡ length row₀) × (y ≡ leftBy (stateIn n (take n active₀) y₀) y₀ (take done buses))
 
 abbrev μ-loop : tie.MeasureT-loop
 μ-loop n active₀ y₀ row₀ buses ordinary done₀ active y row done = length buses - done
 
 loop-holds : tie.Need-loop-holds Inv-loop μ-loop
-loop-holds c = (ongoing-start _ _ _ _ (c .before .before .before .before .pre .0), refl, refl, refl, λ _. refl)
+unfolding leftBy
+loop-holds c = (ongoing-start _ _ _ _ (c .before .before .before .before .pre .0), refl, refl, refl, refl)
 
 sub-m : tie.Need-sub-m Inv-loop μ-loop
 sub-m c = omega (arith, c .before .loop .inv .0 .count, holds-long _ _ _ (c .before .before .before .before .before .before .pre .0))
@@ -24,7 +26,7 @@ still-ordinary-requires c κs =
     let g = c .before .before in let s = g .before .before .before .before .before in let h = s .pre .0 in
     let inv = g .loop .inv in
     let holds = ongoing-holds _ _ _ _ _ (h .rises) _ (holds-long _ _ _ h) (inv .0) _ (h .room) (inv .2) (h .fits) in
-    (holds .room, holds .fits, λ z t. first-ordinary _ _ _ _ z (inv .4 z) (s .pre .2 t))
+    (holds .room, holds .fits, λ z t. first-ordinary _ _ _ _ z (left-none _ _ _ _ _ z (inv .4)) (s .pre .2 t))
 
 remove-one-requires : tie.Need-remove-one-requires Inv-loop μ-loop
 remove-one-requires c κs =
@@ -46,7 +48,7 @@ returns c =
     let inv = head t .loop .inv in
     let same = x .refused (c .if1 .taken) in
     let ends = ongoing-stopped _ _ _ _ _ (h .rises) _ (holds-long _ _ _ h) (inv .0) _ _ _ (t .before .before .before .before .before .before .before .loop-test .taken) x (c .if1 .taken) in
-    took-so-far _ _ _ h _ _ _ _ _ (ongoing-same (inv .0) (same .0) (same .1)) (ends .0) (ends .1) (λ z. same .1 ∙ inv .4 z)
+    took-so-far _ _ _ h _ _ _ _ _ (ongoing-same (inv .0) (same .0) (same .1)) (ends .0) (ends .1) (same .1 ∙ inv .4)
 
 loop-again : tie.Need-loop-again Inv-loop μ-loop
 loop-again c =
@@ -56,7 +58,7 @@ loop-again c =
       x .kept .1 .0 ∙ inv .1,
       x .kept .1 .1 .0 ∙ inv .2,
       x .kept .1 .1 .1 .0 ∙ inv .3,
-      λ z. absurd (omega arith),
+      ongoing-left _ _ _ _ _ (h .rises) _ (holds-long _ _ _ h) (inv .0) _ _ _ (t .before .before .before .before .before .before .before .loop-test .taken) (x .ensures) (c .if1 .left) _ (inv .4) (x .kept .1 .1 .0) (ongoing-holds _ _ _ _ _ (h .rises) _ (holds-long _ _ _ h) (inv .0) _ (h .room) (inv .2) (h .fits) .fits),
     )
 
 returns-2 : tie.Need-returns-2 Inv-loop μ-loop

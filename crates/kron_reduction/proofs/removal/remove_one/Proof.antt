@@ -52,7 +52,7 @@ returns-3 : tie.Need-returns-3
 returns-3 c =
     let closed = c .before .before .close-places in let removed = c .before .before .before .before .before .before .before .before in
     let test = removed .before .before .before in let k = test .before .before .before in
-    took _ _ _ (start k .pre .0) _ _ (found k) (sym (test .if1 .left) ∙ test .before .row-refusal .ensures) _ _ (closed .kept .0) (closed .ensures) (removed .remove-row .ensures)
+    took _ _ _ (start k .pre .0) _ _ (found k) (sym (test .if1 .left) ∙ test .before .row-refusal .ensures) _ _ (closed .kept .0) (closed .ensures) (removed .remove-row .ensures .0) (removed .remove-row .ensures .1)
 
 pub remove-one-spec : {M : Type 1} → statement M
 remove-one-spec = tie.close (tie.spec (λ c. search needs) (λ c. search needs) part-find-bus-end (λ c κs. search needs) (λ c. search needs)

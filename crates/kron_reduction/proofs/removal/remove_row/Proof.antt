@@ -27,11 +27,13 @@ returns c =
     entry-front n (2 * n - 0) row z (sub-zero (2 * n)) (omega (arith, s .pre .0, s .pre .3)) long j l
     ∙ ap (λ (ys : List Float). entry ys j) filled
     ∙ ap (λ (w : ℕ). entry (take w (drop (2 * (k * n)) y)) j) wide
-    ∙ entry-part n y k j l in
-    λ (p q : ℕ) (u : p < n - 1) (v : q < n - 1).
-    done .other-rows .ensures p q u v
-    ∙ ap (λ (x : Complex). newEntry (entryAt n y (oldRow k p) (oldRow k q)) (entryAt n y (oldRow k p) k) x (entry (take (2 * n - 0) (drop 0 (back 0 (2 * n - 0) row z))) k)) (at (oldRow k q) (kept-lt k q n v))
-    ∙ ap (λ (x : Complex). newEntry (entryAt n y (oldRow k p) (oldRow k q)) (entryAt n y (oldRow k p) k) (entryAt n y k (oldRow k q)) x) (at k (s .pre .1))
+    ∙ entry-part n y k j l in (
+      λ (p q : ℕ) (u : p < n - 1) (v : q < n - 1).
+          done .other-rows .ensures .0 p q u v
+          ∙ ap (λ (x : Complex). newEntry (entryAt n y (oldRow k p) (oldRow k q)) (entryAt n y (oldRow k p) k) x (entry (take (2 * n - 0) (drop 0 (back 0 (2 * n - 0) row z))) k)) (at (oldRow k q) (kept-lt k q n v))
+          ∙ ap (λ (x : Complex). newEntry (entryAt n y (oldRow k p) (oldRow k q)) (entryAt n y (oldRow k p) k) (entryAt n y k (oldRow k q)) x) (at k (s .pre .1)),
+      done .other-rows .ensures .1,
+    )
 
 pub remove-row-spec : {M : Type 1} → statement M
 remove-row-spec = tie.close (tie.spec (λ c. search needs) (λ c. let h = lies c in omega (arith, h .0, h .1))

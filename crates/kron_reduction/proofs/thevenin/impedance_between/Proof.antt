@@ -7,7 +7,7 @@ use Rattle.refusals.specs.declared.Allowance.the-variants.{Unlimited}
 use Rattle.refusals.specs.Work.{Step, workRefusal}
 use Rattle.solver.specs.Solving.{inverse}
 use Rattle.kron_reduction.specs.Reading.{impedance}
-use Rattle.kron_reduction.proofs.Calls.{entryAt-take}
+use Rattle.kron_reduction.proofs.Showing.{entryAt-take}
 use Rattle.kron_reduction.proofs.Across.{inverse-same, impedance-steps-same, across-same}
 use Rattle.kron_reduction.proofs.thevenin.impedance_between.Statement.{statement}
 use Rattle.kron_reduction.proofs.thevenin.impedance_between.Tie as tie

@@ -1,8 +1,8 @@
 -- `ward_equivalent::numbers::join_rows` meets its contract.
-use Rattle.prelude.proofs.Prelude.{_≡_, ap, _∙_, List, _++_, ℕ, _+_, _-_, needs, length, drop, take-at}
+use Rattle.prelude.proofs.Prelude.{_≡_, ap, _∙_, List, _++_, ℕ, _+_, needs, length, drop}
 use Rattle.lists.specs.Buses.{rowsIn}
-use Rattle.lists.proofs.Scans.{joined}
 use Rattle.lists.proofs.Lookups.{length-rowsIn}
+use Rattle.ward_equivalent.proofs.Naming.{joined}
 use Rattle.ward_equivalent.proofs.numbers.join_rows.Statement.{statement}
 use Rattle.ward_equivalent.proofs.numbers.join_rows.Tie as tie
 
@@ -18,11 +18,11 @@ returns c =
     let E' = E .last .1 .1 .0 in let I' = I .last .1 .1 .0 in let B' = B .last .1 .1 .0 in
     let he : length E' ≡ e = ap length (E .ensures) ∙ length-rowsIn ns es in
     let hi : length I' ≡ i = ap length (I .ensures) ∙ length-rowsIn ns is in
-    let hb : length B' ≡ b = ap length (B .ensures) ∙ length-rowsIn ns bs in
-    joined E' I' B' (E' ++ drop (e - 0) (drop 0 (a .rows .now))) e i b (e + i - e) (e + i + b - (e + i)) he hi hb (take-at E' (drop (e - 0) (drop 0 (a .rows .now))) e he)
-    ∙ ap (λ (l : List ℕ). l ++ (I' ++ B')) (E .ensures)
-    ∙ ap (λ (l : List ℕ). rowsIn ns es ++ (l ++ B')) (I .ensures)
-    ∙ ap (λ (l : List ℕ). rowsIn ns es ++ (rowsIn ns is ++ l)) (B .ensures)
+    let rest = drop (e + (i + b)) (a .rows .now) in
+    joined E' I' B' (a .rows .now) e i b he hi
+    ∙ ap (λ (l : List ℕ). (l ++ (I' ++ B')) ++ rest) (E .ensures)
+    ∙ ap (λ (l : List ℕ). (rowsIn ns es ++ (l ++ B')) ++ rest) (I .ensures)
+    ∙ ap (λ (l : List ℕ). (rowsIn ns es ++ (rowsIn ns is ++ l)) ++ rest) (B .ensures)
 
 pub join-rows-spec : {M : Type 1} → statement M
 join-rows-spec = tie.close (tie.spec (λ c. search needs) (λ c. search needs) (λ c. search needs) (λ c. search needs) (λ c. search needs)

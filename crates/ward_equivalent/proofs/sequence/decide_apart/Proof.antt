@@ -44,20 +44,20 @@ returns c =
 returns-2 : tie.Need-returns-2
 unfolding numberOf
 returns-2 c =
-    let s = c .before .before .before .before .before .before .before .before .before .before .before .before .before in let a = s .args in let x = c .before .before .before .before .one-by-one in
-    apart-refused (a .n) (a .y .now) (a .buses .now) (a .e) (a .f) (a .base) (a .p .now) (a .q .now) (s .pre .1 .first) (a .allowed) _ _ _ (external s) (rest-is (a .buses .now) (a .e)) (x .result) (x .ensures .0) _ 12 (c .enum-told .given .1) refl
+    let s = c .before .before .before .before .before .before .before .before .before .before .before .before .before .before .before .before .before in let a = s .args in let x = c .before .before .before .before .before .before .before .before .one-by-one in let R = c .before .before .refuse in
+    apart-refused (a .n) (a .y .now) (a .buses .now) (a .e) (a .f) (a .base) (a .p .now) (a .q .now) (s .pre .1 .first) (a .allowed) _ _ _ (external s) (rest-is (a .buses .now) (a .e)) (x .result) (x .ensures .0) _ 12 (c .before .before .before .before .enum-told .given .1) refl _ (R .ensures .0) _ (R .kept .1 .0) (R .ensures .1)
 
 returns-3 : tie.Need-returns-3
 unfolding numberOf
 returns-3 c =
-    let s = c .before .before .before .before .before .before .before .before .before .before .before .before .before in let a = s .args in let x = c .before .before .before .before .one-by-one in
-    apart-refused (a .n) (a .y .now) (a .buses .now) (a .e) (a .f) (a .base) (a .p .now) (a .q .now) (s .pre .1 .first) (a .allowed) _ _ _ (external s) (rest-is (a .buses .now) (a .e)) (x .result) (x .ensures .0) _ 17 (c .enum-told2 .given .1) refl
+    let s = c .before .before .before .before .before .before .before .before .before .before .before .before .before .before .before .before .before in let a = s .args in let x = c .before .before .before .before .before .before .before .before .one-by-one in let R = c .before .before .refuse2 in
+    apart-refused (a .n) (a .y .now) (a .buses .now) (a .e) (a .f) (a .base) (a .p .now) (a .q .now) (s .pre .1 .first) (a .allowed) _ _ _ (external s) (rest-is (a .buses .now) (a .e)) (x .result) (x .ensures .0) _ 17 (c .before .before .before .before .enum-told2 .given .1) refl _ (R .ensures .0) _ (R .kept .1 .0) (R .ensures .1)
 
 returns-4 : tie.Need-returns-4
 unfolding numberOf
 returns-4 c =
-    let s = c .before .before .before .before .before .before .before .before .before .before .before .before .before in let a = s .args in let x = c .before .before .before .before .one-by-one in
-    apart-refused (a .n) (a .y .now) (a .buses .now) (a .e) (a .f) (a .base) (a .p .now) (a .q .now) (s .pre .1 .first) (a .allowed) _ _ _ (external s) (rest-is (a .buses .now) (a .e)) (x .result) (x .ensures .0) _ 19 (c .enum-told3 .given .1) refl
+    let s = c .before .before .before .before .before .before .before .before .before .before .before .before .before .before .before .before .before in let a = s .args in let x = c .before .before .before .before .before .before .before .before .one-by-one in let R = c .before .before .refuse3 in
+    apart-refused (a .n) (a .y .now) (a .buses .now) (a .e) (a .f) (a .base) (a .p .now) (a .q .now) (s .pre .1 .first) (a .allowed) _ _ _ (external s) (rest-is (a .buses .now) (a .e)) (x .result) (x .ensures .0) _ 19 (c .before .before .before .before .enum-told3 .given .1) refl _ (R .ensures .0) _ (R .kept .1 .0) (R .ensures .1)
 
 pub decide-apart-spec : {M : Type 1} → statement M
-decide-apart-spec = tie.close (tie.spec (λ c. search needs) (λ c. search needs) (λ c. search needs) (λ c. search needs) (λ c. search needs) (λ c. search needs) (λ c. search needs) (λ c. search needs) one-by-one-requires (λ c. search needs) (λ c. let e = c .before .before .before .before .before .one-by-one .ensures .0 .count _ (c .before .left .given .1) in omega (arith, e)) (λ c. search needs) (λ c. search needs) (λ c. search needs) (λ c. search needs) returns (λ c. search needs) returns-2 (λ c. search needs) returns-3 (λ c. search needs) returns-4)
+decide-apart-spec = tie.close (tie.spec (λ c. search needs) (λ c. search needs) (λ c. search needs) (λ c. search needs) (λ c. search needs) (λ c. search needs) (λ c. search needs) (λ c. search needs) one-by-one-requires (λ c. search needs) (λ c. let e = c .before .before .before .before .before .one-by-one .ensures .0 .count _ (c .before .left .given .1) in omega (arith, e)) (λ c. search needs) (λ c κs. search needs) (λ c. search needs) (λ c κs. search needs) (λ c. search needs) (λ c κs. search needs) (λ c. search needs) returns (λ c. search needs) returns-2 (λ c. search needs) returns-3 (λ c. search needs) returns-4)

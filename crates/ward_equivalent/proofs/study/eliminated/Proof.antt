@@ -52,9 +52,9 @@ returns-2 c =
 
 returns-3 : tie.Need-returns-3
 returns-3 c =
-    let g = c .before .before .before .before .before .before .before .before .before in let s = start g in let a = s .args in let L = s .pre .1 .slices in
-    same-after refl refl refl refl (c .before .before .clear .ensures ∙ ap zeros (long g))
-    ∙ sym (decided-refused (a .n) (a .y .now) (a .buses .now) (a .e) (a .f) (a .base) (a .p .now) (a .q .now) (s .pre .0) (L .first) (L .last) (a .allowed) _ (outputsOf (a .to .now) (a .active .now) (a .reactive .now) (a .work .now)) (long g) (L .work) _ (g .decide .ensures) _ (c .before .before .before .before .before .number .given .1))
+    let g = c .before .before .before .before .before in let s = start g in let a = s .args in let L = s .pre .1 .slices in
+    same-after refl refl refl refl (g .decide .ensures .cleared _ (c .before .met .given .1) ∙ ap zeros (long g))
+    ∙ sym (decided-refused (a .n) (a .y .now) (a .buses .now) (a .e) (a .f) (a .base) (a .p .now) (a .q .now) (s .pre .0) (L .first) (L .last) (a .allowed) _ (outputsOf (a .to .now) (a .active .now) (a .reactive .now) (a .work .now)) (long g) (L .work) _ (g .decide .ensures) _ (c .before .met .given .1))
 
 pub eliminated-spec : {M : Type 1} → statement M
-eliminated-spec = tie.close (tie.spec (λ c. search needs) (λ c. let s = c .before .before .before .before .before .before .before .before in let L = s .pre .1 .slices in record { fits = front-fits (s .args .e) (omega (arith, L .first, L .last, L .distinct, L .few)) .0 .fits }) (λ c. let s = c .before .before .before .before .before .before .before .before in let L = s .pre .1 .slices in record { fits = front-fits (s .args .e) (omega (arith, L .first, L .last, L .distinct, L .few)) .1 .fits }) decide-requires (λ c. search needs) (λ c. search needs) (λ c. search needs) filled-requires (λ c. search needs) (λ c. search needs) (λ c. search needs) filled-requires-2 (λ c. search needs) (λ c κs. search needs) (λ c. search needs) (λ c. search needs) (λ c. search needs) (λ c. search needs) returns (λ c. search needs) (λ c. search needs) (λ c. search needs) (λ c. search needs) returns-2 (λ c. search needs) returns-3)
+eliminated-spec = tie.close (tie.spec (λ c. search needs) (λ c. let s = c .before .before .before .before .before .before .before .before in let L = s .pre .1 .slices in record { fits = front-fits (s .args .e) (omega (arith, L .first, L .last, L .distinct, L .few)) .0 .fits }) (λ c. let s = c .before .before .before .before .before .before .before .before in let L = s .pre .1 .slices in record { fits = front-fits (s .args .e) (omega (arith, L .first, L .last, L .distinct, L .few)) .1 .fits }) decide-requires (λ c. search needs) (λ c. search needs) (λ c. search needs) filled-requires (λ c. search needs) (λ c. search needs) (λ c. search needs) filled-requires-2 (λ c. search needs) (λ c. search needs) (λ c. search needs) (λ c. search needs) (λ c. search needs) returns (λ c. search needs) (λ c. search needs) (λ c. search needs) (λ c. search needs) returns-2 (λ c. search needs) returns-3)
