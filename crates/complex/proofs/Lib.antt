@@ -8,6 +8,7 @@ pub mod Leaves
 pub mod Answers
 pub mod Roots
 pub mod Sizes
+pub mod SmallMagnitude
 pub mod SameValue
 pub mod Squares
 mod MagnitudeCases

@@ -1,22 +1,24 @@
 -- Where the reactances are finite, so is every number of `build_b_bus`: a susceptance is at most 2 ^ 40, and an entry at most as many times that as
--- numbers were added to it or taken from it. And what the accepted DC calls write is finite.
-use Rattle.prelude.proofs.Prelude.{_≡_, refl, sym, ap, subst, _∙_, Bool, true, false, cond, List, [], _∷_, ℕ, zero, suc, _+_, _*_, _^_, _≤_, _<_, arith, T, eqb, length, getD, set, Float, nan, binary64, lt, ofBits, length-set, length-replicate, getD-set-same, getD-set-other, finite, lit≤, lit<, eqb-true, mul-le-mul-right, lt-of-lt-of-le}
+-- numbers were added to it or taken from it. And what the accepted DC calls write is finite, and nothing finite is refused.
+use Rattle.prelude.proofs.Prelude.{_≡_, refl, sym, ap, subst, _∙_, Bool, true, false, cond, List, [], _∷_, ℕ, zero, suc, _+_, _*_, _^_, _≤_, _<_, arith, T, eqb, length, getD, set, Float, nan, binary64, lt, ofBits, length-set, length-replicate, getD-set-same, getD-set-other, finite, is-true, lit≤, lit<, eqb-true, mul-le-mul-right, lt-of-lt-of-le}
 use native.Mathlib.Nat.{add-mul, one-mul, lt-of-le-of-lt}
 use lib.ListN.{getD-replicate}
 use lib.Arith.{digits-lt}
 use borrow.Author.Tests.{eqb-false}
 use Rattle.binary64.specs.Values.{allFinite}
 use Rattle.binary64.proofs.Magnitudes.{Within, Held, within-finite, add-within, sub-within}
-use Rattle.complex.proofs.Sizes.{In, in-finite, wider, div-in}
+use Rattle.complex.proofs.Sizes.{In, in-finite, wider}
+use Rattle.complex.proofs.SmallMagnitude.{over-strong}
 use Rattle.complex.specs.{plus0, one, smallMagnitude, abs, zeros, _⊕_, _⊖_, _⊘_}
 use Rattle.complex.proofs.Finite.{none, all-more, all-at}
 use Rattle.complex.proofs.Matrices.{length-zeros}
 use Rattle.refusals.specs.Refusals.{limit}
+use Rattle.refusals.proofs.Numbers.{given-all, computed-all}
 use Rattle.lists.specs.Buses.{allBelow}
 use Rattle.lists.proofs.Ends.{below-at}
-use Rattle.dc_flow.specs.Dc.{plus, minus, joined, addBranch, susceptances, ofJoined, ofBranch, ofBuild, buildRefusal, builtOutput, lodfRefusal, lodfOutput, DcFinite}
+use Rattle.dc_flow.specs.Dc.{plus, minus, joined, addBranch, susceptances, ofJoined, ofBranch, ofBuild, ofLodf, outage, realGrid, buildShapeRefusal, buildRefusal, builtOutput, lodfShapeRefusal, lodfRefusal, lodfOutput, DcFinite}
 use Rattle.dc_flow.proofs.OutageLaws.{to-below}
-use Rattle.dc_flow.proofs.OutageFinite.{each-finite, strong, one-in, factors-finite}
+use Rattle.dc_flow.proofs.OutageFinite.{each-finite, one-in, factors-finite}
 use Rattle.dc_flow.proofs.Accepted.{build-accepted, lodf-computed}
 
 -- at most c times 2 ^ 40 in size
@@ -102,7 +104,7 @@ branch-finite c n few b i j x size l k f h = go (lt (abs x) smallMagnitude) refl
         → T (allFinite (cond weak [] (one ⊘ x ∷ ofJoined b (i * n) (j * n) i j (one ⊘ x)))) × AllTimes (c + 4) (cond weak b (joined b (i * n) (j * n) i j (one ⊘ x)))
     go true w = (none, λ p q. more c (c + 4) (getD b p nan) (omega arith) (h p q))
     go false w =
-        let share : In 40 (one ⊘ x) = div-in 0 40 40 one x refl (lit≤ tt) one-in (strong x f w) in
+        let share : In 40 (one ⊘ x) = over-strong 0 40 one x refl (lit≤ tt) one-in f w in
         let (all, after) = join-finite c few b (i * n) (j * n) i j (one ⊘ x) h share (rw size (digits-lt l l)) (rw size (digits-lt k k)) (rw size (digits-lt l k)) (rw size (digits-lt k l)) in
         (all-more (one ⊘ x) _ (in-finite 40 (one ⊘ x) share) all, after)
 
@@ -166,6 +168,20 @@ lodf-outputs-finite : (n : ℕ) (ptdf : List Float) (froms tos : List ℕ) (held
 unfolding lodfOutput
 lodf-outputs-finite n ptdf froms tos held h = rw h (factors-finite n ptdf froms tos (lodf-computed 0 n froms tos ptdf (length held) (sym h) refl))
 
+build-accepts : (n : ℕ) (froms tos : List ℕ) (xs held : List Float) → buildShapeRefusal n froms tos xs (length held) ≡ 0 → T (allFinite xs)
+    → (buildRefusal n froms tos xs (length held) ≡ 0) × (builtOutput n froms tos xs held ≡ susceptances n froms tos xs (length froms))
+unfolding buildRefusal builtOutput
+build-accepts n froms tos xs held shape given =
+    let z = sym (given-all 0 (buildShapeRefusal n froms tos xs (length held)) xs (sym shape) refl (is-true (allFinite xs) given)) in (z, rw z)
+
+lodf-accepts : (n : ℕ) (ptdf : List Float) (froms tos : List ℕ) (held : List Float) → lodfShapeRefusal n (length ptdf) froms tos (length held) ≡ 0
+    → T (allFinite ptdf) → T (allFinite (ofLodf n ptdf froms tos))
+    → (lodfRefusal n ptdf froms tos (length held) ≡ 0) × (lodfOutput n ptdf froms tos held ≡ realGrid (outage n ptdf froms tos) (length froms) (length froms))
+unfolding lodfRefusal lodfOutput
+lodf-accepts n ptdf froms tos held shape given computed =
+    let told = given-all 0 (lodfShapeRefusal n (length ptdf) froms tos (length held)) ptdf (sym shape) refl (is-true (allFinite ptdf) given) in
+    let z = sym (computed-all 0 _ (ofLodf n ptdf froms tos) told refl (is-true (allFinite (ofLodf n ptdf froms tos)) computed)) in (z, rw z)
+
 pub dc-finite : DcFinite
 dc-finite =
     record {
@@ -173,4 +189,6 @@ dc-finite =
           let ((_, lists, below, few), given) = build-accepted 0 n froms tos xs len (sym h) refl in numbers-finite n froms tos xs lists below few given;
       build-outputs-finite = build-outputs-finite;
       lodf-outputs-finite = lodf-outputs-finite;
+      build-accepted = build-accepts;
+      lodf-accepted = lodf-accepts;
     }

@@ -1,11 +1,13 @@
 -- The DC definitions computed by the checker on small cases.
-use Rattle.prelude.proofs.Prelude.{_≡_, refl, List, [], _∷_, ℕ, _+_, replicate, Float, nan, inf, true, binary64, ofBits, ofFields, neg, add, sub, div, sum, round, units, odd, lt, size, span, climb}
+use Rattle.prelude.proofs.Prelude.{_≡_, refl, T, length, List, [], _∷_, ℕ, _+_, replicate, Float, nan, inf, true, binary64, ofBits, ofFields, neg, add, sub, div, sum, round, units, odd, lt, size, span, climb}
 use lib.Count.{trailingZeros}
 use Rattle.complex.specs.{plus0, one, smallMagnitude, abs, zeros}
 use Rattle.lists.specs.Buses.{upTo, others, allBelow}
+use Rattle.binary64.specs.Values.{allFinite}
 use Rattle.refusals.specs.Refusals.{limit, thenGiven, thenComputed}
 use Rattle.dc_flow.specs.declared.Retained.the-variants.{Count, Refused}
 use Rattle.dc_flow.specs.Dc.{endsRefusal, retainedOf, retainedSlice, retainedRefusal, counted, retainedAnswer, retainedOutput, joined, addBranch, susceptances, buildShapeRefusal, buildRefusal, builtOutput, transfer, branchTransfer, denominator, outageFactor, outage, realRow, realGrid, each, ofFactor, ofOutage, ofLodf, lodfShapeRefusal, lodfRefusal, lodfOutput}
+use Rattle.dc_flow.proofs.BuildFinite.{dc-finite}
 
 -- small numbers by their bits
 abbrev pub half : Float
@@ -81,6 +83,17 @@ lodf : (lodfOutput 2 (zero′ ∷ minus-half ∷ zero′ ∷ minus-half ∷ []) 
     × (lodfOutput 2 (zero′ ∷ minus-one ∷ zero′ ∷ minus-half ∷ []) (0 ∷ 0 ∷ []) (1 ∷ 1 ∷ []) (replicate 4 nan) ≡ minus-one ∷ two ∷ zero′ ∷ minus-one ∷ [])
 unfolding lodfOutput lodfRefusal lodfShapeRefusal thenGiven thenComputed ofLodf each ofOutage ofFactor endsRefusal allBelow realGrid realRow outage outageFactor branchTransfer denominator transfer plus0 one smallMagnitude abs lt add sub div neg sum round units odd size span climb trailingZeros ofBits ofFields
 lodf = (refl, refl)
+
+-- the first by `DcFinite.lodf-accepted`, whose premises it meets
+alike : List Float
+alike = zero′ ∷ minus-half ∷ zero′ ∷ minus-half ∷ []
+
+premises : (lodfShapeRefusal 2 (length alike) (0 ∷ 0 ∷ []) (1 ∷ 1 ∷ []) 4 ≡ 0) × T (allFinite alike) × T (allFinite (ofLodf 2 alike (0 ∷ 0 ∷ []) (1 ∷ 1 ∷ [])))
+unfolding lodfOutput lodfRefusal lodfShapeRefusal thenGiven thenComputed ofLodf each ofOutage ofFactor endsRefusal allBelow realGrid realRow outage outageFactor branchTransfer denominator transfer plus0 one smallMagnitude abs lt add sub div neg sum round units odd size span climb trailingZeros ofBits ofFields alike
+premises = (refl, tt, tt)
+
+by-law : lodfRefusal 2 alike (0 ∷ 0 ∷ []) (1 ∷ 1 ∷ []) 4 ≡ 0
+by-law = let (shape, given, computed) = premises in dc-finite .lodf-accepted 2 alike (0 ∷ 0 ∷ []) (1 ∷ 1 ∷ []) (replicate 4 nan) shape given computed .0
 
 -- a list above the limit, a wrong length, unlike lists, an end that is no bus
 lodf-refused : (lodfShapeRefusal 2 0 [] (replicate (limit + 1) 0) 0 ≡ 1)

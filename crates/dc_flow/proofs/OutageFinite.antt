@@ -1,11 +1,10 @@
 -- Which numbers of `lodf_matrix` tell that all are finite: of two branches or more the denominators and the factors; of one, none; and where the PTDF is
 -- of ordinary size, all are.
-use Rattle.prelude.proofs.Prelude.{_≡_, refl, sym, ap, subst, _∙_, Bool, true, false, _&&_, cond, List, [], _∷_, _++_, inl, inr, ℕ, zero, suc, _+_, _*_, _≤_, _<_, arith, T, eqb, length, getD, Float, nan, inf, fin, binary64, up, down, lt, neg, ofBits, and-i, and-l, and-r, finite, eq-eqb, ne-eqb, lit≤, lit<, _^_, ltb-false, le-trans, le-of-eq}
-use native.Mathlib.Nat.{le-of-mul-le-mul-right}
+use Rattle.prelude.proofs.Prelude.{_≡_, refl, sym, ap, subst, _∙_, Bool, true, false, _&&_, cond, List, [], _∷_, _++_, inl, inr, ℕ, zero, suc, _+_, _*_, _≤_, _<_, arith, T, eqb, length, getD, Float, nan, binary64, lt, neg, ofBits, and-i, and-l, and-r, finite, eq-eqb, ne-eqb, lit≤}
 use Rattle.binary64.specs.Values.{allFinite}
 use Rattle.binary64.proofs.Operands.{sub-operands, dividend}
-use Rattle.binary64.proofs.Magnitudes.{Beyond}
-use Rattle.complex.proofs.Sizes.{In, in-finite, larger-in, sub-in, div-in, ordinary-at}
+use Rattle.complex.proofs.Sizes.{In, in-finite, larger-in, sub-in, ordinary-at}
+use Rattle.complex.proofs.SmallMagnitude.{over-strong}
 use Rattle.complex.specs.{plus0, one, smallMagnitude, abs, _⊖_, _⊘_}
 use Rattle.complex.specs.Inner.Ordinary.{allOrdinary}
 use Rattle.complex.proofs.Finite.{none, all-more, all-join, all-left, all-right, first-of, rest-of}
@@ -184,19 +183,6 @@ module _ (n : ℕ) (ptdf : List Float) (froms tos : List ℕ) where
 
 -- ---- a PTDF of ordinary size
 
-least : (D N : ℕ) → 0x119799812dea11 * 1 * D ≤ N * 2 ^ 92 → D ≤ 2 ^ 40 * N
-least D N h =
-    let low : D * 2 ^ 52 ≤ 0x119799812dea11 * 1 * D = omega arith in
-    let same : N * 2 ^ 92 ≡ 2 ^ 40 * N * 2 ^ 52 = omega arith in
-    le-of-mul-le-mul-right {k = 2 ^ 52} (le-trans low (le-trans h (le-of-eq same))) (lit< tt)
-
--- not close to 0: at least 1e-12, and so at least 2 ^ -40
-pub strong : (x : Float) → T (finite x) → lt (abs x) smallMagnitude ≡ false → Beyond (2 ^ 40) x
-unfolding lt abs smallMagnitude ofBits
-strong nan f h = absurd f
-strong (inf s) f h = absurd f
-strong (fin s m e) f h = least (down e) (m * up e) (ltb-false (m * up e * 2 ^ 92) (0x119799812dea11 * 1 * down e) h)
-
 pub one-in : In 0 one
 unfolding one ofBits
 one-in = lit≤ tt
@@ -230,4 +216,4 @@ module _ (n : ℕ) (ptdf : List Float) (froms tos : List ℕ) (given : T (allOrd
           go true w = none
           go false w =
               all-more taken _ (in-finite 201 taken t)
-              (all-more (taken ⊘ d) [] (in-finite 241 (taken ⊘ d) (div-in 201 40 241 taken d refl (lit≤ tt) t (strong d (in-finite 202 d e) w))) none)
+              (all-more (taken ⊘ d) [] (in-finite 241 (taken ⊘ d) (over-strong 201 241 taken d refl (lit≤ tt) t (in-finite 202 d e) w)) none)

@@ -185,7 +185,7 @@ lodfOutput n ptdf froms tos held =
     (realGrid (outage n ptdf froms tos) (length froms) (length froms))
     held
 
--- ---- what an accepted call computes and writes is finite
+-- ---- what an accepted call computes and writes is finite, and nothing finite is refused
 
 pub record DcFinite : Type 0 where
   -- where the reactances are finite, so is every number that `build_b_bus` computes
@@ -196,3 +196,15 @@ pub record DcFinite : Type 0 where
   pub lodf-outputs-finite : (n : ℕ) (ptdf : List Float) (froms tos : List ℕ) (held : List Float)
       → lodfRefusal n ptdf froms tos (length held) ≡ 0
       → T (allFinite (lodfOutput n ptdf froms tos held))
+  -- a call with right lengths and branch ends and with finite reactances is accepted
+  pub build-accepted : (n : ℕ) (froms tos : List ℕ) (xs held : List Float) → buildShapeRefusal n froms tos xs (length held) ≡ 0
+      → T (allFinite xs)
+      → (buildRefusal n froms tos xs (length held) ≡ 0)
+      × (builtOutput n froms tos xs held ≡ susceptances n froms tos xs (length froms))
+  -- and one with right lengths and branch ends whose numbers, given and computed, are finite
+  pub lodf-accepted : (n : ℕ) (ptdf : List Float) (froms tos : List ℕ) (held : List Float)
+      → lodfShapeRefusal n (length ptdf) froms tos (length held) ≡ 0
+      → T (allFinite ptdf)
+      → T (allFinite (ofLodf n ptdf froms tos))
+      → (lodfRefusal n ptdf froms tos (length held) ≡ 0)
+      × (lodfOutput n ptdf froms tos held ≡ realGrid (outage n ptdf froms tos) (length froms) (length froms))

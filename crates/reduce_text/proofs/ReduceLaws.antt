@@ -10,7 +10,7 @@ use Rattle.text_numbers.specs.Inner.Writing.{written}
 use Rattle.reduce_text.specs.Reading.{runOf}
 use Rattle.reduce_text.specs.Inner.Steps.{RanIn}
 use Rattle.reduce_text.specs.Printing.{Whole, textOf, text}
-use Rattle.reduce_text.specs.Reduce.{printed, matrixLength, outputLength, AfterReduce, afterReduce}
+use Rattle.reduce_text.specs.Reduce.{printed, matrixLength, outputLength, reduceRefusal, reduceAnswer, AfterReduce, afterReduce}
 use Rattle.reduce_text.proofs.Fit.{most-limit, run-fit}
 use Rattle.reduce_text.proofs.Room.{text-front, text-room}
 
@@ -19,11 +19,11 @@ untouched out ys = record { answer = Refused wrongLength; output = out; matrix =
 
 module _ (input out : Bytes) (ys : List Float) where
   pub after-output : (length out ≡ outputLength → ⊥) → afterReduce input out ys ≡ untouched out ys
-  unfolding afterReduce
+  unfolding afterReduce reduceRefusal reduceAnswer
   after-output n = simp (ne-eqb _ _ n)
 
   pub after-matrix : length out ≡ outputLength → (length ys ≡ matrixLength → ⊥) → afterReduce input out ys ≡ untouched out ys
-  unfolding afterReduce
+  unfolding afterReduce reduceRefusal reduceAnswer
   after-matrix e n = simp (eq-eqb _ _ e, ne-eqb _ _ n)
 
   pub after-both : length out ≡ outputLength → length ys ≡ matrixLength
@@ -33,7 +33,7 @@ module _ (input out : Bytes) (ys : List Float) where
         output = printed input ++ replicate (outputLength - length (printed input)) 0;
         matrix = zeros matrixLength;
       }
-  unfolding afterReduce
+  unfolding afterReduce reduceRefusal reduceAnswer
   after-both e f = simp (eq-eqb _ _ e, eq-eqb _ _ f)
 
 -- ---- what was read, in the slice that it was read into

@@ -1,12 +1,12 @@
 -- The program as a whole: from the bytes that it reads to the bytes that it writes, and what its slices hold.
-use Prim.Native.Nat.{ℕ, _+_, _-_, _*_}
-use mathlib.Core.Bool.{_&&_, cond}
+use Prim.Native.Nat.{ℕ, zero, suc, _+_, _-_, _*_}
+use mathlib.Core.Bool.{not, _&&_, cond}
 use mathlib.Core.List.{List, _++_}
 use lib.Dec.{eqb}
 use lib.ListN.{length, replicate}
 use lib.Ieee.{Float}
 use Rattle.complex.specs.Matrices.{zeros}
-use Rattle.refusals.specs.Refusals.{wrongLength}
+use Rattle.refusals.specs.Refusals.{wrongLength, refuse}
 use Rattle.reduce_text.specs.declared.Answer.{Answer}
 use Rattle.reduce_text.specs.declared.Answer.the-variants.{Written, Refused}
 use Rattle.text_numbers.specs.Bytes.{Bytes}
@@ -33,18 +33,32 @@ unfoldable pub inputLength : ℕ
 unfolding most
 inputLength = 9 + 11 * most + 34 * (most * most) + 16 * most + 34
 
+-- 2 or 0, by the lengths of the output and of the matrix slice. What is wrong in the input is printed.
+unfoldable pub reduceRefusal : ℕ → ℕ → ℕ
+reduceRefusal out ys = refuse (not (eqb out outputLength && eqb ys matrixLength)) wrongLength 0
+
+-- the answer of a call with this refusal: how many bytes were written where there is none
+unfoldable pub reduceAnswer : ℕ → ℕ → Answer
+reduceAnswer zero n = Written n
+reduceAnswer (suc k) n = Refused (suc k)
+
+-- the number of an answer: its refusal, 0 where there is none
+abbrev pub reduceNumber : Answer → ℕ
+reduceNumber (Written n) = 0
+reduceNumber (Refused k) = k
+
 pub record AfterReduce : Type 0 where
   pub answer : Answer
   pub output : Bytes
   pub matrix : List Float
 
--- The answer is how many bytes were written: they stand at the output's front, 0 behind them. The matrix is a work slice, +0 afterwards.
+-- The bytes written stand at the output's front, 0 behind them. The matrix is a work slice, +0 afterwards. Where the call is refused, both
+-- are as they were.
 unfoldable pub afterReduce : Bytes → Bytes → List Float → AfterReduce
 afterReduce input out ys =
-    cond (eqb (length out) outputLength && eqb (length ys) matrixLength)
-    (record {
-      answer = Written (length (printed input));
-      output = printed input ++ replicate (outputLength - length (printed input)) 0;
-      matrix = zeros matrixLength;
-    })
-    (record { answer = Refused wrongLength; output = out; matrix = ys })
+    let f = reduceRefusal (length out) (length ys) in
+    record {
+      answer = reduceAnswer f (length (printed input));
+      output = cond (eqb f 0) (printed input ++ replicate (outputLength - length (printed input)) 0) out;
+      matrix = cond (eqb f 0) (zeros matrixLength) ys;
+    }

@@ -1,6 +1,6 @@
 // The text of the program `reduce`: from the bytes that it reads to the bytes that it writes.
 ghost use mathlib.Core.Path.{_≡_};
-ghost use Rattle.reduce_text.specs.Reduce.{afterReduce};
+ghost use Rattle.reduce_text.specs.Reduce.{reduceNumber, afterReduce};
 use print::print;
 use read::read;
 use refusals::WRONG_LENGTH;
@@ -24,6 +24,16 @@ pub const INPUT: usize = 9 + 11 * MOST + 34 * (MOST * MOST) + 16 * MOST + 34;
 pub enum Answer {
     Written(usize),
     Refused(u32),
+}
+
+// The refusal's number, 0 where there is none.
+pub fn number_of(answer: Answer) -> u32
+    ensures { λ r. ⌜ r ≡ reduceNumber answer ⌝ }
+{
+    match answer {
+        Answer::Written(_) => 0,
+        Answer::Refused(k) => k,
+    }
 }
 
 // What `reduce` prints for this input, at the output's front, with 0 behind it. The matrix slice is +0 afterwards.

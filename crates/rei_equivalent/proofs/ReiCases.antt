@@ -1,11 +1,15 @@
 -- The REI definitions computed by the checker on a study of three buses.
-use Rattle.prelude.proofs.Prelude.{_≡_, refl, List, [], _∷_, _+_, replicate, Float, nan, inf, false, binary64, ofInt, ofBits, ofFields, neg, add, mul, div, sum, round, units, odd, lt, size, span, climb}
+use Rattle.prelude.proofs.Prelude.{_≡_, refl, List, [], _∷_, _++_, ℕ, _+_, T, replicate, Float, nan, inf, false, binary64, ofInt, ofBits, ofFields, neg, add, mul, div, sum, round, units, odd, lt, size, span, climb}
 use lib.Count.{trailingZeros}
 use Rattle.complex.specs.{plus0, one, smallMagnitude, tieThreshold, cneg, sqmag, entry, abs, magnitude, entryAt}
 use Rattle.lists.specs.Buses.{upTo}
+use Rattle.binary64.specs.Values.{allFinite}
 use Rattle.binary64.specs.Root.{root, rootOf, radicand, half, wholeRoot, movedBack}
 use Rattle.refusals.specs.Refusals.{limit, thenGiven, thenComputed}
-use Rattle.rei_equivalent.specs.Rei.{ReiInput, total, partialSums, spoke, ofSpoke, spokeParts, ofSpokes, isTie, rowTies, upperTies, allTies, tieEnds, tieParts, tieRoom, reiBuses, reiSize, spokesOf, tiesOf, sized, reiLengthRefusal, reiShapeRefusal, ofRei, reiRefusal, equivalentOf}
+use Rattle.rei_equivalent.specs.Rei.{ReiInput, total, partialSums, spoke, ofSpoke, spokeParts, ofSpokes, isTie, rowTies, upperTies, allTies, tieEnds, tieParts, tieRoom, reiBuses, reiSize, spokesOf, tiesOf, sized, reiLengthRefusal, reiShapeRefusal, ofRei, reiRefusal, equivalentOf, AfterRei}
+use Rattle.rei_equivalent.specs.declared.ReiAnswer.{ReiAnswer}
+use Rattle.rei_equivalent.specs.declared.ReiAnswer.the-variants.{Done}
+use Rattle.rei_equivalent.proofs.ReiFinite.{rei-finite}
 use Rattle.dc_flow.proofs.DcCases.{zero′, one′, minus-one, two, minus-two, largest}
 
 abbrev minus-zero : Float
@@ -51,6 +55,16 @@ study =
 accepted : (reiRefusal study ≡ 0) × (reiBuses study ≡ 5 ∷ 9 ∷ 2 ∷ [])
 unfolding study matrix reiRefusal reiShapeRefusal reiLengthRefusal sized reiSize reiBuses tieRoom thenGiven thenComputed ofRei partialSums ofSpokes ofSpoke magnitude root rootOf radicand half wholeRoot movedBack sqmag entryAt entry upTo plus0 smallMagnitude lt add mul div ofInt sum round units odd size span climb trailingZeros ofBits ofFields
 accepted = (refl, refl)
+
+-- the same by `ReiFinite.accepted`, whose premises it meets
+premises : (reiShapeRefusal study ≡ 0) × T (allFinite (study .entries ++ (study .p ++ study .q))) × T (allFinite (ofRei (reiSize study) (study .entries) (study .p) (study .q)))
+unfolding study matrix reiRefusal reiShapeRefusal reiLengthRefusal sized reiSize reiBuses tieRoom thenGiven thenComputed ofRei partialSums ofSpokes ofSpoke magnitude root rootOf radicand half wholeRoot movedBack sqmag entryAt entry upTo plus0 smallMagnitude lt add mul div ofInt sum round units odd size span climb trailingZeros ofBits ofFields
+premises = (refl, tt, tt)
+
+by-law : (r : ReiAnswer) (buses ends : List ℕ) (spokes ties : List Float) → AfterRei study r buses spokes ends ties → r ≡ Done (equivalentOf study)
+by-law r buses ends spokes ties after =
+    let (shape, given, computed) = premises in
+    rei-finite .accepted study r buses spokes ends ties after shape given computed .0
 
 -- the sum of a list of -0 is +0
 answer : equivalentOf study ≡ record { «rei_bus_id» = 17; «rei_voltage_pu» = one′; «rei_p_mw» = three; «rei_q_mvar» = zero′; «n_ties» = 2 }

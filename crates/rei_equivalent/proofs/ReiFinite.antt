@@ -1,5 +1,6 @@
 -- What an accepted call of `compute` answers and writes is finite: sums and spokes are computed, ties are given entries with their signs turned.
-use Rattle.prelude.proofs.Prelude.{_≡_, refl, sym, subst, Bool, true, false, cond, List, [], _∷_, _++_, ℕ, zero, suc, _+_, _*_, _<_, arith, T, ltb, ltb→lt, length, getD, Float, nan, inf, fin, neg, ofBits, lt, and-l, and-r, finite}
+-- And nothing finite is refused.
+use Rattle.prelude.proofs.Prelude.{_≡_, refl, sym, subst, Bool, true, false, cond, List, [], _∷_, _++_, ℕ, zero, suc, _+_, _*_, _<_, arith, T, ltb, ltb→lt, length, getD, Float, nan, inf, fin, neg, ofBits, lt, and-l, and-r, finite, is-true}
 use Rattle.binary64.specs.Values.{allFinite}
 use Rattle.complex.specs.{Complex, Matrix, plus0, one, smallMagnitude, magnitude, cneg, entry, entryAt, zeros, _⊘_}
 use Rattle.complex.specs.Leaves.{ofMagnitude}
@@ -8,9 +9,10 @@ use Rattle.complex.proofs.Sticky.{Finite}
 use Rattle.complex.proofs.Matrices.{entry-within}
 use Rattle.lists.specs.Buses.{upTo, allBelow}
 use Rattle.lists.proofs.Buses.{all-below-upTo}
-use Rattle.refusals.proofs.Numbers.{given-none, computed-none}
+use Rattle.refusals.proofs.Numbers.{given-none, computed-none, given-all, computed-all}
 use Rattle.rei_equivalent.specs.declared.ReiEquivalent.{ReiEquivalent}
 use Rattle.rei_equivalent.specs.declared.ReiAnswer.{ReiAnswer}
+use Rattle.rei_equivalent.specs.declared.ReiAnswer.the-variants.{Done}
 use Rattle.rei_equivalent.specs.Rei.{ReiInput, ReiFinite, Tie, total, partialSums, spoke, ofSpoke, spokeParts, ofSpokes, isTie, rowTies, upperTies, tieParts, allTies, tiesOf, spokesOf, unused, reiBuses, reiSize, reiShapeRefusal, ofRei, reiRefusal, equivalentOf, reiAnswer, reiNumber, numbersOf}
 use Rattle.rei_equivalent.proofs.ReiNumbers.{plus0-finite, sum-tells}
 use Rattle.rei_equivalent.proofs.ReiAnswers.{rei-accepted}
@@ -122,6 +124,17 @@ module _ (g : ReiInput) (z : reiRefusal g ≡ 0) where
       (entries-finite (reiSize g) (g .entries) (lengths .1) (all-left (g .entries) _ (told .0 .1))))
       (zeros-finite (unused g))
 
+not-refused : (g : ReiInput) → reiShapeRefusal g ≡ 0 → T (allFinite (g .entries ++ (g .p ++ g .q))) → T (allFinite (ofRei (reiSize g) (g .entries) (g .p) (g .q))) → reiRefusal g ≡ 0
+unfolding reiRefusal
+not-refused g shape given computed =
+    let numbers = g .entries ++ (g .p ++ g .q) in
+    let told = given-all 0 (reiShapeRefusal g) numbers (sym shape) refl (is-true (allFinite numbers) given) in
+    sym (computed-all 0 _ (ofRei (reiSize g) (g .entries) (g .p) (g .q)) told refl (is-true (allFinite (ofRei (reiSize g) (g .entries) (g .p) (g .q))) computed))
+
+answered : (f : ℕ) (e : ReiEquivalent) (r : ReiAnswer) → f ≡ 0 → r ≡ reiAnswer f e → r ≡ Done e
+unfolding reiAnswer
+answered f e r z a = rw z at a
+
 pub rei-finite : ReiFinite
 rei-finite =
     record {
@@ -131,4 +144,7 @@ rei-finite =
             subst (λ (xs : List Float). T (allFinite xs)) (sym (rw z at (after .spokesAre))) (spokes-are g z),
             subst (λ (xs : List Float). T (allFinite xs)) (sym (rw z at (after .tiesAre))) (ties-are g z),
           );
+      accepted = λ g r buses spokes ends ties after shape given computed.
+          let z = not-refused g shape given computed in
+          (answered (reiRefusal g) (equivalentOf g) r z (after .answer), rw z at (after .spokeBusesAre), rw z at (after .spokesAre), rw z at (after .tieBusesAre), rw z at (after .tiesAre));
     }

@@ -201,8 +201,16 @@ unfoldable pub numbersOf : ReiAnswer → List Float
 numbersOf (Done e) = e .«rei_voltage_pu» ∷ e .«rei_p_mw» ∷ e .«rei_q_mvar» ∷ []
 numbersOf (Refused k) = []
 
--- what an accepted call answers and writes is finite
+-- what an accepted call answers and writes is finite, and nothing finite is refused
 pub record ReiFinite : Type 0 where
   pub outputs-finite : (g : ReiInput) (r : ReiAnswer) (spokeBuses : List ℕ) (spokes : List Float) (tieBuses : List ℕ) (ties : List Float)
       → AfterRei g r spokeBuses spokes tieBuses ties → reiNumber r ≡ 0
       → T (allFinite (numbersOf r)) × T (allFinite spokes) × T (allFinite ties)
+  -- a call with right lengths whose numbers, given and computed, are finite is accepted
+  pub accepted : (g : ReiInput) (r : ReiAnswer) (spokeBuses : List ℕ) (spokes : List Float) (tieBuses : List ℕ) (ties : List Float)
+      → AfterRei g r spokeBuses spokes tieBuses ties
+      → reiShapeRefusal g ≡ 0
+      → T (allFinite (g .entries ++ (g .p ++ g .q)))
+      → T (allFinite (ofRei (reiSize g) (g .entries) (g .p) (g .q)))
+      → (r ≡ Done (equivalentOf g)) × (spokeBuses ≡ reiBuses g) × (spokes ≡ spokesOf g)
+      × (tieBuses ≡ tieEnds (tiesOf g) ++ replicate (unused g) 0) × (ties ≡ tieParts (tiesOf g) ++ zeros (unused g))

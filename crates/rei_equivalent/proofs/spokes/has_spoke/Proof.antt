@@ -1,9 +1,10 @@
 -- `rei_equivalent::spokes::has_spoke` meets its contract: the root of a number above 2 ^ -78 is not below 2 ^ -39, which is above 1e-12.
-use Rattle.prelude.proofs.Prelude.{_≡_, refl, sym, true, false, zero, suc, _*_, _≤_, _<_, arith, needs, T, Float, nan, true≢false, _^_, ltb-true, lt-ltb, lt→ltb, inf, fin, binary64, up, down, fits, lt, ofBits, down-pos}
+use Rattle.prelude.proofs.Prelude.{_≡_, refl, sym, true, false, zero, suc, _*_, _≤_, _<_, arith, needs, T, Float, nan, true≢false, _^_, ltb-true, lt→ltb, inf, fin, binary64, up, down, fits, lt, ofBits}
 use lib.IntN.{negsuc}
 use lib.Ieee.Fits.{add-fits}
 use lib.Ieee.Positive.{num, den}
 use Rattle.complex.specs.{Complex, smallMagnitude, _⊗_, sqmag, magnitude}
+use Rattle.complex.proofs.SmallMagnitude.{above-small}
 use Rattle.binary64.specs.Root.{NearestRoot, root}
 use Rattle.binary64.proofs.RootNearest.{root-is, root-least}
 use Rattle.rei_equivalent.proofs.spokes.has_spoke.Statement.{statement}
@@ -16,7 +17,7 @@ above-small-magnitude x (inf s) v h = absurd (v .above)
 above-small-magnitude x (fin true n d) v h = absurd (v .above)
 above-small-magnitude x (fin false n d) v h =
     let no : ¬ (n * up d * 2 ^ 39 < 1 * 1 * down d) = (λ l. root-least x (fin false n d) 1 (negsuc 38) v tt (omega arith) (lt→ltb _ _ l)) in
-    lt-ltb (0x119799812dea11 * 1 * down d) (n * up d * 2 ^ 92) (omega (arith, down-pos d))
+    above-small n d (omega arith)
 
 strong : (x : Float) → T (fits binary64 x) → lt (ofBits binary64 0x3b10000000000000) x ≡ true → lt smallMagnitude (root x) ≡ true
 unfolding lt smallMagnitude ofBits root
