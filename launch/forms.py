@@ -38,6 +38,13 @@ def file_fault(line):
     return None
 
 
+def return_fault(line):
+    """What is wrong with a line that holds several, ended by carriage returns alone."""
+    if b"\r" in without_end(line):
+        return "carriage returns stand within it, as some systems end lines; a line ends with a line feed"
+    return None
+
+
 def blank_fault(line):
     """What is wrong with a line that has no word."""
     return "it holds nothing but spaces" if line else "it is empty"
@@ -106,6 +113,11 @@ def bus_faults(words, earlier):
         yield from number_faults(words[0], MOST, TOO_LARGE)
     if words[0] in earlier:
         yield f"{shown(words[0])} is the number of row {earlier.index(words[0])} already"
+
+
+def surplus(n):
+    """What is wrong with an entry that stands where drops are due."""
+    return f"it is one entry more than the {n * n} of {count(n, 'bus', 'buses')}"
 
 
 def missing(kind, n, before):

@@ -80,7 +80,11 @@ fn told(tally: &Tally, seed: usize) -> bool {
     if alike {
         println!("oracle: no study shows that the Rust's currents are (P + jQ)/base");
     }
-    failed == 0 && unjudged.is_none() && unallowed.is_none() && unseen.is_none() && !alike
+    let whole = tally.left_alone == 0;
+    if whole {
+        println!("oracle: no solve is refused with 20 left of a pivot alone");
+    }
+    failed == 0 && unjudged.is_none() && unallowed.is_none() && unseen.is_none() && !alike && !whole
 }
 
 fn main() {

@@ -47,6 +47,8 @@ fn pivot(weights: &[f64], rule: Rule) -> usize {
 pub struct Solver {
     rule: Rule,
     allowance: u64,
+    // whether rows are scaled and reduced in all columns, or only from their pivot's on
+    whole: bool,
     // row reductions begun
     pub reduced: u64,
     pub choice: Choice,
@@ -57,9 +59,15 @@ impl Solver {
         Solver {
             rule,
             allowance,
+            whole: true,
             reduced: 0,
             choice: Choice::Clear,
         }
+    }
+
+    // The same from each pivot's column on, which no call does.
+    pub fn from_pivots(self) -> Self {
+        Solver { whole: false, ..self }
     }
 
     // The solutions for these right sides.
@@ -95,8 +103,11 @@ impl Solver {
     // row c is scaled by its pivot's inverse, and every other row that is not skipped is reduced
     fn clear(&mut self, rows: &mut Rows, c: usize) -> Result<(), Stop> {
         let inverse = cdiv((1.0, 0.0), rows[c][c])?;
-        let pivot_row: Vec<Pair> = rows[c].iter().map(|&x| cmul(x, inverse)).collect::<Result<_, _>>()?;
-        rows[c].copy_from_slice(&pivot_row);
+        let first = if self.whole { 0 } else { c };
+        for x in &mut rows[c][first..] {
+            *x = cmul(*x, inverse)?;
+        }
+        let pivot_row = rows[c].clone();
         for (i, row) in rows.iter_mut().enumerate() {
             let factor = row[c];
             if i == c || (factor.0.abs() < TINY && factor.1.abs() < TINY) {
@@ -106,7 +117,7 @@ impl Solver {
                 return Err(Stop::Beyond);
             }
             self.reduced += 1;
-            for (x, &p) in row.iter_mut().zip(&pivot_row) {
+            for (x, &p) in row.iter_mut().zip(&pivot_row).skip(first) {
                 *x = csub(*x, cmul(factor, p)?)?;
             }
         }

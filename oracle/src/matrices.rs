@@ -1,15 +1,16 @@
 // Square complex matrices as flat numbers, real then imaginary, of the kinds that elimination treats differently.
-use crate::numbers::{kind, real, reals, Kind};
+use crate::numbers::{kind, real, reals, two_to, Kind};
 use crate::source::Source;
 
 pub fn matrix(s: &mut Source, n: usize) -> Vec<f64> {
     let kind = kind(s);
-    match s.below(7) {
+    match s.below(8) {
         0 => grid(s, n),
         1 => tied(s, n),
         2 => sparse(s, n, kind),
         3 => singular(s, n, kind),
         4 => spotted(s, n),
+        5 => left_over(s, n),
         _ => reals(s, kind, 2 * n * n),
     }
 }
@@ -83,6 +84,32 @@ fn spotted(s: &mut Source, n: usize) -> Vec<f64> {
             let at = s.below(2 * n * n);
             let kind = kind(s);
             y[at] = real(s, kind);
+        }
+    }
+    y
+}
+
+// Two buses whose elimination may meet a number that is not finite in the first one's column alone: a times its rounded inverse is not 1,
+// so that the second row keeps a rest there, which its small pivot scales up, and a large entry once more. The others stand alone.
+fn left_over(s: &mut Source, n: usize) -> Vec<f64> {
+    let mut y = vec![0.0; 2 * n * n];
+    for i in 0..n {
+        y[2 * (i * n + i)] = 1.0 + s.below(3) as f64;
+    }
+    if n > 1 {
+        let second = 1 + s.below(n - 1);
+        let first = s.below(second);
+        let a = s.pick(&[49.0, 98.0, 103.0, 107.0]);
+        let large = two_to(580 + s.below(40) as i64);
+        let small = two_to(-498 + s.below(3) as i64);
+        for (i, j, re, im) in [
+            (first, first, a, 0.0),
+            (first, second, large, 0.0),
+            (second, first, 1.0, 0.0),
+            (second, second, large * (1.0 / a), small),
+        ] {
+            y[2 * (i * n + j)] = re;
+            y[2 * (i * n + j) + 1] = im;
         }
     }
     y

@@ -1,4 +1,5 @@
 // Calls that show document 02's 19 and 20 (P9), with the number that each must answer.
+use crate::allowances::NONE;
 use crate::buses::rows;
 use crate::call::{Call, Function};
 use crate::functions::*;
@@ -62,6 +63,12 @@ fn systems(visit: Visit) {
     let second = [1.0, two_to(600), two_to(500), 1.0];
     visit(solve(second, [1.0, 1.0]).allowing(0), 18);
     visit(solve(second, [1.0, 1.0]).allowing(1), 20);
+    // The second row reduction meets 20 in the first column alone, left of its pivot: 49 times its rounded inverse is not 1.
+    let large = two_to(600);
+    let left = [49.0, 0.0, large, 0.0, 1.0, 0.0, large * (1.0 / 49.0), 1e-150];
+    for (allowance, number) in [(0, 18), (1, 18), (2, 20), (3, 20), (NONE, 20)] {
+        visit(solve_linear::of(2, &left, &[0.0; 4]).allowing(allowance), number);
+    }
     // a weight that is not the pivot's, and the pivot's own square
     visit(solve([1.0, 0.0, two_to(512), 1.0], [1.0, 1.0]), 20);
     visit(solve_linear::of(1, &entries(&[two_to(512)]), &entries(&[1.0])), 20);

@@ -5,7 +5,7 @@ use crate::call::{shown, Call, Function};
 use crate::crossing::Crossing;
 use crate::differences::{Difference, Told};
 use crate::expected::{After, Expected};
-use crate::functions::expected;
+use crate::functions::{expected, solve_linear};
 use crate::outcomes;
 use crate::pivots::Judge;
 use crate::port::{Part, Port};
@@ -23,6 +23,8 @@ pub struct Tally {
     pub allowances: BTreeMap<(Function, Met), usize>,
     // of row reductions above 0
     pub counts: BTreeMap<(Function, Judge), usize>,
+    // solves that meet 20 left of a pivot alone
+    pub left_alone: usize,
     pub failed: BTreeMap<Function, usize>,
 }
 
@@ -60,6 +62,9 @@ impl Tally {
         }
         for difference in &e.noted {
             *self.differences.entry((*difference, Manner::Accepts)).or_default() += 1;
+        }
+        if call.function == Function::SolveLinear && e.number == 20 && solve_linear::left_alone(call) {
+            self.left_alone += 1;
         }
         if let Some(judge) = e.judge {
             *self.judges.entry((call.function, judge)).or_default() += 1;
@@ -152,6 +157,7 @@ impl Tally {
             let counts = told("counts above 0", of(&self.counts, function));
             println!("allowances of {function:?}: {refused}, {accepted}; {counts}");
         }
+        println!("solves refused with 20 left of a pivot alone: {}", self.left_alone);
     }
 
     fn met(&self, function: Function) -> [usize; 5] {

@@ -3,6 +3,7 @@ import atexit
 import importlib.machinery
 import importlib.util
 import os
+import re
 import shutil
 import signal
 import subprocess
@@ -72,6 +73,13 @@ def other_locales():
 def told(result, status, words):
     """Nothing on standard output and one line with these words on standard error."""
     return result[:2] == (status, b"") and result[2].find(b"\n") == len(result[2]) - 1 and words in result[2]
+
+
+def refused(number, bus):
+    """How ./reduce ends where a bus is refused: the program's line, and the header's words."""
+    with open(os.path.join(ROOT, "include/jeturipe.h")) as f:
+        words, = re.findall(rf"= {number},? +/\* (.*) \*/$", f.read(), re.M)
+    return 1, f"refused {number} {bus}\n".encode(), f"reduce: bus {bus} cannot be removed: {words}\n".encode()
 
 
 def load(path):

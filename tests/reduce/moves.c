@@ -1,5 +1,6 @@
 /* read and write in place of the C library's, for tests/reduce/moves: each moves at most MOST bytes, every second call is interrupted by a
- * signal first where SIGNALS is set, and the call of read or write whose number is FAIL_READ or FAIL_WRITE, from 1, fails for good. */
+ * signal first where SIGNALS is set, and the call of read or write whose number is FAIL_READ or FAIL_WRITE, from 1, fails for good. Where
+ * STRAY is set, what is written on standard output is written on standard error as well, as a wrong program might. */
 #include <errno.h>
 #include <stdlib.h>
 #include <sys/syscall.h>
@@ -43,5 +44,7 @@ ssize_t write(int fd, const void *bytes, size_t n) {
     static long calls;
     if (fd != STDOUT_FILENO)
         return moved(SYS_write, fd, (long)bytes, n);
+    if (asked("STRAY"))
+        moved(SYS_write, STDERR_FILENO, (long)bytes, n);
     return bent(SYS_write, fd, (long)bytes, n, &calls, "FAIL_WRITE");
 }

@@ -6,6 +6,7 @@ use crate::call::{dirty, Call, Function};
 use crate::eliminated;
 use crate::elimination::{Rule, Solver};
 use crate::expected::{faults, numbers_in, then_given, Expected};
+use crate::finite::Stop;
 use crate::matrices::matrix;
 use crate::numbers::{kind, reals};
 use crate::source::Source;
@@ -71,6 +72,14 @@ pub fn reductions(call: &Call) -> (u64, u64) {
     (solver.reduced, (n * n - n) as u64)
 }
 
+// whether a call that is refused with 20 meets it left of a pivot alone
+pub fn left_alone(call: &Call) -> bool {
+    let n = call.size();
+    let mut solver = Solver::new(Rule::First, call.allowance()).from_pivots();
+    let end = solver.solution(&rows_of(&call.slices[A], n, n), &right_side(call));
+    end != Err(Stop::NotFinite)
+}
+
 // half a complex number too many is one too many, half a one missing is one missing
 fn right_side(call: &Call) -> Vec<(f64, f64)> {
     let mut b = pairs_of(&call.slices[B]);
@@ -83,6 +92,10 @@ fn right_side(call: &Call) -> Vec<(f64, f64)> {
 pub fn random(s: &mut Source, n: usize) -> Call {
     let a = matrix(s, n);
     let kind = kind(s);
-    let b = reals(s, kind, 2 * n);
+    let b = if s.one_in(4) {
+        vec![0.0; 2 * n]
+    } else {
+        reals(s, kind, 2 * n)
+    };
     of(n, &a, &b)
 }
