@@ -30,7 +30,7 @@ static const char *meaning(uint32_t refusal) {
     case JETURIPE_BAD_RECORD: return "the record is none that a making or a removal leaves";
     case JETURIPE_NOT_ACTIVE: return "the reducer has no such bus, or it was removed";
     case JETURIPE_SMALL_ENTRY: return "the bus's own admittance is too small to divide by";
-    case JETURIPE_SINGULAR: return "the system is singular or nearly so";
+    case JETURIPE_SINGULAR: return "a pivot is numerically nothing, below 1e-150 in size";
     case JETURIPE_BEYOND_ALLOWANCE: return "the work takes more row reductions than are allowed";
     case JETURIPE_GIVEN_NOT_FINITE: return "a number handed in is infinite or NaN";
     case JETURIPE_COMPUTED_NOT_FINITE: return "a number computed is infinite or NaN";

@@ -55,7 +55,7 @@ mod jeturipe {
                 9 => "the record is none that a making or a removal leaves",
                 11 => "the reducer has no such bus, or it was removed",
                 12 => "the bus's own admittance is too small to divide by",
-                13 => "the system is singular or nearly so",
+                13 => "a pivot is numerically nothing, below 1e-150 in size",
                 18 => "the work takes more row reductions than are allowed",
                 19 => "a number handed in is infinite or NaN",
                 20 => "a number computed is infinite or NaN",
