@@ -10,11 +10,11 @@ use Rattle.complex.proofs.Sticky.{Finite}
 use Rattle.complex.proofs.FiniteEntries.{AllFinite}
 use Rattle.refusals.specs.Refusals.{limit}
 use Rattle.admittance.specs.declared.branch.Terms.{Terms}
-use Rattle.admittance.specs.Branch.{impedanceSquare, tapSquare, termsOf}
+use Rattle.admittance.specs.Branch.{impedance_square, tap_square, terms_of}
 use Rattle.admittance.specs.Sums as sums
-use Rattle.admittance.specs.Sums.{branchSums, hasShunt, shunt, shuntSums, matrixOf}
-use Rattle.admittance.specs.Inner.Sizes.{bounded, pairBounded, termsBounded, branchBounded, branchesBounded, shuntsBounded}
-use Rattle.admittance.specs.Inner.Single.{joinedEntry}
+use Rattle.admittance.specs.Sums.{branch_sums, has_shunt, shunt, shunt_sums, matrix_of}
+use Rattle.admittance.specs.Inner.Sizes.{bounded, pair_bounded, terms_bounded, branch_bounded, branches_bounded, shunts_bounded}
+use Rattle.admittance.specs.Inner.Single.{joined_entry}
 use Rattle.admittance.proofs.Steps.{sum_step}
 use Rattle.admittance.proofs.ShuntEntry.{shunt-entry}
 use Rattle.admittance.proofs.Computed.{Told, told-branch, pair-bounded, branch-at, shunt-at, all-branches, all-shunts}
@@ -55,8 +55,8 @@ times-finite c z (a, b) = (within-finite (c * 2 ^ 200) z.re a, within-finite (c 
 
 -- ---- what the tests of size say
 
-pub pair-in : (z : Complex) → T (pairBounded true z) → Both 200 z
-unfolding pairBounded bounded
+pub pair-in : (z : Complex) → T (pair_bounded true z) → Both 200 z
+unfolding pair_bounded bounded
 pair-in z h = (ordinary-in z.re (and_l (ordinary z.re) (ordinary z.im) h), ordinary-in z.im (and_r (ordinary z.re) (ordinary z.im) h))
 
 both-finite : (z : Complex) → Both 200 z → Finite z
@@ -64,25 +64,25 @@ both-finite z (a, b) = (in-finite 200 z.re a, in-finite 200 z.im b)
 
 record Small (r x b tap : Float) : Type 0 where
   told : Told r x b tap
-  from : Both 200 (termsOf r x b tap).from
-  to : Both 200 (termsOf r x b tap).to
-  across : Both 200 (termsOf r x b tap).across
+  from : Both 200 (terms_of r x b tap).from
+  to : Both 200 (terms_of r x b tap).to
+  across : Both 200 (terms_of r x b tap).across
 
-small-branch : (r x b tap : Float) → T (branchBounded true r x b tap) → Small r x b tap
-unfolding branchBounded termsBounded bounded
+small-branch : (r x b tap : Float) → T (branch_bounded true r x b tap) → Small r x b tap
+unfolding branch_bounded terms_bounded bounded
 small-branch r x b tap h =
-    let t = termsOf r x b tap in
-    let h1 = and_r (ordinary (impedanceSquare r x)) _ h in
-    let h2 = and_r (ordinary (tapSquare tap)) _ h1 in
-    let h3 = and_r (pairBounded true t.from) _ h2 in
-    let from = pair-in t.from (and_l (pairBounded true t.from) _ h2) in
-    let to = pair-in t.to (and_l (pairBounded true t.to) (pairBounded true t.across) h3) in
-    let across = pair-in t.across (and_r (pairBounded true t.to) (pairBounded true t.across) h3) in
+    let t = terms_of r x b tap in
+    let h1 = and_r (ordinary (impedance_square r x)) _ h in
+    let h2 = and_r (ordinary (tap_square tap)) _ h1 in
+    let h3 = and_r (pair_bounded true t.from) _ h2 in
+    let from = pair-in t.from (and_l (pair_bounded true t.from) _ h2) in
+    let to = pair-in t.to (and_l (pair_bounded true t.to) (pair_bounded true t.across) h3) in
+    let across = pair-in t.across (and_r (pair_bounded true t.to) (pair_bounded true t.across) h3) in
     record {
       told =
           record {
-            square = in-finite 200 (impedanceSquare r x) (ordinary-in (impedanceSquare r x) (and_l (ordinary (impedanceSquare r x)) _ h));
-            taps = in-finite 200 (tapSquare tap) (ordinary-in (tapSquare tap) (and_l (ordinary (tapSquare tap)) _ h1));
+            square = in-finite 200 (impedance_square r x) (ordinary-in (impedance_square r x) (and_l (ordinary (impedance_square r x)) _ h));
+            taps = in-finite 200 (tap_square tap) (ordinary-in (tap_square tap) (and_l (ordinary (tap_square tap)) _ h1));
             from = both-finite t.from from;
             to = both-finite t.to to;
             across = both-finite t.across across;
@@ -95,22 +95,22 @@ small-branch r x b tap h =
 -- ---- the sums
 
 joined-times : (c : ℕ) → c + 4 ≤ 2048 → (s : Complex) (i j f t : ℕ) (terms : Terms) → Times c s → Both 200 terms.from → Both 200 terms.to → Both 200 terms.across
-    → Times (c + 4) (joinedEntry s i j f t terms)
-unfolding joinedEntry
+    → Times (c + 4) (joined_entry s i j f t terms)
+unfolding joined_entry
 joined-times c few s i j f t terms h from to across =
     let one = added-times c (omega arith) (eqb i f && eqb j f) s terms.from h from in
     let two = added-times (c + 1) (omega arith) (eqb i t && eqb j t) _ terms.to one to in
     let three = added-times (c + 1 + 1) (omega arith) (eqb i f && eqb j t) _ terms.across two across in
     let four = added-times (c + 1 + 1 + 1) (omega arith) (eqb i t && eqb j f) _ terms.across three across in
     let e : c + 1 + 1 + 1 + 1 ≡ c + 4 = omega arith in
-    subst (λ (k : ℕ). Times k (joinedEntry s i j f t terms)) e four
+    subst (λ (k : ℕ). Times k (joined_entry s i j f t terms)) e four
 
-module _ (froms tos : List ℕ) (status : List Bool) (r x b tap : List Float) (m : ℕ) (few : m ≤ limit) (small : T (branchesBounded true status r x b tap m)) where
+module _ (froms tos : List ℕ) (status : List Bool) (r x b tap : List Float) (m : ℕ) (few : m ≤ limit) (small : T (branches_bounded true status r x b tap m)) where
   at : (k : ℕ) → k < m → get_or status k false ≡ true → Small (get_or r k nan) (get_or x k nan) (get_or b k nan) (get_or tap k nan)
   at k l on = small-branch _ _ _ _ (branch-at true status r x b tap m small k l on)
 
-  sums-times : (i j k : ℕ) → k ≤ m → Times (4 * k) (branchSums froms tos status r x b tap k i j)
-  unfolding branchSums plus0 of_bits
+  sums-times : (i j k : ℕ) → k ≤ m → Times (4 * k) (branch_sums froms tos status r x b tap k i j)
+  unfolding branch_sums plus0 of_bits
   sums-times i j zero h = (lit≤ tt, lit≤ tt)
   sums-times i j (suc k) h =
       let e : 4 * k + 4 ≡ 4 * suc k = omega arith in
@@ -118,33 +118,33 @@ module _ (froms tos : List ℕ) (status : List Bool) (r x b tap : List Float) (m
       (subst (λ (z : ℕ). Times z (step (get_or status k false))) e (go (get_or status k false) refl (sums-times i j k (omega arith))))
     where
       s : Complex
-      s = branchSums froms tos status r x b tap k i j
+      s = branch_sums froms tos status r x b tap k i j
 
       terms : Terms
-      terms = termsOf (get_or r k nan) (get_or x k nan) (get_or b k nan) (get_or tap k nan)
+      terms = terms_of (get_or r k nan) (get_or x k nan) (get_or b k nan) (get_or tap k nan)
 
       step : Bool → Complex
-      step on = cond on (joinedEntry s i j (get_or froms k 0) (get_or tos k 0) terms) s
+      step on = cond on (joined_entry s i j (get_or froms k 0) (get_or tos k 0) terms) s
 
       go : (on : Bool) → get_or status k false ≡ on → Times (4 * k) s → Times (4 * k + 4) (step on)
       go true e g = let t = at k (omega arith) e in joined-times (4 * k) (omega arith) s i j (get_or froms k 0) (get_or tos k 0) terms g t.from t.to t.across
       go false e g = more (4 * k) (4 * k + 4) s (omega arith) g
 
-  pub small-bounded : (n : ℕ) (gs bs : List Float) (base : Float) → T (shuntsBounded true gs bs base n) → Bounded n m froms tos status r x b tap gs bs base
-  unfolding matrixOf
+  pub small-bounded : (n : ℕ) (gs bs : List Float) (base : Float) → T (shunts_bounded true gs bs base n) → Bounded n m froms tos status r x b tap gs bs base
+  unfolding matrix_of
   small-bounded n gs bs base shunts =
       record {
         branches = all-branches false status r x b tap m (λ k l on. told-branch _ _ _ _ (at k l on).told);
         shunts = all-shunts false gs bs base n (λ i l some. pair-bounded (shunt gs bs base i) (both-finite (shunt gs bs base i) (pair-in (shunt gs bs base i) (shunt-at true gs bs base n shunts i l some))));
         entries = λ i j hi hj.
-            subst Finite (sym (shunt-entry gs bs base (branchSums froms tos status r x b tap m) i j n hi)) (entry i j hi (hasShunt gs bs base i) (eqb i j) refl);
+            subst Finite (sym (shunt-entry gs bs base (branch_sums froms tos status r x b tap m) i j n hi)) (entry i j hi (has_shunt gs bs base i) (eqb i j) refl);
       }
     where
-      entry : (i j : ℕ) → i < n → (some diagonal : Bool) → hasShunt gs bs base i ≡ some
-          → Finite (cond (diagonal && some) (cadd (branchSums froms tos status r x b tap m i j) (shunt gs bs base i)) (branchSums froms tos status r x b tap m i j))
+      entry : (i j : ℕ) → i < n → (some diagonal : Bool) → has_shunt gs bs base i ≡ some
+          → Finite (cond (diagonal && some) (cadd (branch_sums froms tos status r x b tap m i j) (shunt gs bs base i)) (branch_sums froms tos status r x b tap m i j))
       entry i j hi true true e =
-          times-finite (4 * m + 1) (cadd (branchSums froms tos status r x b tap m i j) (shunt gs bs base i))
-          (sum-times (4 * m) (omega arith) (branchSums froms tos status r x b tap m i j) (shunt gs bs base i) (sums-times i j m (omega arith)) (pair-in (shunt gs bs base i) (shunt-at true gs bs base n shunts i hi e)))
-      entry i j hi true false e = times-finite (4 * m) (branchSums froms tos status r x b tap m i j) (sums-times i j m (omega arith))
-      entry i j hi false true e = times-finite (4 * m) (branchSums froms tos status r x b tap m i j) (sums-times i j m (omega arith))
-      entry i j hi false false e = times-finite (4 * m) (branchSums froms tos status r x b tap m i j) (sums-times i j m (omega arith))
+          times-finite (4 * m + 1) (cadd (branch_sums froms tos status r x b tap m i j) (shunt gs bs base i))
+          (sum-times (4 * m) (omega arith) (branch_sums froms tos status r x b tap m i j) (shunt gs bs base i) (sums-times i j m (omega arith)) (pair-in (shunt gs bs base i) (shunt-at true gs bs base n shunts i hi e)))
+      entry i j hi true false e = times-finite (4 * m) (branch_sums froms tos status r x b tap m i j) (sums-times i j m (omega arith))
+      entry i j hi false true e = times-finite (4 * m) (branch_sums froms tos status r x b tap m i j) (sums-times i j m (omega arith))
+      entry i j hi false false e = times-finite (4 * m) (branch_sums froms tos status r x b tap m i j) (sums-times i j m (omega arith))

@@ -2,9 +2,9 @@
 use Rattle.prelude.proofs.Prelude.{◌≡◌, refl, sym, ◌∙◌, Bool, true, false, ◌&&◌, cond, List, ℕ, zero, suc, T, eqb, get_or, Float, nan}
 use Rattle.complex.specs.{Complex, Matrix, cadd}
 use Rattle.admittance.specs.declared.branch.Terms.{Terms}
-use Rattle.admittance.specs.Branch.{termsOf}
-use Rattle.admittance.specs.Sums.{branchSums, shuntSums, matrixOf}
-use Rattle.admittance.specs.Inner.Single.{joinedEntry}
+use Rattle.admittance.specs.Branch.{terms_of}
+use Rattle.admittance.specs.Sums.{branch_sums, shunt_sums, matrix_of}
+use Rattle.admittance.specs.Inner.Single.{joined_entry}
 use Rattle.admittance.proofs.Steps.{sum_step}
 use Rattle.admittance.proofs.ShuntEntry.{shunt-step}
 
@@ -35,8 +35,8 @@ turned-entry false false true false s terms = refl
 turned-entry false false false true s terms = refl
 turned-entry false false false false s terms = refl
 
-joined-turned : (s : Complex) (i j f t : ℕ) (terms : Terms) → joinedEntry s i j f t terms ≡ joinedEntry s j i f t terms
-unfolding joinedEntry
+joined-turned : (s : Complex) (i j f t : ℕ) (terms : Terms) → joined_entry s i j f t terms ≡ joined_entry s j i f t terms
+unfolding joined_entry
 joined-turned s i j f t terms = turned-entry (eqb i f) (eqb j f) (eqb i t) (eqb j t) s terms
 
 and-turned : (a b : Bool) → (a && b) ≡ (b && a)
@@ -46,16 +46,16 @@ and-turned false true = refl
 and-turned false false = refl
 
 module _ (froms tos : List ℕ) (status : List Bool) (r x b tap : List Float) (i j : ℕ) where
-  sums-mirrored : (k : ℕ) → branchSums froms tos status r x b tap k i j ≡ branchSums froms tos status r x b tap k j i
-  unfolding branchSums
+  sums-mirrored : (k : ℕ) → branch_sums froms tos status r x b tap k i j ≡ branch_sums froms tos status r x b tap k j i
+  unfolding branch_sums
   sums-mirrored zero = refl
   sums-mirrored (suc k) =
       sum_step froms tos status r x b tap k i j
-      ∙ rw (sums-mirrored k, joined-turned (branchSums froms tos status r x b tap k j i) i j (get_or froms k 0) (get_or tos k 0) (termsOf (get_or r k nan) (get_or x k nan) (get_or b k nan) (get_or tap k nan))) refl
+      ∙ rw (sums-mirrored k, joined-turned (branch_sums froms tos status r x b tap k j i) i j (get_or froms k 0) (get_or tos k 0) (terms_of (get_or r k nan) (get_or x k nan) (get_or b k nan) (get_or tap k nan))) refl
       ∙ sym (sum_step froms tos status r x b tap k j i)
 
-  shunts-mirrored : (gs bs : List Float) (base : Float) (Y : Matrix) → Y i j ≡ Y j i → (k : ℕ) → shuntSums gs bs base Y k i j ≡ shuntSums gs bs base Y k j i
-  unfolding shuntSums
+  shunts-mirrored : (gs bs : List Float) (base : Float) (Y : Matrix) → Y i j ≡ Y j i → (k : ℕ) → shunt_sums gs bs base Y k i j ≡ shunt_sums gs bs base Y k j i
+  unfolding shunt_sums
   shunts-mirrored gs bs base Y e zero = e
   shunts-mirrored gs bs base Y e (suc k) =
       shunt-step gs bs base Y i j k
@@ -63,8 +63,8 @@ module _ (froms tos : List ℕ) (status : List Bool) (r x b tap : List Float) (i
       ∙ sym (shunt-step gs bs base Y j i k)
 
 pub matrix-mirrored : (froms tos : List ℕ) (status : List Bool) (r x b tap gs bs : List Float) (base : Float) (m n i j : ℕ)
-    → matrixOf froms tos status r x b tap gs bs base m n i j ≡ matrixOf froms tos status r x b tap gs bs base m n j i
-unfolding matrixOf
+    → matrix_of froms tos status r x b tap gs bs base m n i j ≡ matrix_of froms tos status r x b tap gs bs base m n j i
+unfolding matrix_of
 matrix-mirrored froms tos status r x b tap gs bs base m n i j =
     shunts-mirrored froms tos status r x b tap i j gs bs base _ (sums-mirrored froms tos status r x b tap i j m) n
 

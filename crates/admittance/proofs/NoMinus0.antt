@@ -2,14 +2,14 @@
 -- given: it comes from a sum or a quotient.
 use Rattle.prelude.proofs.Prelude.{◌≡◌, Bool, true, false, ◌&&◌, cond, List, ℕ, zero, suc, T, eqb, length, get_or, Float, nan, binary64, fits, of_bits}
 use lib.Ieee.Fits.{div-fits}
-use Rattle.binary64.specs.Values.{noMinus0}
-use Rattle.complex.specs.{Complex, Matrix, plus0, czero, cadd, divided_by, ofParts}
+use Rattle.binary64.specs.Values.{no_minus0}
+use Rattle.complex.specs.{Complex, Matrix, plus0, czero, cadd, divided_by, of_parts}
 use Rattle.complex.proofs.SameValue.{Fits}
 use Rattle.complex.proofs.Minus0.{NotMinus0, cadd-fits, cadd-not-minus0, parts-not-minus0, grid-not-minus0}
 use Rattle.admittance.specs.declared.branch.Terms.{Terms}
-use Rattle.admittance.specs.Branch.{termsOf}
-use Rattle.admittance.specs.Sums.{plusAt, joined, serves, termsAt, branchSums, hasShunt, shunt, shuntSums, matrixOf}
-use Rattle.admittance.specs.Building.{Data, size, count, rows_from, rows_to, admittance, builtOutput}
+use Rattle.admittance.specs.Branch.{terms_of}
+use Rattle.admittance.specs.Sums.{plus_at, joined, serves, terms_at, branch_sums, has_shunt, shunt, shunt_sums, matrix_of}
+use Rattle.admittance.specs.Building.{Data, size, count, rows_from, rows_to, admittance, built_output}
 use Rattle.admittance.specs.Facts.{Accepted}
 
 -- ---- the terms are values of binary64
@@ -21,8 +21,8 @@ divided-fits y v = (div-fits binary64 y.re v, div-fits binary64 y.im v)
 abbrev TermsFit : Terms → Type 0
 TermsFit terms = Fits terms.from × Fits terms.to × Fits terms.across
 
-terms-fit : (r x b tap : Float) → TermsFit (termsOf r x b tap)
-unfolding termsOf
+terms-fit : (r x b tap : Float) → TermsFit (terms_of r x b tap)
+unfolding terms_of
 terms-fit r x b tap = (cadd-fits _ _, cadd-fits _ _, divided-fits _ _)
 
 -- ---- the sums
@@ -45,8 +45,8 @@ cond-sums : (b : Bool) (Y Z : Matrix) → Sums Y → Sums Z → Sums (cond b Y Z
 cond-sums true Y Z h k = h
 cond-sums false Y Z h k = k
 
-plus-sums : (i j : ℕ) (c : Complex) (Y : Matrix) → Fits c → Sums Y → Sums (plusAt i j c Y)
-unfolding plusAt
+plus-sums : (i j : ℕ) (c : Complex) (Y : Matrix) → Fits c → Sums Y → Sums (plus_at i j c Y)
+unfolding plus_at
 plus-sums i j c Y k h p q = go (eqb p i && eqb q j)
   where
     go : (b : Bool) → Sum (cond b (cadd (Y p q) c) (Y p q))
@@ -59,8 +59,8 @@ joined-sums f t terms Y (from, to, across) h =
     plus-sums t f terms.across _ across (plus-sums f t terms.across _ across (plus-sums t t terms.to _ to (plus-sums f f terms.from Y from h)))
 
 module _ (froms tos : List ℕ) (status : List Bool) (r x b tap : List Float) where
-  branches-sums : (k : ℕ) → Sums (branchSums froms tos status r x b tap k)
-  unfolding branchSums termsAt
+  branches-sums : (k : ℕ) → Sums (branch_sums froms tos status r x b tap k)
+  unfolding branch_sums terms_at
   branches-sums zero = λ i j. zero-sum
   branches-sums (suc k) =
       cond-sums (serves status k) _ _
@@ -72,15 +72,15 @@ module _ (gs bs : List Float) (base : Float) where
   unfolding shunt
   shunt-fits i = divided-fits _ base
 
-  shunts-sums : (Y : Matrix) → Sums Y → (k : ℕ) → Sums (shuntSums gs bs base Y k)
-  unfolding shuntSums
+  shunts-sums : (Y : Matrix) → Sums Y → (k : ℕ) → Sums (shunt_sums gs bs base Y k)
+  unfolding shunt_sums
   shunts-sums Y h zero = h
   shunts-sums Y h (suc k) =
-      cond-sums (hasShunt gs bs base k) _ _ (plus-sums k k (shunt gs bs base k) _ (shunt-fits k) (shunts-sums Y h k)) (shunts-sums Y h k)
+      cond-sums (has_shunt gs bs base k) _ _ (plus-sums k k (shunt gs bs base k) _ (shunt-fits k) (shunts-sums Y h k)) (shunts-sums Y h k)
 
 pub matrix-not-minus0 : (froms tos : List ℕ) (status : List Bool) (r x b tap gs bs : List Float) (base : Float) (m n i j : ℕ)
-    → NotMinus0 (matrixOf froms tos status r x b tap gs bs base m n i j)
-unfolding matrixOf
+    → NotMinus0 (matrix_of froms tos status r x b tap gs bs base m n i j)
+unfolding matrix_of
 matrix-not-minus0 froms tos status r x b tap gs bs base m n i j = (shunts-sums gs bs base _ (branches-sums froms tos status r x b tap m) n i j).1
 
 -- ---- of a call
@@ -89,9 +89,9 @@ entry-not-minus0 : (D : Data) (i j : ℕ) → NotMinus0 (admittance D i j)
 unfolding admittance
 entry-not-minus0 D i j = matrix-not-minus0 (rows_from D) (rows_to D) D.status D.r D.x D.b D.tap D.gs D.bs D.base (count D) (size D) i j
 
-pub no-minus0 : (D : Data) (i j : ℕ) → T (noMinus0 (ofParts (admittance D i j)))
+pub no-minus0 : (D : Data) (i j : ℕ) → T (no_minus0 (of_parts (admittance D i j)))
 no-minus0 D i j = parts-not-minus0 (admittance D i j) (entry-not-minus0 D i j)
 
-pub output-no-minus0 : (D : Data) (n : ℕ) (held : List Float) → Accepted D n held → T (noMinus0 (builtOutput D n held))
-unfolding builtOutput
+pub output-no-minus0 : (D : Data) (n : ℕ) (held : List Float) → Accepted D n held → T (no_minus0 (built_output D n held))
+unfolding built_output
 output-no-minus0 D n held e = rw e (grid-not-minus0 (admittance D) (entry-not-minus0 D) (size D) (size D))

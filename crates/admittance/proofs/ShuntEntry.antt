@@ -2,7 +2,7 @@
 use Rattle.prelude.proofs.Prelude.{◌≡◌, refl, sym, ap, ◌∙◌, subst, Bool, true, false, ◌&&◌, cond, ◌⊎◌, inl, inr, List, ℕ, zero, suc, ◌≤◌, ◌<◌, arith, eqb, Float, eq-eqb, ne_eqb, eqb-true, eq-or-lt_of_le}
 use borrow.Author.Tests.{eqb-false}
 use Rattle.complex.specs.{Complex, Matrix, cadd}
-use Rattle.admittance.specs.Sums.{plusAt, hasShunt, shunt, shuntSums}
+use Rattle.admittance.specs.Sums.{plus_at, has_shunt, shunt, shunt_sums}
 
 pub turned : (i j : ℕ) → eqb i j ≡ eqb j i
 turned i j = go (eqb j i) refl
@@ -21,28 +21,28 @@ same false x = refl
 
 module _ (gs bs : List Float) (base : Float) (Y : Matrix) (i j : ℕ) where
   sum : ℕ → Complex
-  sum k = shuntSums gs bs base Y k i j
+  sum k = shunt_sums gs bs base Y k i j
 
-  pub shunt-step : (k : ℕ) → shuntSums gs bs base Y (suc k) i j
-      ≡ cond (hasShunt gs bs base k) (cond (eqb i k && eqb j k) (cadd (shuntSums gs bs base Y k i j) (shunt gs bs base k)) (shuntSums gs bs base Y k i j)) (shuntSums gs bs base Y k i j)
-  unfolding shuntSums plusAt
-  shunt-step k = at_entry (hasShunt gs bs base k) _ _ i j
+  pub shunt-step : (k : ℕ) → shunt_sums gs bs base Y (suc k) i j
+      ≡ cond (has_shunt gs bs base k) (cond (eqb i k && eqb j k) (cadd (shunt_sums gs bs base Y k i j) (shunt gs bs base k)) (shunt_sums gs bs base Y k i j)) (shunt_sums gs bs base Y k i j)
+  unfolding shunt_sums plus_at
+  shunt-step k = at_entry (has_shunt gs bs base k) _ _ i j
 
-  untouched : (k : ℕ) → (i ≡ k → ⊥) → shuntSums gs bs base Y (suc k) i j ≡ shuntSums gs bs base Y k i j
-  untouched k ne = shunt-step k ∙ rw (ne_eqb i k ne) (same (hasShunt gs bs base k) (shuntSums gs bs base Y k i j))
+  untouched : (k : ℕ) → (i ≡ k → ⊥) → shunt_sums gs bs base Y (suc k) i j ≡ shunt_sums gs bs base Y k i j
+  untouched k ne = shunt-step k ∙ rw (ne_eqb i k ne) (same (has_shunt gs bs base k) (shunt_sums gs bs base Y k i j))
 
-  pub before-row : (k : ℕ) → k ≤ i → shuntSums gs bs base Y k i j ≡ Y i j
-  unfolding shuntSums
+  pub before-row : (k : ℕ) → k ≤ i → shunt_sums gs bs base Y k i j ≡ Y i j
+  unfolding shunt_sums
   before-row zero h = refl
   before-row (suc k) h = untouched k (λ e. omega arith) ∙ before-row k (omega arith)
 
   pub shunt-entry : (k : ℕ) → i < k
-      → shuntSums gs bs base Y k i j ≡ cond (eqb i j && hasShunt gs bs base i) (cadd (Y i j) (shunt gs bs base i)) (Y i j)
+      → shunt_sums gs bs base Y k i j ≡ cond (eqb i j && has_shunt gs bs base i) (cadd (Y i j) (shunt gs bs base i)) (Y i j)
   shunt-entry zero h = absurd (omega arith)
   shunt-entry (suc k) h = pick (eq-or-lt_of_le {n = i} {m = k} (omega arith)) (shunt-entry k)
     where
-      here : shuntSums gs bs base Y (suc i) i j ≡ cond (eqb i j && hasShunt gs bs base i) (cadd (Y i j) (shunt gs bs base i)) (Y i j)
-      here = shunt-step i ∙ rw (before-row i (omega arith), eq-eqb i i refl, turned j i) (go (hasShunt gs bs base i) (eqb i j))
+      here : shunt_sums gs bs base Y (suc i) i j ≡ cond (eqb i j && has_shunt gs bs base i) (cadd (Y i j) (shunt gs bs base i)) (Y i j)
+      here = shunt-step i ∙ rw (before-row i (omega arith), eq-eqb i i refl, turned j i) (go (has_shunt gs bs base i) (eqb i j))
         where
           go : (some diagonal : Bool) → cond some (cond diagonal (cadd (Y i j) (shunt gs bs base i)) (Y i j)) (Y i j) ≡ cond (diagonal && some) (cadd (Y i j) (shunt gs bs base i)) (Y i j)
           go true true = refl
@@ -50,6 +50,6 @@ module _ (gs bs : List Float) (base : Float) (Y : Matrix) (i j : ℕ) where
           go false true = refl
           go false false = refl
 
-      pick : (i ≡ k) ⊎ (i < k) → (i < k → shuntSums gs bs base Y k i j ≡ cond (eqb i j && hasShunt gs bs base i) (cadd (Y i j) (shunt gs bs base i)) (Y i j)) → shuntSums gs bs base Y (suc k) i j ≡ cond (eqb i j && hasShunt gs bs base i) (cadd (Y i j) (shunt gs bs base i)) (Y i j)
-      pick (inl e) ih = subst (λ (z : ℕ). shuntSums gs bs base Y (suc z) i j ≡ cond (eqb i j && hasShunt gs bs base i) (cadd (Y i j) (shunt gs bs base i)) (Y i j)) e here
+      pick : (i ≡ k) ⊎ (i < k) → (i < k → shunt_sums gs bs base Y k i j ≡ cond (eqb i j && has_shunt gs bs base i) (cadd (Y i j) (shunt gs bs base i)) (Y i j)) → shunt_sums gs bs base Y (suc k) i j ≡ cond (eqb i j && has_shunt gs bs base i) (cadd (Y i j) (shunt gs bs base i)) (Y i j)
+      pick (inl e) ih = subst (λ (z : ℕ). shunt_sums gs bs base Y (suc z) i j ≡ cond (eqb i j && has_shunt gs bs base i) (cadd (Y i j) (shunt gs bs base i)) (Y i j)) e here
       pick (inr g) ih = untouched k (λ e. omega arith) ∙ ih g

@@ -1,11 +1,11 @@
 -- A call that meets the premises of `build-facts`: three buses in a line, numbered otherwise than their rows, with a branch out of service
 -- between the ends. Rows 0 and 2 have the entry +0, mirrored entries the same bits.
 use Rattle.prelude.proofs.Prelude.{◌≡◌, refl, sym, ◌∙◌, true≢false, Bool, true, false, List, [], ◌∷◌, inl, inr, ℕ, zero, suc, ◌≤◌, ◌<◌, lit<, arith, T, length, Float, binary64, of_bits}
-use Rattle.binary64.specs.Values.{allFinite, noMinus0}
-use Rattle.binary64.specs.BitPatterns.{ofBitPatterns}
+use Rattle.binary64.specs.Values.{all_finite, no_minus0}
+use Rattle.binary64.specs.BitPatterns.{of_bit_patterns}
 use Rattle.complex.specs.{czero, entry_at, zeros}
-use Rattle.lists.specs.Buses.{repeats, rowsIn, place}
-use Rattle.admittance.specs.Building.{Data, data_of, size, rows_from, rows_to, builtOutput}
+use Rattle.lists.specs.Buses.{repeats, rows_in, place}
+use Rattle.admittance.specs.Building.{Data, data_of, size, rows_from, rows_to, built_output}
 use Rattle.admittance.specs.Facts.{Joins, Accepted, total, added}
 use Rattle.admittance.proofs.BuildFacts.{build-facts}
 use Rattle.admittance.proofs.Cases.{built}
@@ -20,8 +20,8 @@ I = 0x3ff0000000000000
 abbrev D : Data
 D =
     data_of (7 ∷ 4294967295 ∷ 0 ∷ []) (7 ∷ 0 ∷ 7 ∷ []) (4294967295 ∷ 4294967295 ∷ 0 ∷ []) (true ∷ true ∷ false ∷ [])
-    (ofBitPatterns (½ ∷ ½ ∷ ½ ∷ [])) (ofBitPatterns (½ ∷ ½ ∷ ½ ∷ [])) (ofBitPatterns (I ∷ I ∷ I ∷ [])) (ofBitPatterns (0 ∷ I ∷ 0 ∷ []))
-    (ofBitPatterns (0 ∷ 0 ∷ I ∷ [])) (ofBitPatterns (I ∷ 0 ∷ 0 ∷ [])) (ofBitPatterns (0 ∷ 0 ∷ I ∷ [])) (of_bits binary64 I)
+    (of_bit_patterns (½ ∷ ½ ∷ ½ ∷ [])) (of_bit_patterns (½ ∷ ½ ∷ ½ ∷ [])) (of_bit_patterns (I ∷ I ∷ I ∷ [])) (of_bit_patterns (0 ∷ I ∷ 0 ∷ []))
+    (of_bit_patterns (0 ∷ 0 ∷ I ∷ [])) (of_bit_patterns (I ∷ 0 ∷ 0 ∷ [])) (of_bit_patterns (0 ∷ 0 ∷ I ∷ [])) (of_bits binary64 I)
 
 abbrev held : List Float
 held = zeros 18
@@ -34,17 +34,17 @@ accepted = refl
 last : 2 < size D
 last = lit< tt
 
-summed : entry_at 3 (builtOutput D 3 held) 2 1 ≡ total czero (added D 2 1)
+summed : entry_at 3 (built_output D 3 held) 2 1 ≡ total czero (added D 2 1)
 summed = build-facts.entries D 3 held (search (accepted, tt)) 2 1 (lit< tt) (lit< tt) ∙ build-facts.entry-sum D 2 1 (search (last, tt))
 
-mirrored : entry_at 3 (builtOutput D 3 held) 0 1 ≡ entry_at 3 (builtOutput D 3 held) 1 0
+mirrored : entry_at 3 (built_output D 3 held) 0 1 ≡ entry_at 3 (built_output D 3 held) 1 0
 mirrored = build-facts.mirrored D 3 held (search (accepted, tt)) 0 1 (lit< tt) (lit< tt)
 
 apart : ◌≡◌ {A = ℕ} 0 2 → ⊥
 apart e = omega arith
 
 unjoined : (k : ℕ) → Joins D 0 2 k → ⊥
-unfolding rowsIn place
+unfolding rows_in place
 unjoined zero (l, on, inl (a, b)) = omega arith
 unjoined zero (l, on, inr (a, b)) = omega arith
 unjoined (suc zero) (l, on, inl (a, b)) = omega arith
@@ -52,10 +52,10 @@ unjoined (suc zero) (l, on, inr (a, b)) = omega arith
 unjoined (suc (suc zero)) (l, on, e) = true≢false (sym on)
 unjoined (suc (suc (suc k))) (l, on, e) = omega arith
 
-zero-between : entry_at 3 (builtOutput D 3 held) 0 2 ≡ czero
+zero-between : entry_at 3 (built_output D 3 held) 0 2 ≡ czero
 zero-between = build-facts.unjoined D 3 held (search (accepted, tt)) 0 2 (lit< tt) (lit< tt) (search (apart, tt)) unjoined
 
-sound : T (allFinite (builtOutput D 3 held)) × T (noMinus0 (builtOutput D 3 held)) × (length (builtOutput D 3 held) ≡ 18)
+sound : T (all_finite (built_output D 3 held)) × T (no_minus0 (built_output D 3 held)) × (length (built_output D 3 held) ≡ 18)
     × (repeats D.numbers ≡ false)
 sound =
     let (few, long, listed, once) = build-facts.output-sized D 3 held (search (accepted, tt)) in

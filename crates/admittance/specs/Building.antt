@@ -3,14 +3,14 @@ use Rattle.std.specs.Prelude.{ℕ, zero, suc, ◌*◌, Bool, false, not, ◌&&�
 use Rattle.std.proofs.Math.Bool.{cond}
 use Rattle.std.specs.Float.{nan}
 use Rattle.binary64.specs.Values.{is_zero}
-use Rattle.complex.specs.Arithmetic.{complexOf, tooSmall}
+use Rattle.complex.specs.Arithmetic.{complex_of, too_small}
 use Rattle.complex.specs.Matrices.{Matrix, grid}
-use Rattle.lists.specs.Buses.{mem, repeats, rowsIn}
+use Rattle.lists.specs.Buses.{mem, repeats, rows_in}
 use Rattle.lists.specs.Limits.{over}
-use Rattle.refusals.specs.Refusals.{tooMany, wrongLength, listsDiffer, noSuchEnd, busTwice, smallImpedance, phaseShift}
-use Rattle.refusals.specs.Refusals.{refuse, instead, thenGiven, thenComputed}
+use Rattle.refusals.specs.Refusals.{too_many, wrong_length, lists_differ, no_such_end, bus_twice, small_impedance, phase_shift}
+use Rattle.refusals.specs.Refusals.{refuse, instead, then_given, then_computed}
 use Rattle.admittance.specs.declared.refusal.Lengths.{Lengths}
-use Rattle.admittance.specs.Sums.{serves, matrixOf, computedOf}
+use Rattle.admittance.specs.Sums.{serves, matrix_of, computed_of}
 
 -- what a call is given
 pub record Data : Type 0 where
@@ -53,8 +53,8 @@ data_of numbers from to status r x b tap shift gs bs base =
 -- ---- told from the input
 
 -- the size, or the length of a list, is above the limit
-unfoldable pub tooLong : Lengths → Bool
-tooLong l =
+unfoldable pub too_long : Lengths → Bool
+too_long l =
     over l.n l.numbers l.gs l.bs || (over l.from l.to l.status l.r || over l.x l.b l.tap l.shift)
 
 -- a number and a shunt for each bus, and the output slice of its exact length
@@ -68,18 +68,18 @@ alike l =
     && (eqb l.tap l.from && eqb l.shift l.from)))))
 
 -- 1, 2, 3 or 0, by the lengths; branches count by the from list
-unfoldable pub lengthsRefusal : Lengths → ℕ
-unfolding tooLong sized alike
-lengthsRefusal l =
-    refuse (tooLong l) tooMany
-    (refuse (not (sized l)) wrongLength
-    (refuse (not (alike l)) listsDiffer 0))
+unfoldable pub lengths_refusal : Lengths → ℕ
+unfolding too_long sized alike
+lengths_refusal l =
+    refuse (too_long l) too_many
+    (refuse (not (sized l)) wrong_length
+    (refuse (not (alike l)) lists_differ 0))
 
 -- whether one of the first k branches, in service, has an end that is no bus
-unfoldable pub unknownEnd : List ℕ → List ℕ → List ℕ → List Bool → ℕ → Bool
-unknownEnd numbers from to status zero = false
-unknownEnd numbers from to status (suc k) =
-    unknownEnd numbers from to status k
+unfoldable pub unknown_end : List ℕ → List ℕ → List ℕ → List Bool → ℕ → Bool
+unknown_end numbers from to status zero = false
+unknown_end numbers from to status (suc k) =
+    unknown_end numbers from to status k
     || (serves status k && not (mem (get_or from k 0) numbers && mem (get_or to k 0) numbers))
 
 module _ (D : Data) where
@@ -109,11 +109,11 @@ module _ (D : Data) where
       }
 
   -- then 6 and 8
-  unfoldable pub busesRefusal : ℕ
-  unfolding unknownEnd repeats
-  busesRefusal =
-      refuse (unknownEnd D.numbers D.from D.to D.status count) noSuchEnd
-      (refuse (repeats D.numbers) busTwice 0)
+  unfoldable pub buses_refusal : ℕ
+  unfolding unknown_end repeats
+  buses_refusal =
+      refuse (unknown_end D.numbers D.from D.to D.status count) no_such_end
+      (refuse (repeats D.numbers) bus_twice 0)
 
   -- then 19: the numbers given, of branches out of service too
   unfoldable pub given : List Float
@@ -122,49 +122,49 @@ module _ (D : Data) where
 -- ---- told from the state
 
 -- of one branch: 14, then 15
-unfoldable pub branchRefusal : Float → Float → Float → ℕ
-branchRefusal r x shift = refuse (tooSmall (complexOf r x)) smallImpedance (refuse (not (is_zero shift)) phaseShift 0)
+unfoldable pub branch_refusal : Float → Float → Float → ℕ
+branch_refusal r x shift = refuse (too_small (complex_of r x)) small_impedance (refuse (not (is_zero shift)) phase_shift 0)
 
 -- that of the first k branches: the first one's, in list order and in service, that has any
-unfoldable pub branchesRefusal : List Bool → List Float → List Float → List Float → ℕ → ℕ
-unfolding branchRefusal
-branchesRefusal status r x shift zero = 0
-branchesRefusal status r x shift (suc k) =
-    instead (branchesRefusal status r x shift k)
-    (cond (serves status k) (branchRefusal (get_or r k nan) (get_or x k nan) (get_or shift k nan)) 0)
+unfoldable pub branches_refusal : List Bool → List Float → List Float → List Float → ℕ → ℕ
+unfolding branch_refusal
+branches_refusal status r x shift zero = 0
+branches_refusal status r x shift (suc k) =
+    instead (branches_refusal status r x shift k)
+    (cond (serves status k) (branch_refusal (get_or r k nan) (get_or x k nan) (get_or shift k nan)) 0)
 
 module _ (D : Data) where
   -- the rows of the branches' ends
   abbrev pub rows_from : List ℕ
-  rows_from = rowsIn D.numbers D.from
+  rows_from = rows_in D.numbers D.from
 
   abbrev pub rows_to : List ℕ
-  rows_to = rowsIn D.numbers D.to
+  rows_to = rows_in D.numbers D.to
 
   -- the matrix: the sums of the branches, then of the shunts
   unfoldable pub admittance : Matrix
-  unfolding matrixOf rowsIn
-  admittance = matrixOf rows_from rows_to D.status D.r D.x D.b D.tap D.gs D.bs D.base (count D) (size D)
+  unfolding matrix_of rows_in
+  admittance = matrix_of rows_from rows_to D.status D.r D.x D.b D.tap D.gs D.bs D.base (count D) (size D)
 
   -- the numbers computed
   unfoldable pub computed : List Float
-  unfolding computedOf rowsIn
-  computed = computedOf rows_from rows_to D.status D.r D.x D.b D.tap D.gs D.bs D.base (count D) (size D)
+  unfolding computed_of rows_in
+  computed = computed_of rows_from rows_to D.status D.r D.x D.b D.tap D.gs D.bs D.base (count D) (size D)
 
   -- the refusal of a call by what its lists hold: 6, 8, 19, then 14 or 15, then 20
-  unfoldable pub listsRefusal : ℕ
-  unfolding busesRefusal given thenGiven branchesRefusal computed thenComputed
-  listsRefusal =
-      thenComputed
-      (instead (thenGiven (busesRefusal D) (given D)) (branchesRefusal D.status D.r D.x D.shift (count D)))
+  unfoldable pub lists_refusal : ℕ
+  unfolding buses_refusal given then_given branches_refusal computed then_computed
+  lists_refusal =
+      then_computed
+      (instead (then_given (buses_refusal D) (given D)) (branches_refusal D.status D.r D.x D.shift (count D)))
       computed
 
   -- the refusal of a call of size n whose output slice is this long
-  unfoldable pub buildRefusal : ℕ → ℕ → ℕ
-  unfolding lengthsRefusal listsRefusal
-  buildRefusal n long = instead (lengthsRefusal (lengths D n long)) listsRefusal
+  unfoldable pub build_refusal : ℕ → ℕ → ℕ
+  unfolding lengths_refusal lists_refusal
+  build_refusal n long = instead (lengths_refusal (lengths D n long)) lists_refusal
 
   -- what such a call leaves in its output slice, `held` at entry
-  unfoldable pub builtOutput : ℕ → List Float → List Float
-  unfolding buildRefusal admittance grid
-  builtOutput n held = cond (eqb (buildRefusal n (length held)) 0) (grid (size D) (size D) admittance) held
+  unfoldable pub built_output : ℕ → List Float → List Float
+  unfolding build_refusal admittance grid
+  built_output n held = cond (eqb (build_refusal n (length held)) 0) (grid (size D) (size D) admittance) held

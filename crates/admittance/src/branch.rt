@@ -17,14 +17,14 @@ pub struct Terms {
 
 // A tap of 0, of either sign, is read as 1.
 fn effective_tap(tap: f64) -> f64
-    ensures { result ≡ spec.tapOf tap }
+    ensures { result ≡ spec.tap_of tap }
 {
     if tap == 0.0 { 1.0 } else { tap }
 }
 
 // The square of the tap.
 fn tap_square(tap: f64) -> f64
-    ensures { result ≡ spec.tapSquare tap }
+    ensures { result ≡ spec.tap_square tap }
 {
     let t = effective_tap(tap);
     t * t
@@ -32,7 +32,7 @@ fn tap_square(tap: f64) -> f64
 
 // The square of the series impedance's magnitude.
 pub fn impedance_square(r: f64, x: f64) -> f64
-    ensures { result ≡ spec.impedanceSquare r x }
+    ensures { result ≡ spec.impedance_square r x }
 {
     raw::sqmag(Complex { re: r, im: x })
 }
@@ -60,7 +60,7 @@ fn charging(b: f64) -> Complex
 
 // The terms of a branch of resistance r, reactance x, charging b and this tap.
 pub fn pi_model(r: f64, x: f64, b: f64, tap: f64) -> Terms
-    ensures { result ≡ spec.termsOf r x b tap }
+    ensures { result ≡ spec.terms_of r x b tap }
 {
     let y = series(r, x);
     let half = charging(b);
@@ -83,7 +83,7 @@ fn bounded(small: bool, x: f64) -> bool
 
 // Whether both parts are.
 pub fn pair_bounded(small: bool, c: Complex) -> bool
-    ensures { result ≡ sizes.pairBounded small c }
+    ensures { result ≡ sizes.pair_bounded small c }
 {
     if bounded(small, c.re) {
         return bounded(small, c.im);
@@ -93,7 +93,7 @@ pub fn pair_bounded(small: bool, c: Complex) -> bool
 
 // Whether all three terms are.
 fn terms_bounded(small: bool, terms: Terms) -> bool
-    ensures { result ≡ sizes.termsBounded small terms }
+    ensures { result ≡ sizes.terms_bounded small terms }
 {
     if !pair_bounded(small, terms.from) {
         return false;
@@ -106,7 +106,7 @@ fn terms_bounded(small: bool, terms: Terms) -> bool
 
 // Whether the numbers of a branch that tell the others are: the two divisors and the terms.
 pub fn branch_bounded(small: bool, r: f64, x: f64, b: f64, tap: f64) -> bool
-    ensures { result ≡ sizes.branchBounded small r x b tap }
+    ensures { result ≡ sizes.branch_bounded small r x b tap }
 {
     if !bounded(small, impedance_square(r, x)) {
         return false;

@@ -1,6 +1,6 @@
 // Whether all that is computed is finite: by size where that shows it, else from the sums of the entries that anything is added to.
 ghost use Rattle.std.specs.Prelude.{◌≡◌, Bool, true, false, not, ◌&&◌, ◌||◌, cond, ◌<◌, ◌≤◌, ◌*◌, eqb, length};
-ghost use Rattle.binary64.specs.Values.{allFinite};
+ghost use Rattle.binary64.specs.Values.{all_finite};
 ghost use Rattle.refusals.specs.Refusals as refusals;
 ghost use Rattle.complex.specs.Arithmetic as arithmetic;
 ghost use Rattle.admittance.specs.Branch as branch;
@@ -15,7 +15,7 @@ use complex::{Complex, raw};
 
 // Whether a branch is out of service, or its numbers are bounded.
 fn served_bounded(small: bool, on: bool, r: f64, x: f64, b: f64, tap: f64) -> bool
-    ensures { result ≡ (not on || sizes.branchBounded small r x b tap) }
+    ensures { result ≡ (not on || sizes.branch_bounded small r x b tap) }
 {
     if on {
         return branch_bounded(small, r, x, b, tap);
@@ -33,7 +33,7 @@ fn branches_bounded(
     tap: &[f64],
 ) -> bool
     requires { single.SameLength (length status.now) (length r.now) (length x.now) (length b.now) (length tap.now) }
-    ensures { result ≡ sizes.branchesBounded small status.now r.now x.now b.now tap.now
+    ensures { result ≡ sizes.branches_bounded small status.now r.now x.now b.now tap.now
         (length status.now) }
 {
     let mut all = true;
@@ -48,7 +48,7 @@ fn branches_bounded(
 
 // Whether there is no shunt, or its parts in per unit are bounded.
 fn shunt_bounded(small: bool, g: f64, b: f64, base: f64) -> bool
-    ensures { result ≡ (not (spec.isShunt g b) || sizes.pairBounded small (spec.perUnit g b base)) }
+    ensures { result ≡ (not (spec.is_shunt g b) || sizes.pair_bounded small (spec.per_unit g b base)) }
 {
     if has_shunt(g, b) {
         return pair_bounded(small, shunt_of(g, b, base));
@@ -59,7 +59,7 @@ fn shunt_bounded(small: bool, g: f64, b: f64, base: f64) -> bool
 // Whether all shunts' parts in per unit are bounded.
 fn shunts_bounded(small: bool, gs: &[f64], bs: &[f64], base: f64) -> bool
     requires { length bs.now ≡ length gs.now }
-    ensures { result ≡ sizes.shuntsBounded small gs.now bs.now base (length gs.now) }
+    ensures { result ≡ sizes.shunts_bounded small gs.now bs.now base (length gs.now) }
 {
     let mut all = true;
     let mut i = 0;
@@ -83,7 +83,7 @@ fn add_if(s: Complex, hit: bool, c: Complex) -> Complex
 
 // What a branch from row f to row t adds in row i, column j.
 fn add_terms(s: Complex, i: usize, j: usize, f: usize, t: usize, terms: Terms) -> Complex
-    ensures { result ≡ single.joinedEntry s i j f t terms }
+    ensures { result ≡ single.joined_entry s i j f t terms }
 {
     let a = add_if(s, (i == f) & (j == f), terms.from);
     let b = add_if(a, (i == t) & (j == t), terms.to);
@@ -104,7 +104,7 @@ fn add_branch(
     b: f64,
     tap: f64,
 ) -> Complex
-    ensures { result ≡ cond on (single.joinedEntry s i j f t (branch.termsOf r x b tap)) s }
+    ensures { result ≡ cond on (single.joined_entry s i j f t (branch.terms_of r x b tap)) s }
 {
     if on {
         if (i == f) | (i == t) {
@@ -128,7 +128,7 @@ fn branch_sum(
 ) -> Complex
     requires { places.Alike (length froms.now) (length tos.now) (length status.now) (length r.now) (length x.now) (length b.now)
         (length tap.now) }
-    ensures { result ≡ spec.branchSums froms.now tos.now status.now r.now x.now b.now
+    ensures { result ≡ spec.branch_sums froms.now tos.now status.now r.now x.now b.now
         tap.now (length froms.now) i j }
 {
     let mut s = Complex { re: 0.0, im: 0.0 };
@@ -144,7 +144,7 @@ fn branch_sum(
 
 // With a shunt in row i added on the diagonal.
 fn with_shunt(s: Complex, i: usize, j: usize, g: f64, b: f64, base: f64) -> Complex
-    ensures { result ≡ cond (eqb i j && spec.isShunt g b) (arithmetic.cadd s (spec.perUnit g b base)) s }
+    ensures { result ≡ cond (eqb i j && spec.is_shunt g b) (arithmetic.cadd s (spec.per_unit g b base)) s }
 {
     add_if(s, (i == j) & has_shunt(g, b), shunt_of(g, b, base))
 }
@@ -167,8 +167,8 @@ fn entry_finite(
     requires alike { places.Alike (length froms.now) (length tos.now) (length status.now) (length r.now) (length x.now) (length b.now)
         (length tap.now) }
     requires i_in_bounds { (i < length gs.now) × (length bs.now ≡ length gs.now) }
-    ensures { result ≡ sizes.pairBounded false
-        (spec.matrixOf froms.now tos.now status.now r.now x.now b.now
+    ensures { result ≡ sizes.pair_bounded false
+        (spec.matrix_of froms.now tos.now status.now r.now x.now b.now
         tap.now gs.now bs.now base (length froms.now) (length gs.now) i j) }
 {
     let s = branch_sum(i, j, froms, tos, status, r, x, b, tap);
@@ -194,8 +194,8 @@ fn end_finite(
     requires alike { places.Alike (length froms.now) (length tos.now) (length status.now) (length r.now) (length x.now) (length b.now)
         (length tap.now) }
     requires i_in_bounds { (on ≡ true → i < length gs.now) × (length bs.now ≡ length gs.now) }
-    ensures { result ≡ (not on || sizes.pairBounded false
-        (spec.matrixOf froms.now tos.now status.now r.now x.now b.now
+    ensures { result ≡ (not on || sizes.pair_bounded false
+        (spec.matrix_of froms.now tos.now status.now r.now x.now b.now
         tap.now gs.now bs.now base (length froms.now) (length gs.now) i j)) }
 {
     if on {
@@ -221,8 +221,8 @@ fn ends_finite(
         (length tap.now) }
     requires bs_len { length bs.now ≡ length gs.now }
     requires placed { places.Placed (length gs.now) froms.now tos.now status.now }
-    ensures { result ≡ sizes.finiteEnds
-        (spec.matrixOf froms.now tos.now status.now r.now x.now b.now
+    ensures { result ≡ sizes.finite_ends
+        (spec.matrix_of froms.now tos.now status.now r.now x.now b.now
         tap.now gs.now bs.now base (length froms.now) (length gs.now))
         froms.now tos.now status.now (length froms.now) }
 {
@@ -254,8 +254,8 @@ fn diagonal_finite(
     requires alike { places.Alike (length froms.now) (length tos.now) (length status.now) (length r.now) (length x.now) (length b.now)
         (length tap.now) }
     requires bs_len { length bs.now ≡ length gs.now }
-    ensures { result ≡ sizes.finiteDiagonal
-        (spec.matrixOf froms.now tos.now status.now r.now x.now b.now
+    ensures { result ≡ sizes.finite_diagonal
+        (spec.matrix_of froms.now tos.now status.now r.now x.now b.now
         tap.now gs.now bs.now base (length froms.now) (length gs.now))
         (length gs.now) }
 {
@@ -287,8 +287,8 @@ pub fn computed_finite(
         (length tap.now) }
     requires bs_len { length bs.now ≡ length gs.now }
     requires placed { places.Placed (length gs.now) froms.now tos.now status.now }
-    ensures { result ≡ allFinite
-        (spec.computedOf froms.now tos.now status.now r.now x.now b.now
+    ensures { result ≡ all_finite
+        (spec.computed_of froms.now tos.now status.now r.now x.now b.now
         tap.now gs.now bs.now base (length froms.now) (length gs.now)) }
 {
     if branches_bounded(true, status, r, x, b, tap) {

@@ -39,12 +39,12 @@ pub fn build_y_bus(
     y: &mut [f64],
 ) -> Outcome
     ensures answer { result ≡ refusals.outcome
-        (spec.buildRefusal
+        (spec.build_refusal
         (spec.data_of numbers.now branch_from.now branch_to.now branch_status.now
         branch_r.now branch_x.now branch_b.now branch_tap.now
         branch_shift.now gs.now bs.now base_mva) n (length y.old)) }
     ensures output { y.new
-        ≡ spec.builtOutput
+        ≡ spec.built_output
         (spec.data_of numbers.now branch_from.now branch_to.now branch_status.now
         branch_r.now branch_x.now branch_b.now branch_tap.now
         branch_shift.now gs.now bs.now base_mva) n y.old }
@@ -107,18 +107,18 @@ fn build_by(
     tos: &mut [usize],
     y: &mut [f64],
 ) -> Outcome
-    requires y_value { spec.lengthsRefusal
+    requires y_value { spec.lengths_refusal
         (spec.lengths
         (spec.data_of numbers.now from.now to.now status.now r.now x.now b.now tap.now shift.now gs.now bs.now base)
         (length numbers.now) (length y.old))
         ≡ 0 }
     requires froms_len { (length froms.old ≡ length from.now) × (length tos.old ≡ length from.now) }
     ensures answer { result ≡ refusals.outcome
-        (spec.listsRefusal
+        (spec.lists_refusal
         (spec.data_of numbers.now from.now to.now status.now r.now x.now
         b.now tap.now shift.now gs.now bs.now base)) }
     ensures output { y.new
-        ≡ rows.listsOutput
+        ≡ rows.lists_output
         (spec.data_of numbers.now from.now to.now status.now r.now x.now
         b.now tap.now shift.now gs.now bs.now base) y.old }
 {

@@ -1,6 +1,6 @@
 // What `build_y_bus` refuses.
 ghost use Rattle.std.specs.Prelude.{◌≡◌, Bool, not, ◌&&◌, cond, [], ◌∷◌, ◌++◌, ltb, length, ◌≤◌};
-ghost use Rattle.binary64.specs.Values.{allFinite};
+ghost use Rattle.binary64.specs.Values.{all_finite};
 ghost use Rattle.refusals.specs.Refusals as refusals;
 ghost use Rattle.admittance.specs.Inner.Places as places;
 ghost use Rattle.admittance.specs.Inner.ByRows as rows;
@@ -37,7 +37,7 @@ pub struct Lengths {
 
 // Whether the size, or the length of a list, is above the limit.
 fn too_many(l: Lengths) -> bool
-    ensures { result ≡ spec.tooLong l }
+    ensures { result ≡ spec.too_long l }
 {
     if checks::over(l.n, l.numbers, l.gs, l.bs) {
         return true;
@@ -92,7 +92,7 @@ fn alike(l: Lengths) -> bool
 
 // 1, 2, 3 or 0.
 pub fn lengths_refusal(l: Lengths) -> u32
-    ensures { result ≡ spec.lengthsRefusal l }
+    ensures { result ≡ spec.lengths_refusal l }
 {
     if too_many(l) {
         return TOO_MANY;
@@ -108,7 +108,7 @@ pub fn lengths_refusal(l: Lengths) -> u32
 
 // 14, 15 or 0, of one branch.
 fn branch_refusal(r: f64, x: f64, shift: f64) -> u32
-    ensures { result ≡ spec.branchRefusal r x shift }
+    ensures { result ≡ spec.branch_refusal r x shift }
 {
     if impedance_square(r, x) < DIVISION_LIMIT {
         return SMALL_IMPEDANCE;
@@ -121,7 +121,7 @@ fn branch_refusal(r: f64, x: f64, shift: f64) -> u32
 
 // What the branches before told, else the refusal of this one, where it is in service.
 fn next_refusal(before: u32, on: bool, r: f64, x: f64, shift: f64) -> u32
-    ensures { result ≡ refusals.instead before (cond on (spec.branchRefusal r x shift) 0) }
+    ensures { result ≡ refusals.instead before (cond on (spec.branch_refusal r x shift) 0) }
 {
     if before != 0 {
         return before;
@@ -137,7 +137,7 @@ fn branches_refusal(status: &[bool], r: &[f64], x: &[f64], shift: &[f64]) -> u32
     requires { (length r.now ≡ length status.now)
         × (length x.now ≡ length status.now)
         × (length shift.now ≡ length status.now) }
-    ensures { result ≡ spec.branchesRefusal status.now r.now x.now shift.now (length status.now) }
+    ensures { result ≡ spec.branches_refusal status.now r.now x.now shift.now (length status.now) }
 {
     let mut f = 0;
     let mut k = 0;
@@ -188,7 +188,7 @@ fn given_finite(
     bs: &[f64],
     base: f64,
 ) -> bool
-    ensures { result ≡ allFinite
+    ensures { result ≡ all_finite
         (r.now ++ (x.now ++ (b.now ++ (tap.now ++ (shift.now ++ (gs.now
         ++ (bs.now ++ (base ∷ [])))))))) }
 {
@@ -237,7 +237,7 @@ pub fn lists_refusal(
     requires shift_len { (length shift.now ≡ length froms.now)
         × (length gs.now ≡ length numbers.now)
         × (length bs.now ≡ length numbers.now) }
-    ensures { result ≡ rows.refusalByRows numbers.now froms.now tos.now status.now r.now
+    ensures { result ≡ rows.refusal_by_rows numbers.now froms.now tos.now status.now r.now
         x.now b.now tap.now shift.now gs.now bs.now base }
 {
     if any_misplaced(numbers.len(), froms, tos, status) {

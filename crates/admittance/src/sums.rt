@@ -23,7 +23,7 @@ fn join(y: &mut [f64], f: usize, t: usize, i: usize, j: usize, terms: Terms)
         × (2 * (t + j) + 1 < length y.old) }
     requires j_in_bounds { (2 * (f + j) + 1 < length y.old)
         × (2 * (t + i) + 1 < length y.old) }
-    ensures { y.new ≡ places.joinedAt y.old f t i j terms }
+    ensures { y.new ≡ places.joined_at y.old f t i j terms }
 {
     add_at(y, f + i, terms.from);
     add_at(y, t + j, terms.to);
@@ -45,7 +45,7 @@ fn add_branch(
 )
     requires f_lt_n { on ≡ true → (f < n) × (t < n) }
     requires y_len { length y.old ≡ 2 * (n * n) }
-    ensures { y.new ≡ places.addBranch n y.old on f t (branch.termsOf r x b tap) }
+    ensures { y.new ≡ places.add_branch n y.old on f t (branch.terms_of r x b tap) }
 {
     if on {
         join(y, f * n, t * n, f, t, pi_model(r, x, b, tap));
@@ -69,7 +69,7 @@ pub fn add_branches(
         (length tap.now) }
     requires placed { places.Placed n froms.now tos.now status.now }
     ensures { y.new
-        ≡ places.branchesAt n y.old froms.now tos.now status.now r.now
+        ≡ places.branches_at n y.old froms.now tos.now status.now r.now
         x.now b.now tap.now (length froms.now) }
 {
     let mut k = 0;
@@ -81,7 +81,7 @@ pub fn add_branches(
 
 // Whether a shunt is one: not both parts are 0.
 pub fn has_shunt(g: f64, b: f64) -> bool
-    ensures { result ≡ spec.isShunt g b }
+    ensures { result ≡ spec.is_shunt g b }
 {
     if g == 0.0 {
         if b == 0.0 {
@@ -93,7 +93,7 @@ pub fn has_shunt(g: f64, b: f64) -> bool
 
 // The shunt g + jb, in MW and MVAr at unit voltage, in per unit of the base.
 pub fn shunt_of(g: f64, b: f64, base: f64) -> Complex
-    ensures { result ≡ spec.perUnit g b base }
+    ensures { result ≡ spec.per_unit g b base }
 {
     raw::divided_by(Complex { re: g, im: b }, base)
 }
@@ -101,7 +101,7 @@ pub fn shunt_of(g: f64, b: f64, base: f64) -> Complex
 // Adds a shunt to the number in place p.
 fn add_shunt(y: &mut [f64], p: usize, g: f64, b: f64, base: f64)
     requires { 2 * p + 1 < length y.old }
-    ensures { y.new ≡ places.plusShunt y.old p (spec.isShunt g b) (spec.perUnit g b base) }
+    ensures { y.new ≡ places.plus_shunt y.old p (spec.is_shunt g b) (spec.per_unit g b base) }
 {
     if has_shunt(g, b) {
         add_at(y, p, shunt_of(g, b, base));
@@ -112,7 +112,7 @@ fn add_shunt(y: &mut [f64], p: usize, g: f64, b: f64, base: f64)
 pub fn add_shunts(n: usize, gs: &[f64], bs: &[f64], base: f64, y: &mut [f64])
     requires y_len { length y.old ≡ 2 * (n * n) }
     requires gs_len { (length gs.now ≡ n) × (length bs.now ≡ n) }
-    ensures { y.new ≡ places.shuntsAt n y.old gs.now bs.now base n }
+    ensures { y.new ≡ places.shunts_at n y.old gs.now bs.now base n }
 {
     let mut i = 0;
     while i < n {

@@ -5,8 +5,8 @@ use lib.Ieee.{nan_bits, is_nan, ne}
 use lib.Ieee.Bits.{nan_bits_is, nan_bits_above, to_bits-of_bits}
 use lib.Ieee.Compare.{differs_from_itself, nan_differs}
 
-abbrev pub nanWord : ℕ
-nanWord = 0x7ff8000000000000
+abbrev pub nan_word : ℕ
+nan_word = 0x7ff8000000000000
 
 nan_is : (x : Float) → is_nan x ≡ true → x ≡ nan
 unfolding is_nan
@@ -25,7 +25,7 @@ pub below_no_nan : (w : ℕ) → w % 0x8000000000000000 ≤ 0x7ff0000000000000 �
 below_no_nan w h = nan_bits_above binary64 w ∙ le-ltb _ _ h
 
 -- by itself
-pub differs-nan : (x : Float) → ne x x ≡ true → to_bits binary64 x ≡ nanWord
+pub differs-nan : (x : Float) → ne x x ≡ true → to_bits binary64 x ≡ nan_word
 unfolding to_bits
 differs-nan x e = ap (to_bits binary64) (differs_from_itself x (subst T (sym e) tt))
 
@@ -39,6 +39,6 @@ same-no-nan (fin s m e) h = tt
 pub word_back : (w : ℕ) → w < 2 ^ 64 → nan_bits binary64 w ≡ false → to_bits binary64 (of_bits binary64 w) ≡ w
 word_back w h e = to_bits-of_bits binary64 w h (subst (λ (b : Bool). T (not b)) (sym e ∙ nan_bits_is binary64 w) tt)
 
-pub nan-back : (w : ℕ) → nan_bits binary64 w ≡ true → to_bits binary64 (of_bits binary64 w) ≡ nanWord
+pub nan-back : (w : ℕ) → nan_bits binary64 w ≡ true → to_bits binary64 (of_bits binary64 w) ≡ nan_word
 unfolding to_bits
 nan-back w e = ap (to_bits binary64) (is-nan-of w e)

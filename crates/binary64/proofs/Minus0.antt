@@ -17,7 +17,7 @@ use lib.Ieee.Fits.{eq→eqb, round_is, two, two-le_pos, up_pos}
 use lib.Ieee.Exact.{HasValue, odd_sign}
 use lib.Ieee.Nearest.{nearest-ge}
 use lib.Ieee.Order.{drop, kept}
-use Rattle.binary64.specs.Values.{isMinus0, noMinus0}
+use Rattle.binary64.specs.Values.{is_minus0, no_minus0}
 use Rattle.binary64.proofs.Floats.{four, exponent, zero-way}
 
 -- ---- a factor that is 0
@@ -50,7 +50,7 @@ kept-some p n c P C h =
 
 -- ---- a fraction rounded to -0
 
-value-minus0 : (x : Float) (s : Bool) (a c : ℕ) → HasValue x s a c → T (isMinus0 x) → T s × (a ≡ 0)
+value-minus0 : (x : Float) (s : Bool) (a c : ℕ) → HasValue x s a c → T (is_minus0 x) → T s × (a ≡ 0)
 value-minus0 nan s a c v h = absurd h
 value-minus0 (inf t) s a c v h = absurd h
 value-minus0 (fin t m e) s a c v h =
@@ -58,21 +58,21 @@ value-minus0 (fin t m e) s a c v h =
     let n : m * up e * c ≡ 0 = ap (λ (x : ℕ). x * up e * c) z ∙ ap (λ (x : ℕ). x * c) (zero-mul (up e)) ∙ zero-mul c in
     (subst T v.0 (and_l t (eqb m 0) h), none_left a (down e) (down_pos e) (sym v.1 ∙ n))
 
-units-minus0 : (f : Format) (s : Bool) (q k : ℕ) → T (isMinus0 (units f s q k)) → T s × (q ≡ 0)
+units-minus0 : (f : Format) (s : Bool) (q k : ℕ) → T (is_minus0 (units f s q k)) → T s × (q ≡ 0)
 unfolding units
 units-minus0 f s q k h = go (ltb (q * 2 ^ k) (2 ^ (low f + suc (emax f)))) h
   where
-    go : (b : Bool) → T (isMinus0 (cond b (odd (suc (prec f)) s q k (low f)) (inf s))) → T s × (q ≡ 0)
+    go : (b : Bool) → T (is_minus0 (cond b (odd (suc (prec f)) s q k (low f)) (inf s))) → T s × (q ≡ 0)
     go true h =
         let (n, z) = value-minus0 (odd (suc (prec f)) s q k (low f)) s (q * 2 ^ k) (2 ^ low f) (odd_sign (suc (prec f)) s q k (low f)) h in
         (n, none_left q (2 ^ k) (pow_pos k) z)
     go false h = absurd h
 
 -- the fraction is p of the smallest values
-round-minus0 : (f : Format) (s : Bool) (a c p : ℕ) → 0 < c → a * 2 ^ low f ≡ p * c → T (isMinus0 (round f s a c)) → T s × (a ≡ 0)
+round-minus0 : (f : Format) (s : Bool) (a c p : ℕ) → 0 < c → a * 2 ^ low f ≡ p * c → T (is_minus0 (round f s a c)) → T s × (a ≡ 0)
 round-minus0 f s a c p C e h =
     let n = a * 2 ^ low f in
-    let (negative, none) = units-minus0 f s (kept (prec f) n c) (drop (prec f) n c) (subst (λ (x : Float). T (isMinus0 x)) (round_is f s a c) h) in
+    let (negative, none) = units-minus0 f s (kept (prec f) n c) (drop (prec f) n c) (subst (λ (x : Float). T (is_minus0 x)) (round_is f s a c) h) in
     (negative, none_left a (2 ^ low f) (pow_pos (low f)) (go p e none))
   where
     go : (p : ℕ) → a * 2 ^ low f ≡ p * c → kept (prec f) (a * 2 ^ low f) c ≡ 0 → a * 2 ^ low f ≡ 0
@@ -96,18 +96,18 @@ module _ (f : Format) (a b c p q : ℕ) (C : 0 < c) (u : a * 2 ^ low f ≡ p * c
   more : (b - a) * 2 ^ low f ≡ (q - p) * c
   more = sub-mul b a (2 ^ low f) ∙ rw (u, v) (sym (sub-mul q p c))
 
-  sum-minus0 : (s t : Bool) → T (isMinus0 (sum f s a t b c)) → (T s × (a ≡ 0)) × (T t × (b ≡ 0))
+  sum-minus0 : (s t : Bool) → T (is_minus0 (sum f s a t b c)) → (T s × (a ≡ 0)) × (T t × (b ≡ 0))
   unfolding sum
   sum-minus0 true true h = let (n, z) = round-minus0 f true (a + b) c (p + q) C plus h in ((tt, omega arith), (tt, omega arith))
   sum-minus0 false false h = absurd (round-minus0 f false (a + b) c (p + q) C plus h).0
   sum-minus0 true false h = absurd (go (ltb a b) h)
     where
-      go : (l : Bool) → T (isMinus0 (cond l (round f false (b - a) c) (round f (ltb b a) (a - b) c))) → ⊥
+      go : (l : Bool) → T (is_minus0 (cond l (round f false (b - a) c) (round f (ltb b a) (a - b) c))) → ⊥
       go true h = (round-minus0 f false (b - a) c (q - p) C more h).0
       go false h = let (n, z) = round-minus0 f (ltb b a) (a - b) c (p - q) C less h in let l : b < a = ltb→lt b a n in omega arith
   sum-minus0 false true h = absurd (go (ltb a b) (ltb→lt a b) h)
     where
-      go : (l : Bool) → (T l → a < b) → T (isMinus0 (cond l (round f true (b - a) c) (round f false (a - b) c))) → ⊥
+      go : (l : Bool) → (T l → a < b) → T (is_minus0 (cond l (round f true (b - a) c) (round f false (a - b) c))) → ⊥
       go true k h = let (n, z) = round-minus0 f true (b - a) c (q - p) C more h in let l : a < b = k tt in omega arith
       go false k h = (round-minus0 f false (a - b) c (p - q) C less h).0
 
@@ -131,13 +131,13 @@ none-there m u d U D e = none_left m u U (none_left (m * u) d D e)
 sign_zero : (s : Bool) (m : ℕ) → T s → m ≡ 0 → T (s && eqb m 0)
 sign_zero s m h z = and_i s (eqb m 0) h (eq→eqb z)
 
-pub add-minus0 : (f : Format) (x y : Float) → T (fits f x) → T (fits f y) → T (isMinus0 (add f x y)) → T (isMinus0 x) × T (isMinus0 y)
+pub add-minus0 : (f : Format) (x y : Float) → T (fits f x) → T (fits f y) → T (is_minus0 (add f x y)) → T (is_minus0 x) × T (is_minus0 y)
 unfolding add
 add-minus0 f nan y h k z = absurd z
 add-minus0 f (inf s) nan h k z = absurd z
 add-minus0 f (inf s) (inf t) h k z = absurd (go (beq s t) z)
   where
-    go : (b : Bool) → T (isMinus0 (cond b (inf s) nan)) → ⊥
+    go : (b : Bool) → T (is_minus0 (cond b (inf s) nan)) → ⊥
     go true z = z
     go false z = z
 add-minus0 f (inf s) (fin t n d) h k z = absurd z
@@ -150,15 +150,15 @@ add-minus0 f (fin s m e) (fin t n d) h k z =
     let ((left, a), (right, b)) = sum-minus0 f (m * up e * down d) (n * up d * down e) (down e * down d) p q (mul-pos (down_pos e) (down_pos d)) (over-both (m * up e) (down e) (2 ^ low f) p (down d) u) w s t z in
     (sign_zero s m left (none-there m (up e) (down d) (up_pos e) (down_pos d) a), sign_zero t n right (none-there n (up d) (down e) (up_pos d) (down_pos e) b))
 
-pub add-not-minus0 : (f : Format) (x y : Float) → T (fits f x) → T (fits f y) → T (not (isMinus0 x)) → T (not (isMinus0 (add f x y)))
-add-not-minus0 f x y h k n = go (isMinus0 (add f x y)) (isMinus0 x) (λ z. (add-minus0 f x y h k z).0) n
+pub add-not-minus0 : (f : Format) (x y : Float) → T (fits f x) → T (fits f y) → T (not (is_minus0 x)) → T (not (is_minus0 (add f x y)))
+add-not-minus0 f x y h k n = go (is_minus0 (add f x y)) (is_minus0 x) (λ z. (add-minus0 f x y h k z).0) n
   where
     go : (b c : Bool) → (T b → T c) → T (not c) → T (not b)
     go true true i h = h
     go true false i h = i tt
     go false c i h = tt
 
-pub minus0-is : (x : Float) → T (fits binary64 x) → T (isMinus0 x) → x ≡ of_bits binary64 0x8000000000000000
+pub minus0-is : (x : Float) → T (fits binary64 x) → T (is_minus0 x) → x ≡ of_bits binary64 0x8000000000000000
 minus0-is nan h z = absurd z
 minus0-is (inf s) h z = absurd z
 minus0-is (fin false m e) h z = absurd z
@@ -168,18 +168,18 @@ minus0-is (fin true (suc m) e) h z = absurd (rw eqb-suc-zero at z)
 -- ---- computed
 
 -- a sum can be -0; and +0 with a value below the smallest one gives -0, so that y must be held
-minus0-both : T (isMinus0 (add binary64 (fin true 0 (pos 0)) (fin true 0 (pos 0))))
+minus0-both : T (is_minus0 (add binary64 (fin true 0 (pos 0)) (fin true 0 (pos 0))))
 minus0-both = unfold add in tt
 
-beyond-low : T (isMinus0 (add binary64 (fin false 0 (pos 0)) (fin true 1 (negsuc 1999))))
+beyond-low : T (is_minus0 (add binary64 (fin false 0 (pos 0)) (fin true 1 (negsuc 1999))))
 beyond-low = unfold add in tt
 
 -- +0 and then -0
-minus0-found : noMinus0 (of_bits binary64 0 ∷ of_bits binary64 0x8000000000000000 ∷ []) ≡ false
-unfolding noMinus0 of_bits
+minus0-found : no_minus0 (of_bits binary64 0 ∷ of_bits binary64 0x8000000000000000 ∷ []) ≡ false
+unfolding no_minus0 of_bits
 minus0-found = refl
 
 -- +0, the largest value below zero, -infinity and a NaN
-others-pass : noMinus0 (of_bits binary64 0 ∷ of_bits binary64 0x8000000000000001 ∷ of_bits binary64 0xfff0000000000000 ∷ of_bits binary64 0x7ff8000000000000 ∷ []) ≡ true
-unfolding noMinus0 of_bits
+others-pass : no_minus0 (of_bits binary64 0 ∷ of_bits binary64 0x8000000000000001 ∷ of_bits binary64 0xfff0000000000000 ∷ of_bits binary64 0x7ff8000000000000 ∷ []) ≡ true
+unfolding no_minus0 of_bits
 others-pass = refl

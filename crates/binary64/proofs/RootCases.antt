@@ -1,12 +1,12 @@
 -- Some roots computed by the checker, by their bits, and what the second step hands on for them.
 use Rattle.prelude.proofs.Prelude.{◌≡◌, refl, ℕ, ◌<◌, ◌^◌, lit≤, lit<, binary64, odd, of_bits, of_fields, size, span, climb}
 use lib.Count.{count_trailing_zeros}
-use Rattle.binary64.specs.Root.{Rooted, RootSteps, firstAlone, allThree, root, rootOf, radicand, half, wholeRoot, movedBack}
+use Rattle.binary64.specs.Root.{Rooted, RootSteps, first_alone, all_three, root, root_of, radicand, half, whole_root, moved_back}
 use Rattle.binary64.proofs.RootRounding.{nearest-whole}
 
 -- to open this is to open all that the cases compute with
 opened : Unit {0}
-unfolding root rootOf radicand half wholeRoot movedBack odd of_bits of_fields size span climb count_trailing_zeros
+unfolding root root_of radicand half whole_root moved_back odd of_bits of_fields size span climb count_trailing_zeros
 opened = tt
 
 -- a number and its root by their bits, and the whole root q with its remainder r and h
@@ -43,16 +43,16 @@ three = nearest-whole 1 2 (lit< tt) (lit≤ tt)
 -- by the three steps: of 2, of -0, of -1, whose root is NaN, and of infinity
 two_steps : RootSteps (of_bits binary64 0x4000000000000000) (of_bits binary64 0x3ff6a09e667f3bcd)
 unfolding opened
-two_steps = allThree refl 6369051672525772 7192236498376048 538 two.0 refl
+two_steps = all_three refl 6369051672525772 7192236498376048 538 two.0 refl
 
 minus-zero : RootSteps (of_bits binary64 0x8000000000000000) (of_bits binary64 0x8000000000000000)
 unfolding opened
-minus-zero = firstAlone refl
+minus-zero = first_alone refl
 
 minus_one : RootSteps (of_bits binary64 0xbff0000000000000) (of_bits binary64 0x7ff8000000000000)
 unfolding opened
-minus_one = firstAlone refl
+minus_one = first_alone refl
 
 infinite : RootSteps (of_bits binary64 0x7ff0000000000000) (of_bits binary64 0x7ff0000000000000)
 unfolding opened
-infinite = firstAlone refl
+infinite = first_alone refl

@@ -2,7 +2,7 @@
 -- on the root's side of every middle.
 use Rattle.prelude.proofs.Prelude.{◌≡◌, refl, sym, Bool, true, false, cond, ◌⊎◌, inl, inr, ℕ, ◌+◌, ◌*◌, ◌≤◌, ◌<◌, arith, ltb, mul-pos, mul-le-mul, mul-le-mul_left, mul-le-mul_right, mul-lt-mul_of_pos_right, le_trans, le_of_eq, lt_of_lt_of_le, not-le_of_lt, ltb-true, ltb-false}
 use native.Mathlib.Nat.{le_of_lt, lt_of_le_of_lt}
-use Rattle.binary64.specs.Root.{square, nearestWhole}
+use Rattle.binary64.specs.Root.{square, nearest_whole}
 
 square-lt : (a b : ℕ) → a < b → a * a < b * b
 square-lt a b h = lt_of_le_of_lt (mul-le-mul_left a (le_of_lt h)) (mul-lt-mul_of_pos_right h (omega arith))
@@ -55,8 +55,8 @@ module _ (q r t y : ℕ) (small : r ≤ 2 * q) (p : 0 < t) (apart : Apart q t y)
       more-even M (2 * q + 1) t (y + q * t) (omega arith) p (omega arith)
   above true up down h = more M (2 * q + 2) t (y + (q + 1) * t) (omega arith) (omega arith)
 
-  pub below-middle : y < nearestWhole q r * t → square (y + nearestWhole q r * t) < 4 * M * square t
+  pub below-middle : y < nearest_whole q r * t → square (y + nearest_whole q r * t) < 4 * M * square t
   below-middle = below (ltb q r) (ltb-true q r) (ltb-false q r)
 
-  pub above-middle : nearestWhole q r * t < y → 4 * M * square t < square (y + nearestWhole q r * t)
+  pub above-middle : nearest_whole q r * t < y → 4 * M * square t < square (y + nearest_whole q r * t)
   above-middle = above (ltb q r) (ltb-true q r) (ltb-false q r)

@@ -6,7 +6,7 @@ use native.Mathlib.Nat.{mul_assoc, mul_left_comm, lt_of_mul-lt-mul_right, le_of_
 use native.Mathlib.Decide.{dec_le}
 use lib.Pow.{pow-add, pow_pos, pow_mono}
 use lib.Ieee.Positive.{num, den, positive, den_pos, value→cross, positive_of_value}
-use Rattle.binary64.specs.Root.{square, middleBelow, middleAbove, NearestRoot, Root, Rooted, RootSteps, firstAlone, allThree, wholeRoot, count, half, radicand, nearestWhole, movedBack, rootOf, root}
+use Rattle.binary64.specs.Root.{square, MiddleBelow, MiddleAbove, NearestRoot, Root, Rooted, RootSteps, first_alone, all_three, whole_root, count, half, radicand, nearest_whole, moved_back, root_of, root}
 use Rattle.binary64.specs.Inner.RootDigits.{WholeRoot}
 use Rattle.binary64.proofs.WholeRoots.{whole-root}
 use Rattle.binary64.proofs.RootSpecial.{special-is, ordinary-is}
@@ -99,13 +99,13 @@ module _ (x : Float) (q s h : ℕ) (w : Rooted x q s h) where
   M = square q + s
 
   abbrev Q : ℕ
-  Q = nearestWhole q s
+  Q = nearest_whole q s
 
   abbrev u : ℕ
   u = 2 ^ (h + 484)
 
   abbrev r : Float
-  r = movedBack Q h
+  r = moved_back Q h
 
   units : u * u ≡ 4 ^ h * 2 ^ 968
   units = rw (pow-add, four_is) (mul-mul-mul_comm (2 ^ h) (2 ^ 484) (2 ^ h) (2 ^ 484))
@@ -139,12 +139,12 @@ module _ (x : Float) (q s h : ℕ) (w : Rooted x q s h) where
     more-unit : num r * k < y * den r → Q * (u * k) < y * 2 ^ 1074
     more-unit l = lt_of_mul-lt-mul_right (den r) (in-units-more y (den r) (num r) k (2 ^ 1074) Q u (pow_pos 1074) cross l)
 
-    nearest-below : y * den r < num r * k → middleBelow x (fin false m e) r
+    nearest-below : y * den r < num r * k → MiddleBelow x (fin false m e) r
     nearest-below l =
         fraction-below (num x) (den x) (num r) (den r) y k M Q u (2 ^ 1074) value cross some
         (below-middle q s (u * k) (y * 2 ^ 1074) w.rest some-unit (apart m e f q (h + 484) w.least) (less-unit l))
 
-    nearest-above : num r * k < y * den r → middleAbove x (fin false m e) r
+    nearest-above : num r * k < y * den r → MiddleAbove x (fin false m e) r
     nearest-above l =
         fraction-above (num x) (den x) (num r) (den r) y k M Q u (2 ^ 1074) value cross some
         (above-middle q s (u * k) (y * 2 ^ 1074) w.rest some-unit (apart m e f q (h + 484) w.least) (more-unit l))
@@ -163,30 +163,30 @@ module _ (x : Float) (q s h : ℕ) (w : Rooted x q s h) where
 
 -- what the three steps promise is what is asked for
 steps-are : (x r : Float) → RootSteps x r → Root x r
-steps-are x r (firstAlone e) = special-is x r e
-steps-are x r (allThree e q s h w p) = ordinary-is x r e (subst (NearestRoot x) (sym p) (rooted-nearest x q s h w))
+steps-are x r (first_alone e) = special-is x r e
+steps-are x r (all_three e q s h w p) = ordinary-is x r e (subst (NearestRoot x) (sym p) (rooted-nearest x q s h w))
 
 -- ---- `root` keeps the steps' promises
 
 root-rooted : (x : Float) → T (positive x) → T (fits binary64 x)
-    → Rooted x (wholeRoot 53 (radicand (count x))) (radicand (count x) - square (wholeRoot 53 (radicand (count x)))) (half (count x))
+    → Rooted x (whole_root 53 (radicand (count x))) (radicand (count x) - square (whole_root 53 (radicand (count x)))) (half (count x))
 root-rooted x p f =
     let n = count x in
     let M = radicand n in
-    let q = wholeRoot 53 M in
+    let q = whole_root 53 M in
     let (units, d) = counted x p f in
     let (z, e, s) = radicand-is n _ _ d in
     let few = s.few in
     rooted-of x n z (half n) q (M - square q) units s (subst (λ (y : ℕ). WholeRoot y q (M - square q)) e (whole-root 53 M (omega arith)))
 
 root-steps : (x : Float) → T (fits binary64 x) → RootSteps x (root x)
-unfolding root rootOf
-root-steps nan f = firstAlone refl
-root-steps (inf true) f = firstAlone refl
-root-steps (inf false) f = firstAlone refl
-root-steps (fin s zero e) f = firstAlone refl
-root-steps (fin true (suc m) e) f = firstAlone refl
-root-steps (fin false (suc m) e) f = allThree refl _ _ _ (root-rooted (fin false (suc m) e) (lt→ltb 0 (suc m) (zero-lt-suc m)) f) refl
+unfolding root root_of
+root-steps nan f = first_alone refl
+root-steps (inf true) f = first_alone refl
+root-steps (inf false) f = first_alone refl
+root-steps (fin s zero e) f = first_alone refl
+root-steps (fin true (suc m) e) f = first_alone refl
+root-steps (fin false (suc m) e) f = all_three refl _ _ _ (root-rooted (fin false (suc m) e) (lt→ltb 0 (suc m) (zero-lt-suc m)) f) refl
 
 pub root_is : (x : Float) → T (fits binary64 x) → Root x (root x)
 root_is x f = steps-are x (root x) (root-steps x f)

@@ -6,7 +6,7 @@ use lib.Ieee.{nan_bits}
 use lib.Ieee.Fits.{odd-fits}
 use lib.Ieee.Bits.{of_bits-to_bits}
 use lib.Ieee.Exact.{HasValue, odd_sign}
-use Rattle.binary64.specs.Root.{square, nearestWhole, movedBack}
+use Rattle.binary64.specs.Root.{square, nearest_whole, moved_back}
 use Rattle.binary64.proofs.Floats.{not-nan-pattern}
 use Rattle.binary64.proofs.RootDigits.{size-moved}
 
@@ -34,18 +34,18 @@ together q k a l h e = elim (eq-or-lt_of_le h) [
 ]
 
 -- nothing is lost: the value is q * 2 ^ (h + 484) / 2 ^ 1074, and it is a number of binary64
-pub moved_value : (q h : ℕ) → HasValue (movedBack q h) false (q * 2 ^ (h + 484)) (2 ^ 1074)
-unfolding movedBack
+pub moved_value : (q h : ℕ) → HasValue (moved_back q h) false (q * 2 ^ (h + 484)) (2 ^ 1074)
+unfolding moved_back
 moved_value q h = odd_sign 54 false q (h + 484) 1074
 
-pub moved-fits : (q h : ℕ) → q ≤ 2 ^ 53 → h ≤ 1049 → T (fits binary64 (movedBack q h))
-unfolding movedBack
+pub moved-fits : (q h : ℕ) → q ≤ 2 ^ 53 → h ≤ 1049 → T (fits binary64 (moved_back q h))
+unfolding moved_back
 moved-fits q h t few =
     let below : q < 2 ^ 54 = lt_of_le_of_lt t (lit< tt) in
     odd-fits binary64 54 false q (h + 484) below t (lt_of_lt_of_le (shl_lt 54 (h + 484) below) (pow_mono {i = 54 + (h + 484)} {j = 2098} (omega arith)))
 
-pub bits_back : (q h : ℕ) → 2 ^ 52 ≤ q → q ≤ 2 ^ 53 → h ≤ 1049 → of_bits binary64 ((h + 484) * 2 ^ 52 + q) ≡ movedBack q h
-unfolding movedBack
+pub bits_back : (q h : ℕ) → 2 ^ 52 ≤ q → q ≤ 2 ^ 53 → h ≤ 1049 → of_bits binary64 ((h + 484) * 2 ^ 52 + q) ≡ moved_back q h
+unfolding moved_back
 bits_back q h l t few =
     let k = h + 484 in
     let x = odd 54 false q k 1074 in
@@ -58,11 +58,11 @@ not-nan-bits b h = not-nan-pattern b (omega arith)
 
 -- ---- the whole number nearest the root
 
-pub nearest-is : (q r up : ℕ) → ((q < r) × (up ≡ 1)) ⊎ ((r ≤ q) × (up ≡ 0)) → (q + up ≡ nearestWhole q r) × (up ≤ 1)
+pub nearest-is : (q r up : ℕ) → ((q < r) × (up ≡ 1)) ⊎ ((r ≤ q) × (up ≡ 0)) → (q + up ≡ nearest_whole q r) × (up ≤ 1)
 nearest-is q r up (inl (h, e)) = (rw (e, lt-ltb q r h) refl, le_of_eq e)
 nearest-is q r up (inr (h, e)) = (rw (e, le-ltb q r h) (add-zero q), le_trans (le_of_eq e) (lit≤ tt))
 
-pub nearest-le : (q r : ℕ) → (q ≤ nearestWhole q r) × (nearestWhole q r ≤ q + 1)
+pub nearest-le : (q r : ℕ) → (q ≤ nearest_whole q r) × (nearest_whole q r ≤ q + 1)
 nearest-le q r = go (ltb q r)
   where
     go : (b : Bool) → (q ≤ cond b (q + 1) q) × (cond b (q + 1) q ≤ q + 1)
@@ -70,7 +70,7 @@ nearest-le q r = go (ltb q r)
     go false = omega arith
 
 -- the root of q * q + r lies less than 1/2 below it and less than 1/2 above it
-pub nearest-whole : (q r : ℕ) → 0 < q → r ≤ 2 * q → (square (2 * nearestWhole q r - 1) < 4 * (square q + r)) × (4 * (square q + r) < square (2 * nearestWhole q r + 1))
+pub nearest-whole : (q r : ℕ) → 0 < q → r ≤ 2 * q → (square (2 * nearest_whole q r - 1) < 4 * (square q + r)) × (4 * (square q + r) < square (2 * nearest_whole q r + 1))
 nearest-whole q r p h = go (ltb q r) (ltb-true q r) (ltb-false q r)
   where
     one_less : (n : ℕ) → 0 < n → (2 * n - 1 + 1) * (2 * n - 1 + 1) ≡ 2 * n * (2 * n)

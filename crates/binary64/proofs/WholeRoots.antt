@@ -2,7 +2,7 @@
 use Rattle.prelude.proofs.Prelude.{◌≡◌, refl, ap, Bool, true, false, cond, ℕ, zero, suc, ◌+◌, ◌-◌, ◌*◌, ◌≤◌, ◌<◌, arith, ◌/◌, ◌%◌, ◌^◌, mul-le-mul, mul-le-mul_left, mul-le-mul_right, zero-lt-suc, leb}
 use native.Mathlib.Nat.{le_of_lt, pow-suc, div-lt_iff_lt-mul, div-add-mod', mod-lt}
 use borrow.Author.Tests.{leb-true, leb-false}
-use Rattle.binary64.specs.Root.{square, lastDigit, wholeRoot}
+use Rattle.binary64.specs.Root.{square, last_digit, whole_root}
 use Rattle.binary64.specs.Inner.RootDigits.{WholeRoot}
 
 -- ---- there is one
@@ -20,7 +20,7 @@ same-root n q r p s v w =
 
 -- ---- `wholeRoot` computes it
 
-last-digit : (n p : ℕ) (s : ℕ) → WholeRoot (n / 4) p s → WholeRoot n (lastDigit n (2 * p)) (n - square (lastDigit n (2 * p)))
+last-digit : (n p : ℕ) (s : ℕ) → WholeRoot (n / 4) p s → WholeRoot n (last_digit n (2 * p)) (n - square (last_digit n (2 * p)))
 last-digit n p s w = go (leb (square (2 * p + 1)) n) (leb-true (square (2 * p + 1)) n) (leb-false (square (2 * p + 1)) n)
   where
     digits : (n / 4 * 4 + n % 4 ≡ n) × (n % 4 < 4)
@@ -31,11 +31,11 @@ last-digit n p s w = go (leb (square (2 * p + 1)) n) (leb-true (square (2 * p + 
     go true h k = let g = h refl in omega (arith, digits)
     go false h k = let g = k refl in omega (arith, digits)
 
-pub whole-root : (k n : ℕ) → n < 4 ^ k → WholeRoot n (wholeRoot k n) (n - square (wholeRoot k n))
-unfolding wholeRoot
+pub whole-root : (k n : ℕ) → n < 4 ^ k → WholeRoot n (whole_root k n) (n - square (whole_root k n))
+unfolding whole_root
 whole-root zero n h = omega arith
 whole-root (suc k) n h =
-    last-digit n (wholeRoot k (n / 4)) (n / 4 - square (wholeRoot k (n / 4)))
+    last-digit n (whole_root k (n / 4)) (n / 4 - square (whole_root k (n / 4)))
     (whole-root k (n / 4) ((div-lt_iff_lt-mul (zero-lt-suc 3)).1 (rw pow-suc at h)))
 
 -- ---- its size

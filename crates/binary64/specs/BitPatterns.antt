@@ -4,5 +4,5 @@ use Rattle.std.specs.Float.{binary64}
 use Rattle.std.specs.Float.Ieee.{of_bits}
 
 -- the numbers with these bit patterns
-unfoldable pub ofBitPatterns : List ℕ → List Float
-ofBitPatterns = map (of_bits binary64)
+unfoldable pub of_bit_patterns : List ℕ → List Float
+of_bit_patterns = map (of_bits binary64)

@@ -1,4 +1,4 @@
--- The root of a binary64 number, IEEE 754-2019's squareRoot (5.4.1). What is asked for is `Root`: the binary64 nearest the exact root, said
+-- The root of a binary64 number, IEEE 754-2019's square_root (5.4.1). What is asked for is `Root`: the binary64 nearest the exact root, said
 -- over whole numbers. What computes it is `root`, in three steps: special operands, the whole root and its remainder, one rounding. Each
 -- step has its heading here and its function in src/steps.rt. `RootSteps` is what they promise; from it alone follows, for x an f64, that
 -- the answer is `root x` and meets `Root` (proofs/RootNearest `root-of-steps`).
@@ -16,11 +16,11 @@ square n = n * n
 
 -- A finite number that is not negative is the fraction num / den. The middle of y and r, (y + r) / 2, lies below the exact root of x
 -- where its square is less than x, and above it where its square is more than x.
-abbrev pub middleBelow : Float → Float → Float → Type 0
-middleBelow x y r = square (num y * den r + num r * den y) * den x < 4 * square (den y * den r) * num x
+abbrev pub MiddleBelow : Float → Float → Float → Type 0
+MiddleBelow x y r = square (num y * den r + num r * den y) * den x < 4 * square (den y * den r) * num x
 
-abbrev pub middleAbove : Float → Float → Float → Type 0
-middleAbove x y r = 4 * square (den y * den r) * num x < square (num y * den r + num r * den y) * den x
+abbrev pub MiddleAbove : Float → Float → Float → Type 0
+MiddleAbove x y r = 4 * square (den y * den r) * num x < square (num y * den r + num r * den y) * den x
 
 -- r, finite and above zero, is the binary64 nearest the exact root of x: the middle of r and any smaller number of binary64 lies below
 -- the exact root, and the middle of r and any larger one above it. The root is on no middle: half way between neighbours lies a number
@@ -28,8 +28,8 @@ middleAbove x y r = 4 * square (den y * den r) * num x < square (num y * den r +
 pub record NearestRoot (x r : Float) : Type 0 where
   pub held : T (fits binary64 r)
   pub above : T (positive r)
-  pub over : (m : ℕ) (e : ℤ) → T (fits binary64 (fin false m e)) → T (lt (fin false m e) r) → middleBelow x (fin false m e) r
-  pub under : (m : ℕ) (e : ℤ) → T (fits binary64 (fin false m e)) → T (lt r (fin false m e)) → middleAbove x (fin false m e) r
+  pub over : (m : ℕ) (e : ℤ) → T (fits binary64 (fin false m e)) → T (lt (fin false m e) r) → MiddleBelow x (fin false m e) r
+  pub under : (m : ℕ) (e : ℤ) → T (fits binary64 (fin false m e)) → T (lt r (fin false m e)) → MiddleAbove x (fin false m e) r
 
 -- with the special operands: NaN of NaN and of a negative number, inf of inf, +0 of +0 and -0 of -0
 abbrev pub Root : Float → Float → Type 0
@@ -69,23 +69,23 @@ pub record Rooted (x : Float) (q r h : ℕ) : Type 0 where
 
 -- The whole number N nearest the root of q * q + r, for q above 0 and r at most 2 q: the root lies above q + 1/2 where r is above q, and is
 -- never q + 1/2. So square (2 N - 1) < 4 (q * q + r) < square (2 N + 1) (proofs/RootRounding `nearest-whole`).
-abbrev pub nearestWhole : ℕ → ℕ → ℕ
-nearestWhole q r = cond (ltb q r) (q + 1) q
+abbrev pub nearest_whole : ℕ → ℕ → ℕ
+nearest_whole q r = cond (ltb q r) (q + 1) q
 
 -- N * 2 ^ (h - 590), the root of N * N * 4 ^ (h - 590): N * 2 ^ (h + 484) / 2 ^ 1074, written as a number by `odd`. Nothing is lost
 -- (`Moved-value`), and it is a number of binary64 for N up to 2 ^ 53 and h up to 1049 (`moved-fits`).
-unfoldable pub movedBack : ℕ → ℕ → Float
-movedBack N h = odd 54 false N (h + 484) 1074
+unfoldable pub moved_back : ℕ → ℕ → Float
+moved_back N h = odd 54 false N (h + 484) 1074
 
 abbrev pub rounded : ℕ → ℕ → ℕ → Float
-rounded q r h = movedBack (nearestWhole q r) h
+rounded q r h = moved_back (nearest_whole q r) h
 
 -- ---- the three together
 
 -- what the three steps promise of the root y of x: the first alone, or all three
 pub data RootSteps (x y : Float) : Type 0 where
-  firstAlone : special x ≡ SpecialRoot y → RootSteps x y
-  allThree : special x ≡ Ordinary → (q r h : ℕ) → Rooted x q r h → y ≡ rounded q r h → RootSteps x y
+  first_alone : special x ≡ SpecialRoot y → RootSteps x y
+  all_three : special x ≡ Ordinary → (q r h : ℕ) → Rooted x q r h → y ≡ rounded q r h → RootSteps x y
 
 -- ---- `root`, and how it finds q, r and h: no step promises this. That they are `Rooted` is proofs/RootNearest `root-rooted`.
 
@@ -103,22 +103,22 @@ unfolding half
 radicand n = n * 4 ^ 53 / 4 ^ half n
 
 -- the whole root of an n below 4 ^ k: twice that of n / 4, or one more
-abbrev pub lastDigit : ℕ → ℕ → ℕ
-lastDigit n q = cond (leb (square (q + 1)) n) (q + 1) q
+abbrev pub last_digit : ℕ → ℕ → ℕ
+last_digit n q = cond (leb (square (q + 1)) n) (q + 1) q
 
-unfoldable pub wholeRoot : ℕ → ℕ → ℕ
-wholeRoot zero n = 0
-wholeRoot (suc k) n = lastDigit n (2 * wholeRoot k (n / 4))
+unfoldable pub whole_root : ℕ → ℕ → ℕ
+whole_root zero n = 0
+whole_root (suc k) n = last_digit n (2 * whole_root k (n / 4))
 
 -- the root of n times the smallest positive value
-unfoldable pub rootOf : ℕ → Float
-unfolding wholeRoot half radicand movedBack
-rootOf n = rounded (wholeRoot 53 (radicand n)) (radicand n - square (wholeRoot 53 (radicand n))) (half n)
+unfoldable pub root_of : ℕ → Float
+unfolding whole_root half radicand moved_back
+root_of n = rounded (whole_root 53 (radicand n)) (radicand n - square (whole_root 53 (radicand n))) (half n)
 
 abbrev pub or_else : Operand → Float → Float
 or_else (SpecialRoot y) z = y
 or_else Ordinary z = z
 
 unfoldable pub root : Float → Float
-unfolding rootOf
-root x = or_else (special x) (rootOf (count x))
+unfolding root_of
+root x = or_else (special x) (root_of (count x))

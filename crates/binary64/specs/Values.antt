@@ -8,19 +8,19 @@ abbrev pub is_zero : Float → Bool
 is_zero x = eq x (fin false 0 (pos 0))
 
 -- zero with the sign set
-abbrev pub isMinus0 : Float → Bool
-isMinus0 nan = false
-isMinus0 (inf s) = false
-isMinus0 (fin s m e) = s && eqb m 0
+abbrev pub is_minus0 : Float → Bool
+is_minus0 nan = false
+is_minus0 (inf s) = false
+is_minus0 (fin s m e) = s && eqb m 0
 
 -- no number of the list is -0
-unfoldable pub noMinus0 : List Float → Bool
-noMinus0 [] = true
-noMinus0 (x ∷ xs) = not (isMinus0 x) && noMinus0 xs
+unfoldable pub no_minus0 : List Float → Bool
+no_minus0 [] = true
+no_minus0 (x ∷ xs) = not (is_minus0 x) && no_minus0 xs
 
-unfoldable pub allFinite : List Float → Bool
-allFinite [] = true
-allFinite (x ∷ xs) = finite x && allFinite xs
+unfoldable pub all_finite : List Float → Bool
+all_finite [] = true
+all_finite (x ∷ xs) = finite x && all_finite xs
 
 -- what a slice of f64 can hold: every number is one of binary64 in lib.Ieee's one way of writing it, NaN and infinities too
 abbrev pub F64s : List Float → Type 0

@@ -1,7 +1,7 @@
 // Whether numbers are finite: neither an infinity nor a NaN.
 ghost use Rattle.std.specs.Prelude.{◌≡◌, ◌&&◌};
 ghost use Rattle.std.specs.Float.Ieee.Scale as scale;
-ghost use Rattle.binary64.specs.Values.{allFinite};
+ghost use Rattle.binary64.specs.Values.{all_finite};
 
 // Whether x is finite.
 pub fn finite(x: f64) -> bool
@@ -15,7 +15,7 @@ pub fn finite(x: f64) -> bool
 
 // Whether all the numbers are finite. The loop does not end early: so it takes several numbers at a time.
 pub fn all_finite(s: &[f64]) -> bool
-    ensures { result ≡ allFinite s.now }
+    ensures { result ≡ all_finite s.now }
 {
     let mut all = true;
     let mut i = 0;

@@ -1,7 +1,7 @@
 -- Numbers in bytes, computed; and what the premises of the round trips keep out.
 use Rattle.prelude.proofs.Prelude.{◌≡◌, refl, [], ◌∷◌, nan, binary64, of_bits, to_bits}
 use Rattle.lists.specs.Buses.{up_to}
-use Rattle.bytes.specs.Bytes.{word, bytes_of, words, ofWords, floats, of_floats}
+use Rattle.bytes.specs.Bytes.{word, bytes_of, words, of_words, floats, of_floats}
 
 -- the lowest byte stands first
 pub low_first : bytes_of 4 0x01020304 ≡ 4 ∷ 3 ∷ 2 ∷ 1 ∷ []
@@ -18,7 +18,7 @@ two-words = refl
 
 -- 1.0, and the one pattern of a NaN
 pub one-and-nan : of_floats (of_bits binary64 0x3ff0000000000000 ∷ nan ∷ []) ≡ 0 ∷ 0 ∷ 0 ∷ 0 ∷ 0 ∷ 0 ∷ 0xf0 ∷ 0x3f ∷ 0 ∷ 0 ∷ 0 ∷ 0 ∷ 0 ∷ 0 ∷ 0xf8 ∷ 0x7f ∷ []
-unfolding of_floats ofWords bytes_of of_bits to_bits
+unfolding of_floats of_words bytes_of of_bits to_bits
 one-and-nan = refl
 
 -- another pattern of a NaN is read as the same NaN
@@ -27,10 +27,10 @@ unfolding floats words word up_to of_bits
 signaling-nan = refl
 
 -- 256 does not come back from one byte, nor from a place that holds no byte
-pub too_large : words 1 1 (ofWords 1 (256 ∷ [])) ≡ 0 ∷ []
-unfolding words word ofWords bytes_of up_to
+pub too_large : words 1 1 (of_words 1 (256 ∷ [])) ≡ 0 ∷ []
+unfolding words word of_words bytes_of up_to
 too_large = refl
 
-pub no_byte : ofWords 1 (words 1 1 (256 ∷ [])) ≡ 0 ∷ []
-unfolding words word ofWords bytes_of up_to
+pub no_byte : of_words 1 (words 1 1 (256 ∷ [])) ≡ 0 ∷ []
+unfolding words word of_words bytes_of up_to
 no_byte = refl

@@ -3,10 +3,10 @@ use Rattle.prelude.proofs.Prelude.{◌≡◌, refl, sym, ap, ◌∙◌, List, []
 use native.Mathlib.Numerals.{towards_suc, unary_clauses}
 use lib.Seq.{sets-eq, length-sets, take-suc-set}
 use Rattle.lists.specs.Buses.{up_to}
-use Rattle.lists.proofs.Order.{length-upTo, getD-upTo}
+use Rattle.lists.proofs.Order.{length-up_to, get_or-up_to}
 use Rattle.lists.proofs.Lookups.{get_d_map}
 use Rattle.lists.proofs.Fronts.{Filling, filling-start, filling-more, filling-whole}
-use Rattle.bytes.specs.Bytes.{word, bytes_of, putWord, words, floats, ofWords, of_floats}
+use Rattle.bytes.specs.Bytes.{word, bytes_of, put_word, words, floats, of_words, of_floats}
 
 map-append : {A B : Type 0} (f : A → B) (xs ys : List A) → map f (xs ++ ys) ≡ map f xs ++ map f ys
 map-append f [] ys = refl
@@ -41,11 +41,11 @@ words_take k (suc n) m bs h =
 
 pub length-words : (k n : ℕ) (bs : List ℕ) → length (words k n bs) ≡ n
 unfolding words
-length-words k n bs = length-map (up_to n) (λ (i : ℕ). word k bs (k * i)) ∙ length-upTo n
+length-words k n bs = length-map (up_to n) (λ (i : ℕ). word k bs (k * i)) ∙ length-up_to n
 
 pub get_d_words : (k n : ℕ) (bs : List ℕ) (i : ℕ) → i < n → get_or (words k n bs) i 0 ≡ word k bs (k * i)
 unfolding words
-get_d_words k n bs i h = get_d_map (λ (j : ℕ). word k bs (k * j)) 0 0 (up_to n) i (rw length-upTo h) ∙ ap (λ (j : ℕ). word k bs (k * j)) (getD-upTo n i 0 h)
+get_d_words k n bs i h = get_d_map (λ (j : ℕ). word k bs (k * j)) 0 0 (up_to n) i (rw length-up_to h) ∙ ap (λ (j : ℕ). word k bs (k * j)) (get_or-up_to n i 0 h)
 
 -- A slice that is filled with the numbers in bs: one more is read, or all are.
 module _ (k : ℕ) (bs old out : List ℕ) (i : ℕ) (s : Filling (words k (length old) bs) old out i) where
@@ -85,24 +85,24 @@ word-halves bs a = simp towards_suc (omega arith)
 
 -- ---- writing
 
-pub length-bytesOf : (k w : ℕ) → length (bytes_of k w) ≡ k
+pub length-bytes_of : (k w : ℕ) → length (bytes_of k w) ≡ k
 unfolding bytes_of
-length-bytesOf zero w = refl
-length-bytesOf (suc k) w = ap suc (length-bytesOf k (w / 256))
+length-bytes_of zero w = refl
+length-bytes_of (suc k) w = ap suc (length-bytes_of k (w / 256))
 
-pub length-ofWords : (k : ℕ) (ws : List ℕ) → length (ofWords k ws) ≡ k * length ws
-unfolding ofWords
-length-ofWords k [] = simp unary_clauses refl
-length-ofWords k (w ∷ ws) = let e = length-ofWords k ws in simp unary_clauses (rw (length-append, length-bytesOf) (omega (arith, e)))
+pub length-of_words : (k : ℕ) (ws : List ℕ) → length (of_words k ws) ≡ k * length ws
+unfolding of_words
+length-of_words k [] = simp unary_clauses refl
+length-of_words k (w ∷ ws) = let e = length-of_words k ws in simp unary_clauses (rw (length-append, length-bytes_of) (omega (arith, e)))
 
-ofWords-append : (k : ℕ) (us ws : List ℕ) → ofWords k (us ++ ws) ≡ ofWords k us ++ ofWords k ws
-unfolding ofWords
-ofWords-append k [] ws = refl
-ofWords-append k (u ∷ us) ws = rw (ofWords-append k us ws) (sym (append_assoc (bytes_of k u) (ofWords k us) (ofWords k ws)))
+of_words-append : (k : ℕ) (us ws : List ℕ) → of_words k (us ++ ws) ≡ of_words k us ++ of_words k ws
+unfolding of_words
+of_words-append k [] ws = refl
+of_words-append k (u ∷ us) ws = rw (of_words-append k us ws) (sym (append_assoc (bytes_of k u) (of_words k us) (of_words k ws)))
 
-pub ofWords-snoc : (k : ℕ) (us : List ℕ) (w : ℕ) → ofWords k (us ++ (w ∷ [])) ≡ ofWords k us ++ bytes_of k w
-unfolding ofWords
-ofWords-snoc k us w = ofWords-append k us (w ∷ []) ∙ ap (λ (l : List ℕ). ofWords k us ++ l) (append-nil (bytes_of k w))
+pub of_words-snoc : (k : ℕ) (us : List ℕ) (w : ℕ) → of_words k (us ++ (w ∷ [])) ≡ of_words k us ++ bytes_of k w
+unfolding of_words
+of_words-snoc k us w = of_words-append k us (w ∷ []) ∙ ap (λ (l : List ℕ). of_words k us ++ l) (append-nil (bytes_of k w))
 
 low_same : (x q y : ℕ) → x ≡ 256 * q + y → x % 256 ≡ y % 256
 low_same x q y e = omega (arith, e)
@@ -121,65 +121,65 @@ bytes_halves w =
     let e4 : w / 256 / 256 / 256 / 256 ≡ w / 0x1_0000_0000 = omega (arith, d3) in
     rw (e4, ← e0, ← e1, ← e2, ← e3) refl
 
-pub put-halves : (bs : List ℕ) (a w : ℕ) → putWord 4 (putWord 4 bs a (w % 0x1_0000_0000)) (a + 4) (w / 0x1_0000_0000) ≡ putWord 8 bs a w
-unfolding putWord bytes_of
+pub put-halves : (bs : List ℕ) (a w : ℕ) → put_word 4 (put_word 4 bs a (w % 0x1_0000_0000)) (a + 4) (w / 0x1_0000_0000) ≡ put_word 8 bs a w
+unfolding put_word bytes_of
 put-halves bs a w = simp towards_suc (ap (sets bs a) (sym (bytes_halves w)))
 
-pub length-putWord : (k : ℕ) (bs : List ℕ) (a w : ℕ) → length (putWord k bs a w) ≡ length bs
-unfolding putWord
-length-putWord k bs a w = length-sets bs a (bytes_of k w)
+pub length-put_word : (k : ℕ) (bs : List ℕ) (a w : ℕ) → length (put_word k bs a w) ≡ length bs
+unfolding put_word
+length-put_word k bs a w = length-sets bs a (bytes_of k w)
 
 -- what stands before the next place, once the number is written
-front-putWord : (k : ℕ) (bs : List ℕ) (a w : ℕ) → a + k ≤ length bs → take (a + k) (putWord k bs a w) ≡ take a bs ++ bytes_of k w
-unfolding putWord
-front-putWord k bs a w h =
-    ap (take (a + k)) (sets-eq (bytes_of k w) bs a (rw length-bytesOf h))
+front-put_word : (k : ℕ) (bs : List ℕ) (a w : ℕ) → a + k ≤ length bs → take (a + k) (put_word k bs a w) ≡ take a bs ++ bytes_of k w
+unfolding put_word
+front-put_word k bs a w h =
+    ap (take (a + k)) (sets-eq (bytes_of k w) bs a (rw length-bytes_of h))
     ∙ take_at (take a bs ++ bytes_of k w) (drop (a + length (bytes_of k w)) bs) (a + k)
-    (length-append (take a bs) (bytes_of k w) ∙ ap (λ (n : ℕ). n + length (bytes_of k w)) (length-take-le a bs (omega arith)) ∙ ap (λ (n : ℕ). a + n) (length-bytesOf k w))
+    (length-append (take a bs) (bytes_of k w) ∙ ap (λ (n : ℕ). n + length (bytes_of k w)) (length-take-le a bs (omega arith)) ∙ ap (λ (n : ℕ). a + n) (length-bytes_of k w))
 
 -- One more number written: the loops' step, over the list of numbers that are to be written.
-pub written-more : (k : ℕ) (bs ws : List ℕ) (i : ℕ) → k * (i + 1) ≤ length bs → i < length ws → take (k * i) bs ≡ ofWords k (take i ws)
-    → take (k * (i + 1)) (putWord k bs (k * i) (get_or ws i 0)) ≡ ofWords k (take (i + 1) ws)
+pub written-more : (k : ℕ) (bs ws : List ℕ) (i : ℕ) → k * (i + 1) ≤ length bs → i < length ws → take (k * i) bs ≡ of_words k (take i ws)
+    → take (k * (i + 1)) (put_word k bs (k * i) (get_or ws i 0)) ≡ of_words k (take (i + 1) ws)
 written-more k bs ws i h l e =
     let n : k * (i + 1) ≡ k * i + k = simp (add-one, unary_clauses) (omega arith) in
-    ap (λ (j : ℕ). take j (putWord k bs (k * i) (get_or ws i 0))) n
-    ∙ front-putWord k bs (k * i) (get_or ws i 0) (omega (arith, h, n))
+    ap (λ (j : ℕ). take j (put_word k bs (k * i) (get_or ws i 0))) n
+    ∙ front-put_word k bs (k * i) (get_or ws i 0) (omega (arith, h, n))
     ∙ ap (λ (f : List ℕ). f ++ bytes_of k (get_or ws i 0)) e
-    ∙ sym (ofWords-snoc k (take i ws) (get_or ws i 0))
-    ∙ ap (ofWords k) (sym (take-suc ws i 0 l))
-    ∙ ap (λ (j : ℕ). ofWords k (take j ws)) (sym (add-one i))
+    ∙ sym (of_words-snoc k (take i ws) (get_or ws i 0))
+    ∙ ap (of_words k) (sym (take-suc ws i 0 l))
+    ∙ ap (λ (j : ℕ). of_words k (take j ws)) (sym (add-one i))
 
 -- the first i of the numbers ws are written, k bytes each
 pub record Writing (k : ℕ) (ws old now : List ℕ) (i : ℕ) : Type 0 where
   pub long : length now ≡ length old
   pub most : i ≤ length ws
-  pub front : take (k * i) now ≡ ofWords k (take i ws)
+  pub front : take (k * i) now ≡ of_words k (take i ws)
 
 pub writing_start : (k : ℕ) (ws old : List ℕ) → Writing k ws old old 0
-unfolding ofWords
+unfolding of_words
 writing_start k ws old = record { long = refl; most = omega arith; front = simp unary_clauses refl }
 
 module _ (k : ℕ) (ws old now : List ℕ) (i : ℕ) (s : Writing k ws old now i) (e : length old ≡ k * length ws) where
-  pub writing_more : (then : List ℕ) → i < length ws → then ≡ putWord k now (k * i) (get_or ws i 0) → Writing k ws old then (i + 1)
+  pub writing_more : (then : List ℕ) → i < length ws → then ≡ put_word k now (k * i) (get_or ws i 0) → Writing k ws old then (i + 1)
   writing_more then h g =
       let m : k * (i + 1) ≤ k * length ws = mul-le-mul_left k (omega arith) in
       record {
-        long = ap length g ∙ length-putWord k now (k * i) (get_or ws i 0) ∙ s.long;
+        long = ap length g ∙ length-put_word k now (k * i) (get_or ws i 0) ∙ s.long;
         most = omega arith;
         front = rw g (written-more k now ws i (omega (arith, s.long)) h s.front);
       }
 
-  pub writing-all : length ws ≤ i → now ≡ ofWords k ws
+  pub writing-all : length ws ≤ i → now ≡ of_words k ws
   writing-all h =
       let m = mul-le-mul_left k h in
-      sym (take_all (k * i) now (omega (arith, s.long))) ∙ s.front ∙ ap (ofWords k) (take_all i ws h)
+      sym (take_all (k * i) now (omega (arith, s.long))) ∙ s.front ∙ ap (of_words k) (take_all i ws h)
 
 -- numbers of binary64 by their words
 module _ (xs : List Float) (old now : List ℕ) (i : ℕ) (s : Writing 8 (map (to_bits binary64) xs) old now i) (e : length old ≡ 8 * length xs) where
-  pub floats-written : (then : List ℕ) (w : ℕ) → i < length xs → w ≡ to_bits binary64 (get_or xs i nan) → then ≡ putWord 8 now (8 * i) w → Writing 8 (map (to_bits binary64) xs) old then (i + 1)
+  pub floats-written : (then : List ℕ) (w : ℕ) → i < length xs → w ≡ to_bits binary64 (get_or xs i nan) → then ≡ put_word 8 now (8 * i) w → Writing 8 (map (to_bits binary64) xs) old then (i + 1)
   floats-written then w h g p =
       writing_more 8 (map (to_bits binary64) xs) old now i s (rw length-map e) then (rw length-map h)
-      (p ∙ ap (putWord 8 now (8 * i)) (g ∙ sym (get_d_map (to_bits binary64) nan 0 xs i h)))
+      (p ∙ ap (put_word 8 now (8 * i)) (g ∙ sym (get_d_map (to_bits binary64) nan 0 xs i h)))
 
   pub floats-done : length xs ≤ i → now ≡ of_floats xs
   unfolding of_floats

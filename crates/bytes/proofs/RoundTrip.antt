@@ -5,9 +5,9 @@ use lib.Seq.{take-add}
 use lib.Ieee.Bits.{of_bits-to_bits, to_bits-lt}
 use Rattle.binary64.specs.Values.{F64s}
 use Rattle.lists.specs.Buses.{up_to}
-use Rattle.bytes.specs.Bytes.{word, bytes_of, words, floats, ofWords, of_floats}
+use Rattle.bytes.specs.Bytes.{word, bytes_of, words, floats, of_words, of_floats}
 use Rattle.bytes.specs.RoundTrip.{Below, RoundTrip}
-use Rattle.bytes.proofs.BytesLaws.{words-suc, get_d_words, length-words, length-bytesOf, ofWords-snoc}
+use Rattle.bytes.proofs.BytesLaws.{words-suc, get_d_words, length-words, length-bytes_of, of_words-snoc}
 
 -- ---- a number
 
@@ -43,33 +43,33 @@ bytes-of-word (suc k) bs a s h =
 
 -- ---- many
 
-word_of : (k : ℕ) (ws : List ℕ) (i : ℕ) → Below (256 ^ k) ws → i < length ws → word k (ofWords k ws) (k * i) ≡ get_or ws i 0
-unfolding ofWords
+word_of : (k : ℕ) (ws : List ℕ) (i : ℕ) → Below (256 ^ k) ws → i < length ws → word k (of_words k ws) (k * i) ≡ get_or ws i 0
+unfolding of_words
 word_of k [] i s h = absurd (omega (arith, h))
-word_of k (w ∷ ws) zero s h = simp unary_clauses (word-front k w (ofWords k ws) (s 0))
+word_of k (w ∷ ws) zero s h = simp unary_clauses (word-front k w (of_words k ws) (s 0))
 word_of k (w ∷ ws) (suc i) s h =
-    let far : k * suc i ≡ length (bytes_of k w) + k * i = rw length-bytesOf (simp unary_clauses (omega arith)) in
-    ap (word k (bytes_of k w ++ ofWords k ws)) far ∙ word-behind k (bytes_of k w) (ofWords k ws) (k * i) ∙ word_of k ws i (λ (j : ℕ). s (suc j)) (omega (arith, h))
+    let far : k * suc i ≡ length (bytes_of k w) + k * i = rw length-bytes_of (simp unary_clauses (omega arith)) in
+    ap (word k (bytes_of k w ++ of_words k ws)) far ∙ word-behind k (bytes_of k w) (of_words k ws) (k * i) ∙ word_of k ws i (λ (j : ℕ). s (suc j)) (omega (arith, h))
 
-words_back : (k : ℕ) (ws : List ℕ) → Below (256 ^ k) ws → words k (length ws) (ofWords k ws) ≡ ws
+words_back : (k : ℕ) (ws : List ℕ) → Below (256 ^ k) ws → words k (length ws) (of_words k ws) ≡ ws
 words_back k ws s =
-    let long = length-words k (length ws) (ofWords k ws) in
-    ext_get_or 0 (words k (length ws) (ofWords k ws)) ws long λ (i : ℕ) (h : i < length (words k (length ws) (ofWords k ws))).
-    let l : i < length ws = omega (arith, h, long) in get_d_words k (length ws) (ofWords k ws) i l ∙ word_of k ws i s l
+    let long = length-words k (length ws) (of_words k ws) in
+    ext_get_or 0 (words k (length ws) (of_words k ws)) ws long λ (i : ℕ) (h : i < length (words k (length ws) (of_words k ws))).
+    let l : i < length ws = omega (arith, h, long) in get_d_words k (length ws) (of_words k ws) i l ∙ word_of k ws i s l
 
-pub front : (k n : ℕ) (bs : List ℕ) → Below 256 bs → k * n ≤ length bs → ofWords k (words k n bs) ≡ take (k * n) bs
-unfolding words up_to ofWords
+pub front : (k n : ℕ) (bs : List ℕ) → Below 256 bs → k * n ≤ length bs → of_words k (words k n bs) ≡ take (k * n) bs
+unfolding words up_to of_words
 front k zero bs s h = simp unary_clauses refl
 front k (suc n) bs s h =
     let far : k * suc n ≡ k * n + k = simp unary_clauses (omega arith) in
-    ap (λ (m : ℕ). ofWords k (words k m bs)) (sym (add-one n))
-    ∙ ap (ofWords k) (words-suc k n bs)
-    ∙ ofWords-snoc k (words k n bs) (word k bs (k * n))
+    ap (λ (m : ℕ). of_words k (words k m bs)) (sym (add-one n))
+    ∙ ap (of_words k) (words-suc k n bs)
+    ∙ of_words-snoc k (words k n bs) (word k bs (k * n))
     ∙ ap₂ (λ (x y : List ℕ). x ++ y) (front k n bs s (omega (arith, h, far))) (bytes-of-word k bs (k * n) s (omega (arith, h, far)))
     ∙ sym (take-add (k * n) k bs)
     ∙ ap (λ (m : ℕ). take m bs) (sym far)
 
-bytes_back : (k n : ℕ) (bs : List ℕ) → Below 256 bs → length bs ≡ k * n → ofWords k (words k n bs) ≡ bs
+bytes_back : (k n : ℕ) (bs : List ℕ) → Below 256 bs → length bs ≡ k * n → of_words k (words k n bs) ≡ bs
 bytes_back k n bs s e = front k n bs s (omega (arith, e)) ∙ take_all (k * n) bs (omega (arith, e))
 
 -- ---- binary64
@@ -87,7 +87,7 @@ floats-back : (xs : List Float) → F64s xs → floats (length xs) (of_floats xs
 unfolding floats of_floats
 floats-back xs f =
     let ws = map (to_bits binary64) xs in
-    ap (λ (n : ℕ). map (of_bits binary64) (words 8 n (ofWords 8 ws))) (sym (length-map xs (to_bits binary64)))
+    ap (λ (n : ℕ). map (of_bits binary64) (words 8 n (of_words 8 ws))) (sym (length-map xs (to_bits binary64)))
     ∙ ap (map (of_bits binary64)) (words_back 8 ws (words-below xs f))
     ∙ bits_back xs f
 

@@ -16,9 +16,9 @@ bytes_of zero w = []
 bytes_of (suc k) w = w % 256 ∷ bytes_of k (w / 256)
 
 -- bs with the number w in the k bytes from place a on
-unfoldable pub putWord : ℕ → List ℕ → ℕ → ℕ → List ℕ
+unfoldable pub put_word : ℕ → List ℕ → ℕ → ℕ → List ℕ
 unfolding bytes_of
-putWord k bs a w = sets bs a (bytes_of k w)
+put_word k bs a w = sets bs a (bytes_of k w)
 
 -- the first n numbers, of k bytes each
 unfoldable pub words : ℕ → ℕ → List ℕ → List ℕ
@@ -26,10 +26,10 @@ unfolding word up_to
 words k n bs = map (λ (i : ℕ). word k bs (k * i)) (up_to n)
 
 -- numbers one after the other, in k bytes each
-unfoldable pub ofWords : ℕ → List ℕ → List ℕ
+unfoldable pub of_words : ℕ → List ℕ → List ℕ
 unfolding bytes_of
-ofWords k [] = []
-ofWords k (w ∷ ws) = bytes_of k w ++ ofWords k ws
+of_words k [] = []
+of_words k (w ∷ ws) = bytes_of k w ++ of_words k ws
 
 -- the first n numbers of binary64: every pattern of a NaN is the one NaN
 unfoldable pub floats : ℕ → List ℕ → List Float
@@ -38,5 +38,5 @@ floats n bs = map (of_bits binary64) (words 8 n bs)
 
 -- numbers of binary64 one after the other: a NaN is 7ff8000000000000
 unfoldable pub of_floats : List Float → List ℕ
-unfolding ofWords
-of_floats xs = ofWords 8 (map (to_bits binary64) xs)
+unfolding of_words
+of_floats xs = of_words 8 (map (to_bits binary64) xs)

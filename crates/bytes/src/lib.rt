@@ -43,7 +43,7 @@ pub fn word_at(s: &[u8], a: usize) -> u64
 // Writes a number in the 4 bytes from place a on.
 pub fn put_half(s: &mut [u8], a: usize, h: u32)
     requires { a + 4 ≤ length s.old }
-    ensures { s.new ≡ spec.putWord 4 s.old a h }
+    ensures { s.new ≡ spec.put_word 4 s.old a h }
 {
     let h1 = h / 256;
     let h2 = h1 / 256;
@@ -57,7 +57,7 @@ pub fn put_half(s: &mut [u8], a: usize, h: u32)
 // Writes a number in the 8 bytes from place a on.
 pub fn put_word(s: &mut [u8], a: usize, w: u64)
     requires { a + 8 ≤ length s.old }
-    ensures { s.new ≡ spec.putWord 8 s.old a w }
+    ensures { s.new ≡ spec.put_word 8 s.old a w }
 {
     put_half(s, a, (w % 0x1_0000_0000) as u32);
     put_half(s, a + 4, (w / 0x1_0000_0000) as u32);
@@ -104,7 +104,7 @@ pub fn read_floats(s: &[u8], out: &mut [f64])
 // Writes halves, one after the other.
 pub fn write_halves(s: &mut [u8], xs: &[u32])
     requires { length s.old ≡ 4 * length xs.now }
-    ensures { s.new ≡ spec.ofWords 4 xs.now }
+    ensures { s.new ≡ spec.of_words 4 xs.now }
 {
     let mut i = 0;
     while i < xs.len() {
@@ -116,7 +116,7 @@ pub fn write_halves(s: &mut [u8], xs: &[u32])
 // Writes whole numbers, a word each.
 pub fn write_words(s: &mut [u8], xs: &[usize])
     requires { length s.old ≡ 8 * length xs.now }
-    ensures { s.new ≡ spec.ofWords 8 xs.now }
+    ensures { s.new ≡ spec.of_words 8 xs.now }
 {
     let mut i = 0;
     while i < xs.len() {

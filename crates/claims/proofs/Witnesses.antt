@@ -1,18 +1,18 @@
 -- The premises of claim 1 can be met, with calls that are refused, several buses removed and large numbers; so can those of `no-more-refused`.
 use Rattle.prelude.proofs.Prelude.{◌≡◌, refl, List, [], ◌∷◌, ℕ, ◌+◌, replicate, lit<, sub, mul, div, lt, eq, of_bits}
 use Rattle.complex.specs.{csub, cmul, cdiv, entry as entry_of, Matrix, entry_at, ◌≈◌}
-use Rattle.lists.specs.Buses.{up_to, ◌isOneOf◌, others, place, rising, all_below, allZero, repeats}
-use Rattle.binary64.specs.Values.{allFinite}
-use Rattle.binary64.specs.BitPatterns.{ofBitPatterns}
+use Rattle.lists.specs.Buses.{up_to, ◌is_one_of◌, others, place, rising, all_below, all_zero, repeats}
+use Rattle.binary64.specs.Values.{all_finite}
+use Rattle.binary64.specs.BitPatterns.{of_bit_patterns}
 use Rattle.binary64.proofs.BitPatterns.{words-f64s}
-use Rattle.refusals.specs.Refusals.{limit, thenGiven}
+use Rattle.refusals.specs.Refusals.{limit, then_given}
 use Rattle.lists.proofs.Each.{of-each}
-use Rattle.kron_reduction.specs.Kron.{kron, removalRefusal, eliminate, carriedOut, ofRow, ofRows, ofRemovals}
-use Rattle.kron_reduction.specs.Reducer.{ReducerInput, reducerInputOf, makingShapeRefusal, makingRefusal, AcceptedMaking, afterNew, soundRows, soundNumbers, inputShapeRefusal, inputRefusal, state_of, stored, leaves, removedRows, afterBus, afterBuses}
-use Rattle.claims.specs.Accounts.{Call, bus, buses, after_call, leftFrom, left, entryIn, fresh, stateAfter, removes, step, accountFrom, Account, account, kept}
+use Rattle.kron_reduction.specs.Kron.{kron, removal_refusal, eliminate, carried_out, of_row, of_rows, of_removals}
+use Rattle.kron_reduction.specs.Reducer.{ReducerInput, reducer_input_of, making_shape_refusal, making_refusal, AcceptedMaking, after_new, sound_rows, sound_numbers, input_shape_refusal, input_refusal, state_of, stored, leaves, removed_rows, after_bus, after_buses}
+use Rattle.claims.specs.Accounts.{Call, bus, buses, after_call, left_from, left, entry_in, fresh, state_after, removes, step, account_from, Account, account, kept}
 use Rattle.claims.specs.Chains.{Linked, Steps, Within, Chain, Into}
-use Rattle.claims.specs.Finite.{ofAccount}
-use Rattle.claims.specs.Untested.{admitted, untestedRemoves, untestedStep, untestedFrom, untestedAccount}
+use Rattle.claims.specs.Finite.{of_account}
+use Rattle.claims.specs.Untested.{admitted, untested_removes, untested_step, untested_from, untested_account}
 use Rattle.claims.proofs.Removals.{removals}
 
 -- M of the two-bus book: 1, -1 / -1, 2
@@ -21,14 +21,14 @@ book-words = 0x3ff0000000000000 ∷ 0 ∷ 0xbff0000000000000 ∷ 0 ∷ 0xbff0000
 
 -- to open this is to open all that lists of calls compute with
 unfoldable pub opened : Unit {0}
-unfolding book-words ofBitPatterns csub cmul cdiv up_to others place entry_of entry_at kron removalRefusal eliminate carriedOut fresh stateAfter
-    removes step accountFrom sub mul div lt of_bits eq stored makingShapeRefusal makingRefusal afterNew rising all_below allZero soundRows soundNumbers
-    inputShapeRefusal inputRefusal thenGiven
-    state_of leaves removedRows afterBus afterBuses after_call leftFrom left allFinite ofAccount ofRemovals ofRow ofRows
+unfolding book-words of_bit_patterns csub cmul cdiv up_to others place entry_of entry_at kron removal_refusal eliminate carried_out fresh state_after
+    removes step account_from sub mul div lt of_bits eq stored making_shape_refusal making_refusal after_new rising all_below all_zero sound_rows sound_numbers
+    input_shape_refusal input_refusal then_given
+    state_of leaves removed_rows after_bus after_buses after_call left_from left all_finite of_account of_removals of_row of_rows
 opened = tt
 
 abbrev pub book : ReducerInput
-book = reducerInputOf 2 (ofBitPatterns book-words) (0 ∷ 1 ∷ [])
+book = reducer_input_of 2 (of_bit_patterns book-words) (0 ∷ 1 ∷ [])
 
 -- a bus that is not there, a list too long, a list that is refused at its second bus, and a bus that is gone: one bus is removed
 abbrev book-calls : List Call
@@ -67,7 +67,7 @@ abbrev pub numbers : List ℕ
 numbers = 3 ∷ 4294967295 ∷ 0 ∷ 7 ∷ 1 ∷ []
 
 abbrev pub first : ReducerInput
-first = reducerInputOf 5 (ofBitPatterns first-words) numbers
+first = reducer_input_of 5 (of_bit_patterns first-words) numbers
 
 -- bus 2; then a number that is a row's and no bus's; then buses 1 and 3 and again 2, which is gone, so that bus 4 stays
 abbrev pub first-calls : List Call
@@ -94,7 +94,7 @@ first-kept = refl
 
 -- bus m is the only one of R that bus i has an entry to
 abbrev pub OnlyTo : ℕ → Matrix → List ℕ → ℕ → Type 0
-OnlyTo m Y R i = (k : ℕ) → k isOneOf R → Linked Y i k → k ≡ m
+OnlyTo m Y R i = (k : ℕ) → k is_one_of R → Linked Y i k → k ≡ m
 
 pub only-to : (x m y : ℕ) (Y : Matrix) (i : ℕ) → (Linked Y i x → ⊥) → (Linked Y i y → ⊥) → OnlyTo m Y (x ∷ m ∷ y ∷ []) i
 only-to x m y Y i n n' = of-each (λ (k : ℕ). Linked Y i k → k ≡ m) (x ∷ m ∷ y ∷ []) (λ l. absurd (n l), (λ l. refl, (λ l. absurd (n' l), tt)))
@@ -108,7 +108,7 @@ module _ (s m : ℕ) (Y : Matrix) (R : List ℕ) (rows : OnlyTo m Y R s × OnlyT
   pub no-chain : (j : ℕ) → (Linked Y m j → ⊥) → Chain Y R s j → ⊥
   no-chain j none (k, ks, within, steps) = no-further j none ks within.1 (rw (rows.0 k within.0 steps.0) at steps.1)
 
-  pub no-into : (G : List ℕ) → ((k : ℕ) → k isOneOf G → k isOneOf R) → (m isOneOf G → ⊥) → Into Y R G s → ⊥
+  pub no-into : (G : List ℕ) → ((k : ℕ) → k is_one_of G → k is_one_of R) → (m is_one_of G → ⊥) → Into Y R G s → ⊥
   no-into G among away (g, [], l, within, steps) = away (rw (rows.0 g (among g l) steps) at l)
   no-into G among away (g, k ∷ ks, l, within, steps) =
       no-further g (λ n. away (rw (rows.1 g (among g l) n) at l)) ks within.1 (rw (rows.0 k within.0 steps.0) at steps.1)
@@ -118,8 +118,8 @@ unfolding opened
 first_rows = ((only-to 2 1 3 a.old 0 (λ n. n) (λ n. n), only-to 2 1 3 a.old 1 (λ n. n) (λ n. n)), λ n. n)
 
 -- so the entry from bus 0 to bus 4 stays (a premise is met from what is listed, so that one that asks more is met too where it holds), though bus 0 has an entry to a removed bus, and another removed bus has one to bus 4
-stays : entryIn (left first first-calls) 0 1 ≈ a.old 0 4
-stays = (rw first-kept at (removals.unchanged first first-calls (words-f64s first-words) (unfold ofBitPatterns of_bits lt in search (first_made, first-removed, tt)) 0 1))
+stays : entry_in (left first first-calls) 0 1 ≈ a.old 0 4
+stays = (rw first-kept at (removals.unchanged first first-calls (words-f64s first-words) (unfold of_bit_patterns of_bits lt in search (first_made, first-removed, tt)) 0 1))
     (lit< tt) (lit< tt) (no-chain 0 1 a.old a.removed (rw first-removed first_rows.0) 4 first_rows.1)
 
 -- a chain from bus 4 to bus 0 meets all removed buses; what becomes of that entry stands in demand3!Bites
@@ -129,9 +129,9 @@ long-chain = (3, 2 ∷ 1 ∷ [], (tt, (tt, (tt, tt))), (tt, (tt, (tt, tt))))
 
 -- ---- nothing finite is refused: the same removals by 11 and 12 alone
 
-untested-same : (untestedAccount book book-calls).removed ≡ 1 ∷ []
-unfolding opened admitted untestedRemoves untestedStep untestedFrom
+untested-same : (untested_account book book-calls).removed ≡ 1 ∷ []
+unfolding opened admitted untested_removes untested_step untested_from
 untested-same = refl
 
-all-let-through : account book book-calls ≡ untestedAccount book book-calls
-all-let-through = (removals.no-more-refused book book-calls (unfold opened repeats in refl) (unfold opened in tt) (unfold opened admitted untestedRemoves untestedStep untestedFrom in tt)).1
+all-let-through : account book book-calls ≡ untested_account book book-calls
+all-let-through = (removals.no-more-refused book book-calls (unfold opened repeats in refl) (unfold opened in tt) (unfold opened admitted untested_removes untested_step untested_from in tt)).1

@@ -5,7 +5,7 @@ use native.Mathlib.Nat.{mul-add}
 use lib.Seq.{get_or-append-add}
 use Rattle.complex.specs.declared.Complex.{Complex}
 use Rattle.complex.specs.Entries.{entry, put}
-use Rattle.lists.proofs.Parts.{back, getD-back-before, getD-back-in, getD-back-after}
+use Rattle.lists.proofs.Parts.{back, get_or-back-before, get_or-back-in, get_or-back-after}
 
 -- two complex numbers with the same parts
 pub parts_same : {a b : Complex} → a.re ≡ b.re → a.im ≡ b.im → a ≡ b
@@ -74,17 +74,17 @@ module _ (b w : ℕ) (xs ys : List Float) (fits : 2 * (b + w) ≤ length xs) (lo
   unfolding entry
   entry-back-before j h =
       parts_same
-      (getD-back-before (2 * b) (2 * w) xs ys nan (omega arith) (2 * j) (omega arith))
-      (getD-back-before (2 * b) (2 * w) xs ys nan (omega arith) (2 * j + 1) (omega arith))
+      (get_or-back-before (2 * b) (2 * w) xs ys nan (omega arith) (2 * j) (omega arith))
+      (get_or-back-before (2 * b) (2 * w) xs ys nan (omega arith) (2 * j + 1) (omega arith))
 
   pub entry-back-in : (j : ℕ) → j < w → entry (back (2 * b) (2 * w) xs ys) (b + j) ≡ entry ys j
   unfolding entry
   entry-back-in j h =
       parts_same
       (ap (λ (k : ℕ). get_or (back (2 * b) (2 * w) xs ys) k nan) (sym (twice b j))
-      ∙ getD-back-in (2 * b) (2 * w) xs ys nan (omega arith) (2 * j) (omega arith))
+      ∙ get_or-back-in (2 * b) (2 * w) xs ys nan (omega arith) (2 * j) (omega arith))
       (ap (λ (k : ℕ). get_or (back (2 * b) (2 * w) xs ys) k nan) (sym (twice-one b j))
-      ∙ getD-back-in (2 * b) (2 * w) xs ys nan (omega arith) (2 * j + 1) (omega arith))
+      ∙ get_or-back-in (2 * b) (2 * w) xs ys nan (omega arith) (2 * j + 1) (omega arith))
 
   pub entry-back-after : (j : ℕ) → b + w ≤ j → entry (back (2 * b) (2 * w) xs ys) j ≡ entry xs j
   unfolding entry
@@ -93,10 +93,10 @@ module _ (b w : ℕ) (xs ys : List Float) (fits : 2 * (b + w) ≤ length xs) (lo
       let at1 : 2 * b + (2 * w + (2 * j + 1 - (2 * b + 2 * w))) ≡ 2 * j + 1 = omega arith in
       parts_same
       (ap (λ (k : ℕ). get_or (back (2 * b) (2 * w) xs ys) k nan) (sym at)
-      ∙ getD-back-after (2 * b) (2 * w) xs ys nan (omega arith) long (2 * j - (2 * b + 2 * w))
+      ∙ get_or-back-after (2 * b) (2 * w) xs ys nan (omega arith) long (2 * j - (2 * b + 2 * w))
       ∙ ap (λ (k : ℕ). get_or xs k nan) at)
       (ap (λ (k : ℕ). get_or (back (2 * b) (2 * w) xs ys) k nan) (sym at1)
-      ∙ getD-back-after (2 * b) (2 * w) xs ys nan (omega arith) long (2 * j + 1 - (2 * b + 2 * w))
+      ∙ get_or-back-after (2 * b) (2 * w) xs ys nan (omega arith) long (2 * j + 1 - (2 * b + 2 * w))
       ∙ ap (λ (k : ℕ). get_or xs k nan) at1)
 
 -- ---- the same entries

@@ -1,60 +1,60 @@
 -- Lists of numbers that are all finite; and a zero times a number, where the product is finite, is zero.
 use Rattle.prelude.proofs.Prelude.{◌≡◌, refl, ap, ◌∙◌, Bool, true, false, ◌&&◌, List, [], ◌∷◌, ◌++◌, ℕ, zero, suc, ◌<◌, arith, T, inl, inr, length, get_or, Float, nan, inf, fin, Format, mul, and_i, and_l, and_r, finite}
-use Rattle.binary64.specs.Values.{allFinite}
+use Rattle.binary64.specs.Values.{all_finite}
 use Rattle.binary64.proofs.Floats.{Zero, mul-zero-left}
 use Rattle.lists.proofs.Order.{lt-or-ge}
 use Rattle.complex.specs.Computed.{each}
 
-pub none : T (allFinite [])
-unfolding allFinite
+pub none : T (all_finite [])
+unfolding all_finite
 none = tt
 
-pub all_more : (x : Float) (xs : List Float) → T (finite x) → T (allFinite xs) → T (allFinite (x ∷ xs))
-unfolding allFinite
-all_more x xs h k = and_i (finite x) (allFinite xs) h k
+pub all_more : (x : Float) (xs : List Float) → T (finite x) → T (all_finite xs) → T (all_finite (x ∷ xs))
+unfolding all_finite
+all_more x xs h k = and_i (finite x) (all_finite xs) h k
 
-pub first_of : (x : Float) (xs : List Float) → T (allFinite (x ∷ xs)) → T (finite x)
-unfolding allFinite
-first_of x xs h = and_l (finite x) (allFinite xs) h
+pub first_of : (x : Float) (xs : List Float) → T (all_finite (x ∷ xs)) → T (finite x)
+unfolding all_finite
+first_of x xs h = and_l (finite x) (all_finite xs) h
 
-pub rest_of : (x : Float) (xs : List Float) → T (allFinite (x ∷ xs)) → T (allFinite xs)
-unfolding allFinite
-rest_of x xs h = and_r (finite x) (allFinite xs) h
+pub rest_of : (x : Float) (xs : List Float) → T (all_finite (x ∷ xs)) → T (all_finite xs)
+unfolding all_finite
+rest_of x xs h = and_r (finite x) (all_finite xs) h
 
-pub all_join : (xs ys : List Float) → T (allFinite xs) → T (allFinite ys) → T (allFinite (xs ++ ys))
-unfolding allFinite
+pub all_join : (xs ys : List Float) → T (all_finite xs) → T (all_finite ys) → T (all_finite (xs ++ ys))
+unfolding all_finite
 all_join [] ys h k = k
 all_join (x ∷ xs) ys h k =
-    and_i (finite x) (allFinite (xs ++ ys)) (and_l (finite x) (allFinite xs) h) (all_join xs ys (and_r (finite x) (allFinite xs) h) k)
+    and_i (finite x) (all_finite (xs ++ ys)) (and_l (finite x) (all_finite xs) h) (all_join xs ys (and_r (finite x) (all_finite xs) h) k)
 
 -- of two lists, one after the other
-pub all_both : (xs ys : List Float) → allFinite (xs ++ ys) ≡ (allFinite xs && allFinite ys)
-unfolding allFinite
+pub all_both : (xs ys : List Float) → all_finite (xs ++ ys) ≡ (all_finite xs && all_finite ys)
+unfolding all_finite
 all_both [] ys = refl
-all_both (x ∷ xs) ys = ap (λ (b : Bool). finite x && b) (all_both xs ys) ∙ go (finite x) (allFinite xs) (allFinite ys)
+all_both (x ∷ xs) ys = ap (λ (b : Bool). finite x && b) (all_both xs ys) ∙ go (finite x) (all_finite xs) (all_finite ys)
   where
     go : (a b c : Bool) → (a && (b && c)) ≡ ((a && b) && c)
     go true b c = refl
     go false b c = refl
 
-pub all_left : (xs ys : List Float) → T (allFinite (xs ++ ys)) → T (allFinite xs)
-unfolding allFinite
+pub all_left : (xs ys : List Float) → T (all_finite (xs ++ ys)) → T (all_finite xs)
+unfolding all_finite
 all_left [] ys h = tt
-all_left (x ∷ xs) ys h = and_i (finite x) (allFinite xs) (and_l (finite x) (allFinite (xs ++ ys)) h) (all_left xs ys (and_r (finite x) (allFinite (xs ++ ys)) h))
+all_left (x ∷ xs) ys h = and_i (finite x) (all_finite xs) (and_l (finite x) (all_finite (xs ++ ys)) h) (all_left xs ys (and_r (finite x) (all_finite (xs ++ ys)) h))
 
-pub all_right : (xs ys : List Float) → T (allFinite (xs ++ ys)) → T (allFinite ys)
-unfolding allFinite
+pub all_right : (xs ys : List Float) → T (all_finite (xs ++ ys)) → T (all_finite ys)
+unfolding all_finite
 all_right [] ys h = h
-all_right (x ∷ xs) ys h = all_right xs ys (and_r (finite x) (allFinite (xs ++ ys)) h)
+all_right (x ∷ xs) ys h = all_right xs ys (and_r (finite x) (all_finite (xs ++ ys)) h)
 
 -- of lists one behind the other
 module _ (F : ℕ → List Float) where
-  pub each-finite : (m : ℕ) → ((k : ℕ) → k < m → T (allFinite (F k))) → T (allFinite (each F m))
+  pub each-finite : (m : ℕ) → ((k : ℕ) → k < m → T (all_finite (F k))) → T (all_finite (each F m))
   unfolding each
   each-finite zero h = none
   each-finite (suc m) h = all_join (each F m) (F m) (each-finite m (λ k l. h k (omega arith))) (h m (omega arith))
 
-  pub each_at : (m k : ℕ) → k < m → T (allFinite (each F m)) → T (allFinite (F k))
+  pub each_at : (m k : ℕ) → k < m → T (all_finite (each F m)) → T (all_finite (F k))
   unfolding each
   each_at zero k l h = absurd (omega arith)
   each_at (suc m) k l h =
@@ -63,11 +63,11 @@ module _ (F : ℕ → List Float) where
         | inr more ↦ let e : k ≡ m = omega arith in rw e (all_right (each F m) (F m) h)
       ]
 
-pub all-at : (xs : List Float) (i : ℕ) → i < length xs → T (allFinite xs) → T (finite (get_or xs i nan))
-unfolding allFinite
+pub all-at : (xs : List Float) (i : ℕ) → i < length xs → T (all_finite xs) → T (finite (get_or xs i nan))
+unfolding all_finite
 all-at [] i l h = absurd (omega arith)
-all-at (x ∷ xs) zero l h = and_l (finite x) (allFinite xs) h
-all-at (x ∷ xs) (suc i) l h = all-at xs i (omega arith) (and_r (finite x) (allFinite xs) h)
+all-at (x ∷ xs) zero l h = and_l (finite x) (all_finite xs) h
+all-at (x ∷ xs) (suc i) l h = all-at xs i (omega arith) (and_r (finite x) (all_finite xs) h)
 
 pub zero-times : (f : Format) (x y : Float) → Zero x → T (finite (mul f x y)) → Zero (mul f x y)
 unfolding mul

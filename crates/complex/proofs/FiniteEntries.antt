@@ -1,6 +1,6 @@
 -- A slice is finite exactly where its entries are.
 use Rattle.prelude.proofs.Prelude.{◌≡◌, refl, subst, sym, ◌⊎◌, inl, inr, eq-or-lt_of_le, List, [], ◌∷◌, ◌++◌, ℕ, zero, suc, ◌+◌, ◌*◌, ◌<◌, arith, T, length, Float}
-use Rattle.binary64.specs.Values.{allFinite}
+use Rattle.binary64.specs.Values.{all_finite}
 use Rattle.lists.specs.Buses.{up_to}
 use Rattle.complex.specs.Entries.{entry}
 use Rattle.complex.specs.Matrices.{Matrix, entry_at, row, rows, grid}
@@ -18,10 +18,10 @@ pub each-join : (P : ℕ → Type 0) (is js : List ℕ) → Each P is → Each P
 each-join P [] js h k = k
 each-join P (i ∷ is) js (x, h) k = (x, each-join P is js h k)
 
-pub each-upTo : (P : ℕ → Type 0) (n : ℕ) → ((j : ℕ) → j < n → P j) → Each P (up_to n)
+pub each-up_to : (P : ℕ → Type 0) (n : ℕ) → ((j : ℕ) → j < n → P j) → Each P (up_to n)
 unfolding up_to
-each-upTo P zero h = tt
-each-upTo P (suc n) h = each-join P (up_to n) (n ∷ []) (each-upTo P n (λ (j : ℕ) (l : j < n). h j (omega arith))) (h n (omega arith), tt)
+each-up_to P zero h = tt
+each-up_to P (suc n) h = each-join P (up_to n) (n ∷ []) (each-up_to P n (λ (j : ℕ) (l : j < n). h j (omega arith))) (h n (omega arith), tt)
 
 each_left : (P : ℕ → Type 0) (is js : List ℕ) → Each P (is ++ js) → Each P is
 each_left P [] js h = tt
@@ -42,12 +42,12 @@ each_at P (suc n) h j l = pick (eq-or-lt_of_le {n = j} {m = n} (omega arith)) (e
 
 -- ---- laid-out numbers
 
-pub row-finite : (Y : Matrix) (i : ℕ) (js : List ℕ) → Each (λ (j : ℕ). Finite (Y i j)) js → T (allFinite (row Y i js))
+pub row-finite : (Y : Matrix) (i : ℕ) (js : List ℕ) → Each (λ (j : ℕ). Finite (Y i j)) js → T (all_finite (row Y i js))
 unfolding row
 row-finite Y i [] h = none
 row-finite Y i (j ∷ js) ((r, m), h) = all_more (Y i j).re ((Y i j).im ∷ row Y i js) r (all_more (Y i j).im (row Y i js) m (row-finite Y i js h))
 
-pub rows-finite : (Y : Matrix) (is js : List ℕ) → Each (λ (i : ℕ). Each (λ (j : ℕ). Finite (Y i j)) js) is → T (allFinite (rows Y is js))
+pub rows-finite : (Y : Matrix) (is js : List ℕ) → Each (λ (i : ℕ). Each (λ (j : ℕ). Finite (Y i j)) js) is → T (all_finite (rows Y is js))
 unfolding rows
 rows-finite Y [] js h = none
 rows-finite Y (i ∷ is) js (k, h) = all_join (row Y i js) (rows Y is js) (row-finite Y i js k) (rows-finite Y is js h)
@@ -56,19 +56,19 @@ rows-finite Y (i ∷ is) js (k, h) = all_join (row Y i js) (rows Y is js) (row-f
 abbrev pub AllFinite : ℕ → ℕ → Matrix → Type 0
 AllFinite n w A = (i j : ℕ) → i < n → j < w → Finite (A i j)
 
-pub grid-finite : (n w : ℕ) (Y : Matrix) → AllFinite n w Y → T (allFinite (grid n w Y))
+pub grid-finite : (n w : ℕ) (Y : Matrix) → AllFinite n w Y → T (all_finite (grid n w Y))
 unfolding grid
-grid-finite n w Y h = rows-finite Y (up_to n) (up_to w) (each-upTo _ n (λ (i : ℕ) (x : i < n). each-upTo _ w (λ (j : ℕ) (y : j < w). h i j x y)))
+grid-finite n w Y h = rows-finite Y (up_to n) (up_to w) (each-up_to _ n (λ (i : ℕ) (x : i < n). each-up_to _ w (λ (j : ℕ) (y : j < w). h i j x y)))
 
-pub entries-slice : (n w : ℕ) (xs : List Float) → length xs ≡ 2 * (n * w) → AllFinite n w (entry_at w xs) → T (allFinite xs)
+pub entries-slice : (n w : ℕ) (xs : List Float) → length xs ≡ 2 * (n * w) → AllFinite n w (entry_at w xs) → T (all_finite xs)
 entries-slice n w xs long h =
-    subst (λ (l : List Float). T (allFinite l)) (sym (grid-ext n w (entry_at w xs) xs long (λ i j x y. refl))) (grid-finite n w (entry_at w xs) h)
+    subst (λ (l : List Float). T (all_finite l)) (sym (grid-ext n w (entry_at w xs) xs long (λ i j x y. refl))) (grid-finite n w (entry_at w xs) h)
 
-pub entry-finite : (xs : List Float) (i : ℕ) → 2 * i + 1 < length xs → T (allFinite xs) → Finite (entry xs i)
+pub entry-finite : (xs : List Float) (i : ℕ) → 2 * i + 1 < length xs → T (all_finite xs) → Finite (entry xs i)
 unfolding entry
 entry-finite xs i l h = (all-at xs (2 * i) (omega arith) h, all-at xs (2 * i + 1) l h)
 
-pub slice-entries : (n w : ℕ) (xs : List Float) → length xs ≡ 2 * (n * w) → T (allFinite xs) → AllFinite n w (entry_at w xs)
+pub slice-entries : (n w : ℕ) (xs : List Float) → length xs ≡ 2 * (n * w) → T (all_finite xs) → AllFinite n w (entry_at w xs)
 unfolding entry_at
 slice-entries n w xs long h i j x y = let within = entry-within n w i j x y in entry-finite xs (i * w + j) (omega arith) h
 

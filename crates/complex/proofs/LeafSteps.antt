@@ -1,6 +1,6 @@
 -- An operation that answers none is one whose numbers, as steps, meet 20.
 use Rattle.prelude.proofs.Prelude.{◌≡◌, refl, sym, ap, ◌∙◌, Bool, true, false, ◌&&◌, cond, true≢false, List, ◌++◌, ℕ, arith, Float}
-use Rattle.binary64.specs.Values.{allFinite}
+use Rattle.binary64.specs.Values.{all_finite}
 use Rattle.refusals.specs.Work.{Step, computing, meets}
 use Rattle.refusals.proofs.Work.{meets-numbers, numbers-met}
 use Rattle.complex.specs.declared.Complex.{Complex}
@@ -17,19 +17,19 @@ is_finite : Real → Bool
 is_finite (reals.Finite x) = true
 is_finite reals.NotFinite = false
 
-real-tells-not : (xs : List Float) (x : Float) → real xs x ≡ reals.NotFinite → allFinite xs ≡ false
+real-tells-not : (xs : List Float) (x : Float) → real xs x ≡ reals.NotFinite → all_finite xs ≡ false
 unfolding real is_finite
-real-tells-not xs x e = go (allFinite xs) e
+real-tells-not xs x e = go (all_finite xs) e
   where
     go : (b : Bool) → cond b (reals.Finite x) reals.NotFinite ≡ reals.NotFinite → b ≡ false
     go true h = absurd (true≢false (ap is_finite h))
     go false h = refl
 
-met-none : (m : ℕ) (xs : List Float) → allFinite xs ≡ false → meets m (computing xs) ≡ 20
+met-none : (m : ℕ) (xs : List Float) → all_finite xs ≡ false → meets m (computing xs) ≡ 20
 met-none m xs h = numbers-met m xs ∙ rw h
 
-none-met : (m : ℕ) (xs : List Float) → meets m (computing xs) ≡ 20 → allFinite xs ≡ false
-none-met m xs h = go (allFinite xs) (sym (numbers-met m xs) ∙ h)
+none-met : (m : ℕ) (xs : List Float) → meets m (computing xs) ≡ 20 → all_finite xs ≡ false
+none-met m xs h = go (all_finite xs) (sym (numbers-met m xs) ∙ h)
   where
     go : (b : Bool) → ◌≡◌ {A = ℕ} (cond b 0 20) 20 → b ≡ false
     go true e = absurd (omega arith)
@@ -37,7 +37,7 @@ none-met m xs h = go (allFinite xs) (sym (numbers-met m xs) ∙ h)
 
 met-through : (m : ℕ) (xs : List Float) (c : Complex) (rest : List Step) → meets m (computing xs ++ rest) ≡ through (pair xs c) (meets m rest)
 unfolding pair through
-met-through m xs c rest = meets-numbers m xs rest ∙ go (allFinite xs)
+met-through m xs c rest = meets-numbers m xs rest ∙ go (all_finite xs)
   where
     go : (b : Bool) → cond b (meets m rest) 20 ≡ through (cond b (pairs.Finite c) pairs.NotFinite) (meets m rest)
     go true = refl
@@ -46,9 +46,9 @@ met-through m xs c rest = meets-numbers m xs rest ∙ go (allFinite xs)
 pub passes_on : (xs : List Float) (c : Complex) (next : Complex → Pair) (ys : List Float) (d : Complex)
     → next c ≡ pair ys d → passing (pair xs c) next ≡ pair (xs ++ ys) d
 unfolding pair passing
-passes_on xs c next ys d e = go (allFinite xs) ∙ ap (λ (b : Bool). cond b (pairs.Finite d) pairs.NotFinite) (sym (all_both xs ys))
+passes_on xs c next ys d e = go (all_finite xs) ∙ ap (λ (b : Bool). cond b (pairs.Finite d) pairs.NotFinite) (sym (all_both xs ys))
   where
-    go : (b : Bool) → passing (cond b (pairs.Finite c) pairs.NotFinite) next ≡ cond (b && allFinite ys) (pairs.Finite d) pairs.NotFinite
+    go : (b : Bool) → passing (cond b (pairs.Finite c) pairs.NotFinite) next ≡ cond (b && all_finite ys) (pairs.Finite d) pairs.NotFinite
     go true = e
     go false = refl
 

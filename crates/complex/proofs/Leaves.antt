@@ -1,19 +1,19 @@
 -- What an operation answers by its result alone.
 use Rattle.prelude.proofs.Prelude.{◌≡◌, refl, sym, ap, ◌∙◌, Bool, true, false, ◌&&◌, cond, true≢false, List, [], ◌∷◌, Float, nan, inf, fin, neg, finite}
-use Rattle.binary64.specs.Values.{allFinite}
+use Rattle.binary64.specs.Values.{all_finite}
 use Rattle.complex.specs.declared.Complex.{Complex}
 use Rattle.complex.specs.declared.Pair.{Pair}
 use Rattle.complex.specs.declared.Pair.TheVariants as pairs
 use Rattle.complex.specs.declared.magnitude.Real.{Real}
 use Rattle.complex.specs.declared.magnitude.Real.TheVariants as reals
 use Rattle.complex.specs.Arithmetic.{cneg, sqmag, cdiv}
-use Rattle.complex.specs.Computed.{ofParts, ofQuotient}
+use Rattle.complex.specs.Computed.{of_parts, of_quotient}
 use Rattle.complex.specs.Magnitude.{abs}
 use Rattle.complex.specs.Leaves.{pair, real}
 use Rattle.complex.proofs.Sticky.{quotient-tells}
 
-pub parts-finite : (c : Complex) → allFinite (ofParts c) ≡ (finite c.re && finite c.im)
-unfolding allFinite
+pub parts-finite : (c : Complex) → all_finite (of_parts c) ≡ (finite c.re && finite c.im)
+unfolding all_finite
 parts-finite c = go (finite c.re) (finite c.im)
   where
     go : (a b : Bool) → (a && (b && true)) ≡ (a && b)
@@ -21,45 +21,45 @@ parts-finite c = go (finite c.re) (finite c.im)
     go true false = refl
     go false b = refl
 
-pub pair-finite : (xs : List Float) (c : Complex) → allFinite xs ≡ true → pairs.Finite c ≡ pair xs c
+pub pair-finite : (xs : List Float) (c : Complex) → all_finite xs ≡ true → pairs.Finite c ≡ pair xs c
 unfolding pair
 pair-finite xs c h = rw h
 
-pub pair-none : (xs : List Float) (c : Complex) → allFinite xs ≡ false → pairs.NotFinite ≡ pair xs c
+pub pair-none : (xs : List Float) (c : Complex) → all_finite xs ≡ false → pairs.NotFinite ≡ pair xs c
 unfolding pair
 pair-none xs c h = rw h
 
-pub pair_same : (xs ys : List Float) (c : Complex) → allFinite xs ≡ allFinite ys → pair xs c ≡ pair ys c
+pub pair_same : (xs ys : List Float) (c : Complex) → all_finite xs ≡ all_finite ys → pair xs c ≡ pair ys c
 unfolding pair
 pair_same xs ys c h = ap (λ (t : Bool). cond t (pairs.Finite c) pairs.NotFinite) h
 
 -- the answer of a test of the result z, which is c
-pub tested : (answer : Pair) (z c : Complex) (xs : List Float) → z ≡ c → answer ≡ pair (ofParts z) z → allFinite (ofParts c) ≡ allFinite xs
+pub tested : (answer : Pair) (z c : Complex) (xs : List Float) → z ≡ c → answer ≡ pair (of_parts z) z → all_finite (of_parts c) ≡ all_finite xs
     → answer ≡ pair xs c
-tested answer z c xs e h k = h ∙ ap (λ (y : Complex). pair (ofParts y) y) e ∙ pair_same (ofParts c) xs c k
+tested answer z c xs e h k = h ∙ ap (λ (y : Complex). pair (of_parts y) y) e ∙ pair_same (of_parts c) xs c k
 
-pub real-finite : (xs : List Float) (x : Float) → allFinite xs ≡ true → reals.Finite x ≡ real xs x
+pub real-finite : (xs : List Float) (x : Float) → all_finite xs ≡ true → reals.Finite x ≡ real xs x
 unfolding real
 real-finite xs x h = rw h
 
-pub real-none : (xs : List Float) (x : Float) → allFinite xs ≡ false → reals.NotFinite ≡ real xs x
+pub real-none : (xs : List Float) (x : Float) → all_finite xs ≡ false → reals.NotFinite ≡ real xs x
 unfolding real
 real-none xs x h = rw h
 
-pub real_same : (xs ys : List Float) (x : Float) → allFinite xs ≡ allFinite ys → real xs x ≡ real ys x
+pub real_same : (xs ys : List Float) (x : Float) → all_finite xs ≡ all_finite ys → real xs x ≡ real ys x
 unfolding real
 real_same xs ys x h = ap (λ (t : Bool). cond t (reals.Finite x) reals.NotFinite) h
 
 -- one number
-pub one-finite : (x : Float) → allFinite (x ∷ []) ≡ finite x
-unfolding allFinite
+pub one-finite : (x : Float) → all_finite (x ∷ []) ≡ finite x
+unfolding all_finite
 one-finite x = go (finite x)
   where
     go : (b : Bool) → (b && true) ≡ b
     go true = refl
     go false = refl
 
-pub real-tested : (answer : Real) (z x : Float) (xs : List Float) → z ≡ x → answer ≡ real (z ∷ []) z → finite x ≡ allFinite xs → answer ≡ real xs x
+pub real-tested : (answer : Real) (z x : Float) (xs : List Float) → z ≡ x → answer ≡ real (z ∷ []) z → finite x ≡ all_finite xs → answer ≡ real xs x
 real-tested answer z x xs e h k = h ∙ ap (λ (y : Float). real (y ∷ []) y) e ∙ real_same (x ∷ []) xs x (one-finite x ∙ k)
 
 -- a cleared sign
@@ -76,7 +76,7 @@ neg-finite nan = refl
 neg-finite (inf s) = refl
 neg-finite (fin s m e) = refl
 
-pub turned_same : (c : Complex) → allFinite (ofParts (cneg c)) ≡ allFinite (ofParts c)
+pub turned_same : (c : Complex) → all_finite (of_parts (cneg c)) ≡ all_finite (of_parts c)
 unfolding cneg
 turned_same c = parts-finite (cneg c) ∙ go (finite c.re) (finite c.im) (neg-finite c.re) (neg-finite c.im) ∙ sym (parts-finite c)
   where
@@ -84,12 +84,12 @@ turned_same c = parts-finite (cneg c) ∙ go (finite c.re) (finite c.im) (neg-fi
     go a b h k = rw (h, k)
 
 -- a quotient, by the test of the divisor's squared magnitude
-pub divided : (a b : Complex) → finite (sqmag b) ≡ true → allFinite (ofParts (cdiv a b)) ≡ allFinite (ofQuotient a b)
+pub divided : (a b : Complex) → finite (sqmag b) ≡ true → all_finite (of_parts (cdiv a b)) ≡ all_finite (of_quotient a b)
 divided a b h = go (finite (sqmag b)) h (quotient-tells a b)
   where
-    go : (t : Bool) → t ≡ true → (t && allFinite (ofParts (cdiv a b))) ≡ allFinite (ofQuotient a b) → allFinite (ofParts (cdiv a b)) ≡ allFinite (ofQuotient a b)
+    go : (t : Bool) → t ≡ true → (t && all_finite (of_parts (cdiv a b))) ≡ all_finite (of_quotient a b) → all_finite (of_parts (cdiv a b)) ≡ all_finite (of_quotient a b)
     go true h k = k
     go false h k = absurd (true≢false (sym h))
 
-pub undivided : (a b : Complex) → finite (sqmag b) ≡ false → allFinite (ofQuotient a b) ≡ false
-undivided a b h = sym (ap (λ (t : Bool). t && allFinite (ofParts (cdiv a b))) (sym h) ∙ quotient-tells a b)
+pub undivided : (a b : Complex) → finite (sqmag b) ≡ false → all_finite (of_quotient a b) ≡ false
+undivided a b h = sym (ap (λ (t : Bool). t && all_finite (of_parts (cdiv a b))) (sym h) ∙ quotient-tells a b)

@@ -1,20 +1,20 @@
 -- Magnitudes and roots computed by the checker, by their bits: what they are, and which of them are not finite.
 use Rattle.prelude.proofs.Prelude.{◌≡◌, refl, [], ◌∷◌, ℕ, binary64, add, mul, sum, round, units, odd, of_bits, of_fields, size, span, climb}
 use lib.Count.{count_trailing_zeros}
-use Rattle.binary64.specs.Values.{allFinite}
-use Rattle.binary64.specs.Root.{root, rootOf, radicand, half, wholeRoot, movedBack}
-use Rattle.refusals.specs.Refusals.{givenNotFinite, computedNotFinite, thenGiven, thenComputed}
+use Rattle.binary64.specs.Values.{all_finite}
+use Rattle.binary64.specs.Root.{root, root_of, radicand, half, whole_root, moved_back}
+use Rattle.refusals.specs.Refusals.{given_not_finite, computed_not_finite, then_given, then_computed}
 use Rattle.complex.specs.declared.Complex.{Complex}
 use Rattle.complex.specs.declared.magnitude.Real.{Real}
 use Rattle.complex.specs.declared.magnitude.Real.TheVariants.{Finite, NotFinite}
 use Rattle.complex.specs.Arithmetic.{sqmag}
-use Rattle.complex.specs.Computed.{ofParts}
+use Rattle.complex.specs.Computed.{of_parts}
 use Rattle.complex.specs.Magnitude.{magnitude}
-use Rattle.complex.specs.Leaves.{real, squareRoot, ofMagnitude, magnitudeOf, singleRefusal}
+use Rattle.complex.specs.Leaves.{real, square_root, of_magnitude, magnitude_of, single_refusal}
 
 -- to open this is to open all that the cases compute with
 opened : Unit {0}
-unfolding magnitude sqmag root rootOf radicand half wholeRoot movedBack odd size span climb count_trailing_zeros mul add sum round units of_bits of_fields allFinite thenGiven thenComputed real squareRoot magnitudeOf singleRefusal
+unfolding magnitude sqmag root root_of radicand half whole_root moved_back odd size span climb count_trailing_zeros mul add sum round units of_bits of_fields all_finite then_given then_computed real square_root magnitude_of single_refusal
 opened = tt
 
 -- the magnitude of (3, 4) is 5
@@ -26,10 +26,10 @@ three-four = refl
 
 -- the root of the number with these bits: the call's number, and its answer
 abbrev Root : ℕ → ℕ → Real → Type 0
-Root x number answer = (singleRefusal (of_bits binary64 x ∷ []) (root (of_bits binary64 x) ∷ []) ≡ number) × (squareRoot (of_bits binary64 x) ≡ answer)
+Root x number answer = (single_refusal (of_bits binary64 x ∷ []) (root (of_bits binary64 x) ∷ []) ≡ number) × (square_root (of_bits binary64 x) ≡ answer)
 
 -- of -1, of -0, and of infinity, which is refused as a number given
-root-of-minus-one : Root 0xbff0000000000000 computedNotFinite NotFinite
+root-of-minus-one : Root 0xbff0000000000000 computed_not_finite NotFinite
 unfolding opened
 root-of-minus-one = (refl, refl)
 
@@ -37,19 +37,19 @@ root-of-minus-zero : Root 0x8000000000000000 0 (Finite (of_bits binary64 0x80000
 unfolding opened
 root-of-minus-zero = (refl, refl)
 
-root-of-infinity : Root 0x7ff0000000000000 givenNotFinite NotFinite
+root-of-infinity : Root 0x7ff0000000000000 given_not_finite NotFinite
 unfolding opened
 root-of-infinity = (refl, refl)
 
 -- the magnitude of a real number, the same
-abbrev onLine : ℕ → Complex
-onLine x = record { re = of_bits binary64 x; im = of_bits binary64 0 }
+abbrev on_line : ℕ → Complex
+on_line x = record { re = of_bits binary64 x; im = of_bits binary64 0 }
 
 abbrev Magnitude : ℕ → ℕ → Real → Type 0
-Magnitude x number answer = (singleRefusal (ofParts (onLine x)) (ofMagnitude (onLine x)) ≡ number) × (magnitudeOf (onLine x) ≡ answer)
+Magnitude x number answer = (single_refusal (of_parts (on_line x)) (of_magnitude (on_line x)) ≡ number) × (magnitude_of (on_line x) ≡ answer)
 
 -- the square of 2^512 overflows, that of 2^511 does not
-magnitude-overflows : Magnitude 0x5ff0000000000000 computedNotFinite NotFinite
+magnitude-overflows : Magnitude 0x5ff0000000000000 computed_not_finite NotFinite
 unfolding opened
 magnitude-overflows = (refl, refl)
 

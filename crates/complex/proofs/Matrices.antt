@@ -7,7 +7,7 @@ use Rattle.complex.specs.Constants.{plus0}
 use Rattle.complex.specs.Entries.{entry}
 use Rattle.complex.specs.Matrices.{Matrix, entry_at, row, rows, grid, zeros}
 use Rattle.lists.specs.Buses.{up_to}
-use Rattle.lists.proofs.Order.{length-upTo, getD-upTo}
+use Rattle.lists.proofs.Order.{length-up_to, get_or-up_to}
 use Rattle.complex.proofs.Entries.{entry-take, entry-drop, entry-append-left, entry-append-right, entry_next, ext_entry}
 
 -- ---- +0s
@@ -16,9 +16,9 @@ pub length-zeros : (n : ℕ) → length (zeros n) ≡ n
 unfolding zeros
 length-zeros n = length-replicate n plus0
 
-pub getD-zeros : (n k : ℕ) → k < n → get_or (zeros n) k nan ≡ plus0
+pub get_or-zeros : (n k : ℕ) → k < n → get_or (zeros n) k nan ≡ plus0
 unfolding zeros
-getD-zeros n k h = get_or-replicate n k plus0 nan h
+get_or-zeros n k h = get_or-replicate n k plus0 nan h
 
 -- ---- a laid-out row
 
@@ -88,15 +88,15 @@ row-ext Y i js ys e h =
 
 pub length-grid : (n m : ℕ) (Y : Matrix) → length (grid n m Y) ≡ 2 * (n * m)
 unfolding grid
-length-grid n m Y = length-rows Y (up_to n) (up_to m) ∙ ap (λ (k : ℕ). 2 * (k * length (up_to m))) (length-upTo n) ∙ ap (λ (k : ℕ). 2 * (n * k)) (length-upTo m)
+length-grid n m Y = length-rows Y (up_to n) (up_to m) ∙ ap (λ (k : ℕ). 2 * (k * length (up_to m))) (length-up_to n) ∙ ap (λ (k : ℕ). 2 * (n * k)) (length-up_to m)
 
 pub entry-grid : (n m : ℕ) (Y : Matrix) (i j : ℕ) → i < n → j < m → entry_at m (grid n m Y) i j ≡ Y i j
 unfolding grid
 entry-grid n m Y i j h k =
-    ap (λ (w : ℕ). entry_at w (rows Y (up_to n) (up_to m)) i j) (sym (length-upTo m))
-    ∙ entry-rows Y (up_to n) (up_to m) i j (rw length-upTo h) (rw length-upTo k)
-    ∙ ap (λ (r : ℕ). Y r (get_or (up_to m) j 0)) (getD-upTo n i 0 h)
-    ∙ ap (Y i) (getD-upTo m j 0 k)
+    ap (λ (w : ℕ). entry_at w (rows Y (up_to n) (up_to m)) i j) (sym (length-up_to m))
+    ∙ entry-rows Y (up_to n) (up_to m) i j (rw length-up_to h) (rw length-up_to k)
+    ∙ ap (λ (r : ℕ). Y r (get_or (up_to m) j 0)) (get_or-up_to n i 0 h)
+    ∙ ap (Y i) (get_or-up_to m j 0 k)
 
 pub grid-ext : (n m : ℕ) (Y : Matrix) (ys : List Float) → length ys ≡ 2 * (n * m)
     → ((i j : ℕ) → i < n → j < m → entry_at m ys i j ≡ Y i j) → ys ≡ grid n m Y

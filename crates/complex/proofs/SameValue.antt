@@ -7,7 +7,7 @@ use lib.Ieee.{below}
 use lib.Ieee.Fits.{sub-fits, mul-fits, div-fits, up_pos}
 use lib.Ieee.Bits.{is_false}
 use Rattle.complex.specs.declared.Complex.{Complex}
-use Rattle.complex.specs.Constants.{divisionLimit}
+use Rattle.complex.specs.Constants.{division_limit}
 use Rattle.complex.specs.Arithmetic.{◌⊕◌, ◌⊖◌, ◌⊗◌, ◌⊘◌, cmul, cdiv, csub, sqmag}
 use Rattle.complex.specs.Values.{◌≈◌, NonZero}
 use Rattle.binary64.specs.Values.{is_zero}
@@ -148,10 +148,10 @@ sqmag-cong c = add_cong binary64 (fit _ _) (fit _ _) (fit _ _) (fit _ _) c.re-re
 pub record Divisor (b : Complex) : Type 0 where
   pub number : Number b
   pub sum : T (finite (sqmag b))
-  pub big : T (not (lt (sqmag b) divisionLimit))
+  pub big : T (not (lt (sqmag b) division_limit))
 
-limit_is : divisionLimit ≡ fin false 0x156e1fc2f8f359 (negsuc 1048)
-unfolding divisionLimit of_bits
+limit_is : division_limit ≡ fin false 0x156e1fc2f8f359 (negsuc 1048)
+unfolding division_limit of_bits
 limit_is = refl
 
 zero-lt : (x : Float) (n : ℕ) (d : ℤ) → 0 < n → Zero x → T (lt x (fin false n d))
@@ -168,18 +168,18 @@ zero-lt (fin s zero e) n d h z = simp zero-mul (go s)
     go true = lt→ltb 0 (0 + n * up d * down e) (rw zero-add above)
     go false = lt→ltb 0 (n * up d * down e) above
 
-zero-small : (x : Float) → Zero x → T (lt x divisionLimit)
+zero-small : (x : Float) → Zero x → T (lt x division_limit)
 zero-small x z = rw limit_is (zero-lt x 0x156e1fc2f8f359 (negsuc 1048) (lit< tt) z)
 
 pub not-zero : {b : Complex} → Divisor b → Zero (sqmag b) → ⊥
-not-zero {b} d z = T_not (lt (sqmag b) divisionLimit) d.big (zero-small (sqmag b) z)
+not-zero {b} d z = T_not (lt (sqmag b) division_limit) d.big (zero-small (sqmag b) z)
 
 quotient : Complex → Complex → Complex
 quotient a b = record { re = (a.re ⊗ b.re ⊕ a.im ⊗ b.im) ⊘ sqmag b; im = (a.im ⊗ b.re ⊖ a.re ⊗ b.im) ⊘ sqmag b }
 
 cdiv-is : (a b : Complex) → Divisor b → cdiv a b ≡ quotient a b
 unfolding cdiv quotient
-cdiv-is a b d = rw (is_false (lt (sqmag b) divisionLimit) d.big)
+cdiv-is a b d = rw (is_false (lt (sqmag b) division_limit) d.big)
 
 pub cdiv-cong : {a a' b b' : Complex} → Divisor b → Divisor b' → Congruent a a' b b' → sqmag b ≐ sqmag b' → cdiv a b ≋ cdiv a' b'
 unfolding quotient

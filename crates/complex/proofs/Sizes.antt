@@ -5,11 +5,11 @@ use Rattle.prelude.proofs.Prelude.{◌≡◌, refl, sym, ap, subst, ◌∙◌, t
 use native.Mathlib.Nat.{le_of_lt, mul-one, one-mul, two-mul}
 use lib.Pow.{pow-add, pow_mono, pow-lt}
 use lib.IntN.{ℤ, pos, negsuc}
-use Rattle.binary64.specs.Values.{allFinite}
+use Rattle.binary64.specs.Values.{all_finite}
 use Rattle.binary64.proofs.Magnitudes.{Within, Held, Beyond, within-finite, mul-within, add-within, sub_within, div-within}
 use Rattle.complex.specs.declared.Complex.{Complex}
-use Rattle.complex.specs.Arithmetic.{◌⊕◌, ◌⊖◌, ◌⊗◌, ◌⊘◌, tooSmall, cadd, csub, cmul, cdiv, sqmag}
-use Rattle.complex.specs.Inner.Ordinary.{ordinary, allOrdinary, ordinaryLimit, ordinarySquare}
+use Rattle.complex.specs.Arithmetic.{◌⊕◌, ◌⊖◌, ◌⊗◌, ◌⊘◌, too_small, cadd, csub, cmul, cdiv, sqmag}
+use Rattle.complex.specs.Inner.Ordinary.{ordinary, all_ordinary, ordinary_limit, ordinary_square}
 use Rattle.complex.proofs.Finite.{none, all_more}
 
 abbrev pub In : ℕ → Float → Type 0
@@ -71,7 +71,7 @@ cmul-in a b k x y e l (p, q) (u, v) = (
   add-in (a + b) k (x.re ⊗ y.im) (x.im ⊗ y.re) e l (mul_in a b (a + b) x.re y.im refl (omega arith) p v) (mul_in a b (a + b) x.im y.re refl (omega arith) q u),
 )
 
-pub cdiv-in : (a b d k : ℕ) (x y : Complex) → a + b + 1 + d ≡ k → k ≤ 1023 → Both a x → Both b y → tooSmall y ≡ false → Beyond (2 ^ d) (sqmag y) → Both k (cdiv x y)
+pub cdiv-in : (a b d k : ℕ) (x y : Complex) → a + b + 1 + d ≡ k → k ≤ 1023 → Both a x → Both b y → too_small y ≡ false → Beyond (2 ^ d) (sqmag y) → Both k (cdiv x y)
 unfolding cdiv
 cdiv-in a b d k x y e l (p, q) (u, v) big far =
     rw big (
@@ -103,20 +103,20 @@ between_in k (fin false m e) h = within-power k m e (and_l (ltb (m * up e * 1) (
 between_in k (fin true m e) h = within-power k m e (and_r (ltb 0 (m * up e * 1 + 1 * 2 ^ k * down e)) (ltb (m * up e * 1) (1 * 2 ^ k * down e)) h)
 
 pub ordinary-in : (x : Float) → T (ordinary x) → In 200 x
-unfolding ordinary ordinaryLimit of_bits neg
+unfolding ordinary ordinary_limit of_bits neg
 ordinary-in x h = between_in 200 x h
 
-pub ordinary-at : (xs : List Float) (i : ℕ) → i < length xs → T (allOrdinary xs) → In 200 (get_or xs i nan)
-unfolding allOrdinary
+pub ordinary-at : (xs : List Float) (i : ℕ) → i < length xs → T (all_ordinary xs) → In 200 (get_or xs i nan)
+unfolding all_ordinary
 ordinary-at [] i l h = absurd (omega arith)
-ordinary-at (x ∷ xs) zero l h = ordinary-in x (and_l (ordinary x) (allOrdinary xs) h)
-ordinary-at (x ∷ xs) (suc i) l h = ordinary-at xs i (omega arith) (and_r (ordinary x) (allOrdinary xs) h)
+ordinary-at (x ∷ xs) zero l h = ordinary-in x (and_l (ordinary x) (all_ordinary xs) h)
+ordinary-at (x ∷ xs) (suc i) l h = ordinary-at xs i (omega arith) (and_r (ordinary x) (all_ordinary xs) h)
 
-pub ordinary-finite : (xs : List Float) → T (allOrdinary xs) → T (allFinite xs)
-unfolding allOrdinary
+pub ordinary-finite : (xs : List Float) → T (all_ordinary xs) → T (all_finite xs)
+unfolding all_ordinary
 ordinary-finite [] h = none
 ordinary-finite (x ∷ xs) h =
-    all_more x xs (in-finite 200 x (ordinary-in x (and_l (ordinary x) (allOrdinary xs) h))) (ordinary-finite xs (and_r (ordinary x) (allOrdinary xs) h))
+    all_more x xs (in-finite 200 x (ordinary-in x (and_l (ordinary x) (all_ordinary xs) h))) (ordinary-finite xs (and_r (ordinary x) (all_ordinary xs) h))
 
 -- finite, and not below 2 ^ -d
 not-below : (d : ℕ) (x : Float) → T (finite x) → lt x (fin false 1 (negsuc d)) ≡ false → Beyond (2 ^ suc d) x
@@ -131,6 +131,6 @@ not-below d (fin true m e) f h = nothing-below (m * up e * 2 ^ suc d) (down e) (
     nothing-below : (x y : ℕ) → 0 < y → x + 1 * 1 * y ≤ 0 → Beyond (2 ^ suc d) (fin true m e)
     nothing-below x y p k = absurd (omega arith)
 
-pub ordinary-beyond : (x : Float) → T (finite x) → lt x ordinarySquare ≡ false → Beyond (2 ^ 400) x
-unfolding ordinarySquare of_bits
+pub ordinary-beyond : (x : Float) → T (finite x) → lt x ordinary_square ≡ false → Beyond (2 ^ 400) x
+unfolding ordinary_square of_bits
 ordinary-beyond x f h = not-below 399 x f h

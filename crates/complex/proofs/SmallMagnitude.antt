@@ -4,7 +4,7 @@ use native.Mathlib.Nat.{le_of_mul-le-mul_right}
 use lib.IntN.{ℤ}
 use Rattle.binary64.proofs.Magnitudes.{Beyond}
 use Rattle.complex.specs.Arithmetic.{◌⊘◌}
-use Rattle.complex.specs.Constants.{smallMagnitude}
+use Rattle.complex.specs.Constants.{small_magnitude}
 use Rattle.complex.specs.Magnitude.{abs}
 use Rattle.complex.proofs.Sizes.{In, div-in}
 
@@ -19,17 +19,17 @@ least D N h =
     le_of_mul-le-mul_right {k = 2 ^ 52} (le_trans low (le_trans h (le_of_eq same))) (lit< tt)
 
 -- not below it in size: at least 2 ^ -40
-strong : (x : Float) → T (finite x) → lt (abs x) smallMagnitude ≡ false → Beyond (2 ^ 40) x
-unfolding lt abs smallMagnitude of_bits
+strong : (x : Float) → T (finite x) → lt (abs x) small_magnitude ≡ false → Beyond (2 ^ 40) x
+unfolding lt abs small_magnitude of_bits
 strong nan f h = absurd f
 strong (inf s) f h = absurd f
 strong (fin s m e) f h = least (down e) (m * up e) (ltb-false (m * up e * 2 ^ 92) (digits * 1 * down e) h)
 
 -- so what it divides grows by 2 ^ 40 at most
-pub over-strong : (a k : ℕ) (t x : Float) → a + 40 ≡ k → k ≤ 1023 → In a t → T (finite x) → lt (abs x) smallMagnitude ≡ false → In k (t ⊘ x)
+pub over-strong : (a k : ℕ) (t x : Float) → a + 40 ≡ k → k ≤ 1023 → In a t → T (finite x) → lt (abs x) small_magnitude ≡ false → In k (t ⊘ x)
 over-strong a k t x e l h f w = div-in a 40 k t x e l h (strong x f w)
 
 -- at least 2 ^ -39, and so above it
-pub above-small : (m : ℕ) (e : ℤ) → down e ≤ m * up e * 2 ^ 39 → lt smallMagnitude (fin false m e) ≡ true
-unfolding lt smallMagnitude of_bits
+pub above-small : (m : ℕ) (e : ℤ) → down e ≤ m * up e * 2 ^ 39 → lt small_magnitude (fin false m e) ≡ true
+unfolding lt small_magnitude of_bits
 above-small m e h = lt-ltb (digits * 1 * down e) (m * up e * 2 ^ 92) (omega (arith, down_pos e))

@@ -3,8 +3,8 @@ use Rattle.prelude.proofs.Prelude.{true, false, T, Float, nan, inf, fin, binary6
 use Rattle.binary64.proofs.Order.{NotNegative, square-not-negative, sum-not-negative}
 use Rattle.complex.specs.declared.Complex.{Complex}
 use Rattle.complex.specs.Arithmetic.{◌⊗◌, sqmag}
-use Rattle.complex.specs.Computed.{ofSqmag}
-use Rattle.binary64.specs.Values.{allFinite}
+use Rattle.complex.specs.Computed.{of_sqmag}
+use Rattle.binary64.specs.Values.{all_finite}
 use Rattle.complex.proofs.Sticky.{square-finite}
 
 finite-below : (x y : Float) → NotNegative x → T (lt x y) → T (finite x)
@@ -17,7 +17,7 @@ finite-below (inf false) (fin u n d) h t = t
 finite-below (fin s m e) y h t = tt
 
 -- the numbers in a squared magnitude that is below one
-pub sqmag-below : (b : Complex) (y : Float) → T (lt (sqmag b) y) → T (allFinite (ofSqmag b))
+pub sqmag-below : (b : Complex) (y : Float) → T (lt (sqmag b) y) → T (all_finite (of_sqmag b))
 unfolding sqmag
 sqmag-below b y h =
     let p = square-not-negative binary64 b.re in

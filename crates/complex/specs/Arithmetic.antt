@@ -3,7 +3,7 @@ use Rattle.std.specs.Prelude.{Bool, false, cond, Float}
 use Rattle.std.specs.Float.{inf, binary64}
 use Rattle.std.specs.Float.Ieee.{add, sub, mul, div, neg, lt}
 use Rattle.complex.specs.declared.Complex.{Complex}
-use Rattle.complex.specs.Constants.{plus0, one, divisionLimit}
+use Rattle.complex.specs.Constants.{plus0, one, division_limit}
 
 infixl 60 ◌⊕◌
 infixl 60 ◌⊖◌
@@ -22,12 +22,12 @@ abbrev pub ◌⊘◌ : Float → Float → Float
 x ⊘ y = div binary64 x y
 
 -- the complex number of these two parts
-abbrev pub complexOf : Float → Float → Complex
-complexOf x y = record { re = x; im = y }
+abbrev pub complex_of : Float → Float → Complex
+complex_of x y = record { re = x; im = y }
 
 -- +0 in both parts
 abbrev pub czero : Complex
-czero = complexOf plus0 plus0
+czero = complex_of plus0 plus0
 
 unfoldable pub cadd : Complex → Complex → Complex
 cadd a b = record { re = a.re ⊕ b.re; im = a.im ⊕ b.im }
@@ -47,24 +47,24 @@ unfoldable pub sqmag : Complex → Float
 sqmag b = b.re ⊗ b.re ⊕ b.im ⊗ b.im
 
 -- too small to divide by: the squared magnitude is below 1e-300. A NaN is not.
-abbrev pub tooSmall : Complex → Bool
-tooSmall b = lt (sqmag b) divisionLimit
+abbrev pub too_small : Complex → Bool
+too_small b = lt (sqmag b) division_limit
 
 -- a divisor that is too small gives (inf, inf)
 unfoldable pub cdiv : Complex → Complex → Complex
-unfolding sqmag divisionLimit
+unfolding sqmag division_limit
 cdiv a b =
-    cond (tooSmall b)
+    cond (too_small b)
     (record { re = inf false; im = inf false })
     (record { re = (a.re ⊗ b.re ⊕ a.im ⊗ b.im) ⊘ sqmag b; im = (a.im ⊗ b.re ⊖ a.re ⊗ b.im) ⊘ sqmag b })
 
 -- both parts divided by a real number
 unfoldable pub divided_by : Complex → Float → Complex
-divided_by a v = complexOf (a.re ⊘ v) (a.im ⊘ v)
+divided_by a v = complex_of (a.re ⊘ v) (a.im ⊘ v)
 
 abbrev pub unit : Complex
 unfolding one plus0
 unit = record { re = one; im = plus0 }
 
-unfoldable pub complexInv : Complex → Complex
-complexInv b = cdiv unit b
+unfoldable pub complex_inv : Complex → Complex
+complex_inv b = cdiv unit b

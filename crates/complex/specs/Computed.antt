@@ -8,23 +8,23 @@ unfoldable pub each : (ℕ → List Float) → ℕ → List Float
 each F zero = []
 each F (suc m) = each F m ++ F m
 
-abbrev pub ofParts : Complex → List Float
-ofParts c = c.re ∷ c.im ∷ []
+abbrev pub of_parts : Complex → List Float
+of_parts c = c.re ∷ c.im ∷ []
 
-abbrev pub ofSum : Complex → Complex → List Float
-ofSum a b = ofParts (cadd a b)
+abbrev pub of_sum : Complex → Complex → List Float
+of_sum a b = of_parts (cadd a b)
 
-abbrev pub ofDifference : Complex → Complex → List Float
-ofDifference a b = ofParts (csub a b)
+abbrev pub of_difference : Complex → Complex → List Float
+of_difference a b = of_parts (csub a b)
 
-abbrev pub ofProduct : Complex → Complex → List Float
-ofProduct a b = a.re ⊗ b.re ∷ a.im ⊗ b.im ∷ (cmul a b).re ∷ a.re ⊗ b.im ∷ a.im ⊗ b.re ∷ (cmul a b).im ∷ []
+abbrev pub of_product : Complex → Complex → List Float
+of_product a b = a.re ⊗ b.re ∷ a.im ⊗ b.im ∷ (cmul a b).re ∷ a.re ⊗ b.im ∷ a.im ⊗ b.re ∷ (cmul a b).im ∷ []
 
-abbrev pub ofSqmag : Complex → List Float
-ofSqmag b = b.re ⊗ b.re ∷ b.im ⊗ b.im ∷ sqmag b ∷ []
+abbrev pub of_sqmag : Complex → List Float
+of_sqmag b = b.re ⊗ b.re ∷ b.im ⊗ b.im ∷ sqmag b ∷ []
 
-abbrev pub ofQuotient : Complex → Complex → List Float
-ofQuotient a b =
-    ofSqmag b
+abbrev pub of_quotient : Complex → Complex → List Float
+of_quotient a b =
+    of_sqmag b
     ++ (a.re ⊗ b.re ∷ a.im ⊗ b.im ∷ (a.re ⊗ b.re ⊕ a.im ⊗ b.im) ∷ (cdiv a b).re
     ∷ a.im ⊗ b.re ∷ a.re ⊗ b.im ∷ (a.im ⊗ b.re ⊖ a.re ⊗ b.im) ∷ (cdiv a b).im ∷ [])

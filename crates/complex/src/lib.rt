@@ -39,7 +39,7 @@ pub fn both_finite(c: Complex) -> bool
 
 // The number itself, where both parts are finite.
 fn if_finite(c: Complex) -> Pair
-    ensures { result ≡ leaves.pair (computed.ofParts c) c }
+    ensures { result ≡ leaves.pair (computed.of_parts c) c }
 {
     if both_finite(c) {
         return Pair::Finite(c);

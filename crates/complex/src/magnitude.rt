@@ -31,14 +31,14 @@ pub fn abs(x: f64) -> Real
 
 // The binary64 nearest the exact root; none of a negative number, but of -0, whose root is -0.
 pub fn sqrt(x: f64) -> Real
-    ensures { result ≡ leaves.squareRoot x }
+    ensures { result ≡ leaves.square_root x }
 {
     if_finite(binary64::sqrt(x))
 }
 
 // The magnitude of c: the root of re re + im im, each step rounded.
 pub fn magnitude(c: Complex) -> Real
-    ensures { result ≡ leaves.magnitudeOf c }
+    ensures { result ≡ leaves.magnitude_of c }
 {
     if_finite(raw::magnitude(c))
 }

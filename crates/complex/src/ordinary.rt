@@ -20,7 +20,7 @@ pub fn ordinary(x: f64) -> bool
 
 // Whether all the numbers are below 2^200 in absolute value. The loop does not end early: so it takes several numbers at a time.
 pub fn all_ordinary(s: &[f64]) -> bool
-    ensures { result ≡ spec.allOrdinary s.now }
+    ensures { result ≡ spec.all_ordinary s.now }
 {
     let mut all = true;
     let mut i = 0;

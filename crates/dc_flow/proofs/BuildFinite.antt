@@ -5,18 +5,18 @@ use native.Mathlib.Nat.{add-mul, one-mul, lt_of_le_of_lt}
 use lib.ListN.{get_or-replicate}
 use lib.Arith.{digits_lt}
 use borrow.Author.Tests.{eqb-false}
-use Rattle.binary64.specs.Values.{allFinite}
+use Rattle.binary64.specs.Values.{all_finite}
 use Rattle.binary64.proofs.Magnitudes.{Within, Held, within-finite, add-within, sub_within}
 use Rattle.complex.proofs.Sizes.{In, in-finite, wider}
 use Rattle.complex.proofs.SmallMagnitude.{over-strong}
-use Rattle.complex.specs.{plus0, one, smallMagnitude, abs, zeros, ◌⊕◌, ◌⊖◌, ◌⊘◌}
+use Rattle.complex.specs.{plus0, one, small_magnitude, abs, zeros, ◌⊕◌, ◌⊖◌, ◌⊘◌}
 use Rattle.complex.proofs.Finite.{none, all_more, all-at, each-finite}
 use Rattle.complex.proofs.Matrices.{length-zeros}
 use Rattle.refusals.specs.Refusals.{limit}
 use Rattle.refusals.proofs.Numbers.{given-all, computed-all}
 use Rattle.lists.specs.Buses.{all_below}
 use Rattle.lists.proofs.Ends.{below_at}
-use Rattle.dc_flow.specs.Dc.{plus, minus, joined, addBranch, susceptances, ofJoined, ofBranch, ofBuild, ofLodf, outage, realGrid, buildShapeRefusal, buildRefusal, builtOutput, lodfShapeRefusal, lodfRefusal, lodfOutput, DcFinite}
+use Rattle.dc_flow.specs.Dc.{plus, minus, joined, add_branch, susceptances, of_joined, of_branch, of_build, of_lodf, outage, real_grid, build_shape_refusal, build_refusal, built_output, lodf_shape_refusal, lodf_refusal, lodf_output, DcFinite}
 use Rattle.dc_flow.proofs.OutageLaws.{to_below}
 use Rattle.dc_flow.proofs.OutageFinite.{one_in, factors-finite}
 use Rattle.dc_flow.proofs.Accepted.{build-accepted, lodf-computed}
@@ -73,8 +73,8 @@ times-finite c x h = within-finite (c * 2 ^ 40) x h
 -- a branch's four entries, one after the other
 join-finite : (c : ℕ) → c + 4 ≤ 2048 → (b : List Float) (f t i j : ℕ) (s : Float) → AllTimes c b → In 40 s
     → f + i < length b → t + j < length b → f + j < length b → t + i < length b
-    → T (allFinite (ofJoined b f t i j s)) × AllTimes (c + 4) (joined b f t i j s)
-unfolding ofJoined joined
+    → T (all_finite (of_joined b f t i j s)) × AllTimes (c + 4) (joined b f t i j s)
+unfolding of_joined joined
 join-finite c few b f t i j s h g ff tj fj ti =
     let b1 = plus b (f + i) s in
     let b2 = plus b1 (t + j) s in
@@ -93,15 +93,15 @@ join-finite c few b f t i j s h g ff tj fj ti =
 
 -- one branch: of reactance x, between two buses
 branch-finite : (c n : ℕ) → c + 4 ≤ 2048 → (b : List Float) (i j : ℕ) (x : Float) → length b ≡ n * n → i < n → j < n → T (finite x) → AllTimes c b
-    → T (allFinite (ofBranch n b i j x)) × AllTimes (c + 4) (addBranch n b i j x)
-unfolding ofBranch addBranch
-branch-finite c n few b i j x size l k f h = go (lt (abs x) smallMagnitude) refl
+    → T (all_finite (of_branch n b i j x)) × AllTimes (c + 4) (add_branch n b i j x)
+unfolding of_branch add_branch
+branch-finite c n few b i j x size l k f h = go (lt (abs x) small_magnitude) refl
   where
     s : Float
     s = one ⊘ x
 
-    go : (weak : Bool) → lt (abs x) smallMagnitude ≡ weak
-        → T (allFinite (cond weak [] (one ⊘ x ∷ ofJoined b (i * n) (j * n) i j (one ⊘ x)))) × AllTimes (c + 4) (cond weak b (joined b (i * n) (j * n) i j (one ⊘ x)))
+    go : (weak : Bool) → lt (abs x) small_magnitude ≡ weak
+        → T (all_finite (cond weak [] (one ⊘ x ∷ of_joined b (i * n) (j * n) i j (one ⊘ x)))) × AllTimes (c + 4) (cond weak b (joined b (i * n) (j * n) i j (one ⊘ x)))
     go true w = (none, λ p q. more c (c + 4) (get_or b p nan) (omega arith) (h p q))
     go false w =
         let share : In 40 (one ⊘ x) = over-strong 0 40 one x refl (lit≤ tt) one_in f w in
@@ -112,9 +112,9 @@ length-joined : (b : List Float) (f t i j : ℕ) (s : Float) → length (joined 
 unfolding joined
 length-joined b f t i j s = rw (length-set, length-set, length-set, length-set)
 
-length-branch : (n : ℕ) (b : List Float) (i j : ℕ) (x : Float) → length (addBranch n b i j x) ≡ length b
-unfolding addBranch
-length-branch n b i j x = go (lt (abs x) smallMagnitude)
+length-branch : (n : ℕ) (b : List Float) (i j : ℕ) (x : Float) → length (add_branch n b i j x) ≡ length b
+unfolding add_branch
+length-branch n b i j x = go (lt (abs x) small_magnitude)
   where
     go : (weak : Bool) → length (cond weak b (joined b (i * n) (j * n) i j (one ⊘ x))) ≡ length b
     go true = refl
@@ -124,20 +124,20 @@ zeros-times : (k : ℕ) → AllTimes 0 (zeros k)
 unfolding zeros plus0 of_bits
 zeros-times k p l = subst (Times 0) (sym (get_or-replicate k p plus0 nan (rw length-replicate at l))) (lit≤ tt)
 
-all-times-finite : (c : ℕ) (b : List Float) → AllTimes c b → T (allFinite b)
+all-times-finite : (c : ℕ) (b : List Float) → AllTimes c b → T (all_finite b)
 all-times-finite c [] h = none
 all-times-finite c (x ∷ b) h = all_more x b (times-finite c x (h 0 (omega arith))) (all-times-finite c b (λ p l. h (suc p) (omega arith)))
 
 module _ (n : ℕ) (froms tos : List ℕ) (xs : List Float) (lists : (length tos ≡ length froms) × (length xs ≡ length froms))
-    (below : T (all_below n froms) × T (all_below n tos)) (few : length froms ≤ limit) (given : T (allFinite xs)) where
+    (below : T (all_below n froms) × T (all_below n tos)) (few : length froms ≤ limit) (given : T (all_finite xs)) where
   length-susceptances : (k : ℕ) → length (susceptances n froms tos xs k) ≡ n * n
   unfolding susceptances
   length-susceptances zero = length-zeros (n * n)
   length-susceptances (suc k) = length-branch n (susceptances n froms tos xs k) (get_or froms k 0) (get_or tos k 0) (get_or xs k nan) ∙ length-susceptances k
 
   at-branch : (k : ℕ) → k < length froms → AllTimes (4 * k) (susceptances n froms tos xs k)
-      → T (allFinite (ofBranch n (susceptances n froms tos xs k) (get_or froms k 0) (get_or tos k 0) (get_or xs k nan)))
-      × AllTimes (4 * k + 4) (addBranch n (susceptances n froms tos xs k) (get_or froms k 0) (get_or tos k 0) (get_or xs k nan))
+      → T (all_finite (of_branch n (susceptances n froms tos xs k) (get_or froms k 0) (get_or tos k 0) (get_or xs k nan)))
+      × AllTimes (4 * k + 4) (add_branch n (susceptances n froms tos xs k) (get_or froms k 0) (get_or tos k 0) (get_or xs k nan))
   at-branch k h t =
       branch-finite (4 * k) n (omega arith) (susceptances n froms tos xs k) (get_or froms k 0) (get_or tos k 0) (get_or xs k nan) (length-susceptances k)
       (below_at n froms k below.0 h) (to_below n k froms tos below.1 lists.0 h) (all-at xs k (omega arith) given) t
@@ -149,38 +149,38 @@ module _ (n : ℕ) (froms tos : List ℕ) (xs : List Float) (lists : (length tos
       let e : 4 * k + 4 ≡ 4 * suc k = omega arith in
       subst (λ (c : ℕ). AllTimes c (susceptances n froms tos xs (suc k))) e (at-branch k (omega arith) (entries-times k (omega arith))).1
 
-  pub numbers-finite : T (allFinite (ofBuild n froms tos xs))
-  unfolding ofBuild
+  pub numbers-finite : T (all_finite (of_build n froms tos xs))
+  unfolding of_build
   numbers-finite = each-finite _ (length froms) (λ k h. (at-branch k h (entries-times k (omega arith))).0)
 
-  pub entries-finite : T (allFinite (susceptances n froms tos xs (length froms)))
+  pub entries-finite : T (all_finite (susceptances n froms tos xs (length froms)))
   entries-finite = all-times-finite (4 * length froms) _ (entries-times (length froms) (omega arith))
 
-build-outputs-finite : (n : ℕ) (froms tos : List ℕ) (xs held : List Float) → buildRefusal n froms tos xs (length held) ≡ 0
-    → T (allFinite (builtOutput n froms tos xs held))
-unfolding builtOutput
+build-outputs-finite : (n : ℕ) (froms tos : List ℕ) (xs held : List Float) → build_refusal n froms tos xs (length held) ≡ 0
+    → T (all_finite (built_output n froms tos xs held))
+unfolding built_output
 build-outputs-finite n froms tos xs held h =
     let ((_, lists, below, few), given) = build-accepted 0 n froms tos xs (length held) (sym h) refl in
     rw h (entries-finite n froms tos xs lists below few given)
 
-lodf-outputs-finite : (n : ℕ) (ptdf : List Float) (froms tos : List ℕ) (held : List Float) → lodfRefusal n ptdf froms tos (length held) ≡ 0
-    → T (allFinite (lodfOutput n ptdf froms tos held))
-unfolding lodfOutput
+lodf-outputs-finite : (n : ℕ) (ptdf : List Float) (froms tos : List ℕ) (held : List Float) → lodf_refusal n ptdf froms tos (length held) ≡ 0
+    → T (all_finite (lodf_output n ptdf froms tos held))
+unfolding lodf_output
 lodf-outputs-finite n ptdf froms tos held h = rw h (factors-finite n ptdf froms tos (lodf-computed 0 n froms tos ptdf (length held) (sym h) refl))
 
-build-accepts : (n : ℕ) (froms tos : List ℕ) (xs held : List Float) → buildShapeRefusal n froms tos xs (length held) ≡ 0 → T (allFinite xs)
-    → (buildRefusal n froms tos xs (length held) ≡ 0) × (builtOutput n froms tos xs held ≡ susceptances n froms tos xs (length froms))
-unfolding buildRefusal builtOutput
+build-accepts : (n : ℕ) (froms tos : List ℕ) (xs held : List Float) → build_shape_refusal n froms tos xs (length held) ≡ 0 → T (all_finite xs)
+    → (build_refusal n froms tos xs (length held) ≡ 0) × (built_output n froms tos xs held ≡ susceptances n froms tos xs (length froms))
+unfolding build_refusal built_output
 build-accepts n froms tos xs held shape given =
-    let z = sym (given-all 0 (buildShapeRefusal n froms tos xs (length held)) xs (sym shape) refl (is_true (allFinite xs) given)) in (z, rw z)
+    let z = sym (given-all 0 (build_shape_refusal n froms tos xs (length held)) xs (sym shape) refl (is_true (all_finite xs) given)) in (z, rw z)
 
-lodf-accepts : (n : ℕ) (ptdf : List Float) (froms tos : List ℕ) (held : List Float) → lodfShapeRefusal n (length ptdf) froms tos (length held) ≡ 0
-    → T (allFinite ptdf) → T (allFinite (ofLodf n ptdf froms tos))
-    → (lodfRefusal n ptdf froms tos (length held) ≡ 0) × (lodfOutput n ptdf froms tos held ≡ realGrid (outage n ptdf froms tos) (length froms) (length froms))
-unfolding lodfRefusal lodfOutput
+lodf-accepts : (n : ℕ) (ptdf : List Float) (froms tos : List ℕ) (held : List Float) → lodf_shape_refusal n (length ptdf) froms tos (length held) ≡ 0
+    → T (all_finite ptdf) → T (all_finite (of_lodf n ptdf froms tos))
+    → (lodf_refusal n ptdf froms tos (length held) ≡ 0) × (lodf_output n ptdf froms tos held ≡ real_grid (outage n ptdf froms tos) (length froms) (length froms))
+unfolding lodf_refusal lodf_output
 lodf-accepts n ptdf froms tos held shape given computed =
-    let told = given-all 0 (lodfShapeRefusal n (length ptdf) froms tos (length held)) ptdf (sym shape) refl (is_true (allFinite ptdf) given) in
-    let z = sym (computed-all 0 _ (ofLodf n ptdf froms tos) told refl (is_true (allFinite (ofLodf n ptdf froms tos)) computed)) in (z, rw z)
+    let told = given-all 0 (lodf_shape_refusal n (length ptdf) froms tos (length held)) ptdf (sym shape) refl (is_true (all_finite ptdf) given) in
+    let z = sym (computed-all 0 _ (of_lodf n ptdf froms tos) told refl (is_true (all_finite (of_lodf n ptdf froms tos)) computed)) in (z, rw z)
 
 pub dc-finite : DcFinite
 dc-finite =

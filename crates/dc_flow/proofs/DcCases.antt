@@ -1,12 +1,12 @@
 -- The DC definitions computed by the checker on small cases.
 use Rattle.prelude.proofs.Prelude.{◌≡◌, refl, T, length, List, [], ◌∷◌, ℕ, ◌+◌, replicate, Float, nan, inf, true, binary64, of_bits, of_fields, neg, add, sub, div, sum, round, units, odd, lt, size, span, climb}
 use lib.Count.{count_trailing_zeros}
-use Rattle.complex.specs.{each, plus0, one, smallMagnitude, abs, zeros}
+use Rattle.complex.specs.{each, plus0, one, small_magnitude, abs, zeros}
 use Rattle.lists.specs.Buses.{up_to, others, all_below}
-use Rattle.binary64.specs.Values.{allFinite}
-use Rattle.refusals.specs.Refusals.{limit, thenGiven, thenComputed}
+use Rattle.binary64.specs.Values.{all_finite}
+use Rattle.refusals.specs.Refusals.{limit, then_given, then_computed}
 use Rattle.dc_flow.specs.declared.Retained.TheVariants.{Count, Refused}
-use Rattle.dc_flow.specs.Dc.{endsRefusal, retainedOf, retainedSlice, retainedRefusal, counted, retainedAnswer, retainedOutput, joined, addBranch, susceptances, buildShapeRefusal, buildRefusal, builtOutput, transfer, branchTransfer, denominator, outageFactor, outage, realRow, realGrid, ofFactor, ofOutage, ofLodf, lodfShapeRefusal, lodfRefusal, lodfOutput}
+use Rattle.dc_flow.specs.Dc.{ends_refusal, retained_of, retained_slice, retained_refusal, counted, retained_answer, retained_output, joined, add_branch, susceptances, build_shape_refusal, build_refusal, built_output, transfer, branch_transfer, denominator, outage_factor, outage, real_row, real_grid, of_factor, of_outage, of_lodf, lodf_shape_refusal, lodf_refusal, lodf_output}
 use Rattle.dc_flow.proofs.BuildFinite.{dc-finite}
 
 -- small numbers by their bits
@@ -40,77 +40,77 @@ small = of_bits binary64 0x3d3c25c268497682
 five : List ℕ
 five = 8 ∷ 8 ∷ 8 ∷ 8 ∷ 8 ∷ []
 
-retained : (retainedAnswer 5 (1 ∷ 7 ∷ 1 ∷ 3 ∷ []) five ≡ Count 3)
-    × (retainedOutput 5 (1 ∷ 7 ∷ 1 ∷ 3 ∷ []) five ≡ 0 ∷ 2 ∷ 4 ∷ 0 ∷ 0 ∷ [])
-    × (retainedAnswer 2 (1 ∷ 0 ∷ []) (8 ∷ 8 ∷ []) ≡ Count 0)
-unfolding five retainedAnswer retainedOutput retainedRefusal retainedSlice counted retainedOf others up_to
+retained : (retained_answer 5 (1 ∷ 7 ∷ 1 ∷ 3 ∷ []) five ≡ Count 3)
+    × (retained_output 5 (1 ∷ 7 ∷ 1 ∷ 3 ∷ []) five ≡ 0 ∷ 2 ∷ 4 ∷ 0 ∷ 0 ∷ [])
+    × (retained_answer 2 (1 ∷ 0 ∷ []) (8 ∷ 8 ∷ []) ≡ Count 0)
+unfolding five retained_answer retained_output retained_refusal retained_slice counted retained_of others up_to
 retained = (refl, refl, refl)
 
 -- too many buses, too long a list, a slice of another length, which stays as it was
-not-retained : (retainedAnswer (limit + 1) [] five ≡ Refused 1)
-    × (retainedAnswer 5 (replicate (limit + 1) 0) five ≡ Refused 1)
-    × (retainedAnswer 4 [] five ≡ Refused 2)
-    × (retainedOutput 4 [] five ≡ five)
-unfolding five retainedAnswer retainedOutput retainedRefusal counted
+not-retained : (retained_answer (limit + 1) [] five ≡ Refused 1)
+    × (retained_answer 5 (replicate (limit + 1) 0) five ≡ Refused 1)
+    × (retained_answer 4 [] five ≡ Refused 2)
+    × (retained_output 4 [] five ≡ five)
+unfolding five retained_answer retained_output retained_refusal counted
 not-retained = (refl, refl, refl, refl)
 
 -- ---- build_b_bus
 
 -- a branch of reactance 0.5, a branch that is skipped, and one with equal ends
-one-branch : builtOutput 2 (0 ∷ 1 ∷ 1 ∷ []) (1 ∷ 0 ∷ 1 ∷ []) (half ∷ small ∷ half ∷ []) (replicate 4 nan) ≡ two ∷ minus-two ∷ minus-two ∷ two ∷ []
-unfolding builtOutput buildRefusal buildShapeRefusal thenGiven endsRefusal all_below susceptances addBranch joined zeros plus0 one smallMagnitude abs lt add sub div neg sum round units odd size span climb count_trailing_zeros of_bits of_fields
+one-branch : built_output 2 (0 ∷ 1 ∷ 1 ∷ []) (1 ∷ 0 ∷ 1 ∷ []) (half ∷ small ∷ half ∷ []) (replicate 4 nan) ≡ two ∷ minus-two ∷ minus-two ∷ two ∷ []
+unfolding built_output build_refusal build_shape_refusal then_given ends_refusal all_below susceptances add_branch joined zeros plus0 one small_magnitude abs lt add sub div neg sum round units odd size span climb count_trailing_zeros of_bits of_fields
 one-branch = refl
 
 -- a number of buses or a list above the limit, a wrong length, unlike lists
-build-refused : (buildRefusal (limit + 1) (0 ∷ []) (9 ∷ []) [] 0 ≡ 1)
-    × (buildRefusal 1 [] [] (replicate (limit + 1) half) 0 ≡ 1)
-    × (buildRefusal 2 (0 ∷ []) (9 ∷ []) [] 5 ≡ 2)
-    × (buildRefusal 2 (0 ∷ []) (9 ∷ []) [] 4 ≡ 3)
-unfolding buildRefusal buildShapeRefusal thenGiven
+build-refused : (build_refusal (limit + 1) (0 ∷ []) (9 ∷ []) [] 0 ≡ 1)
+    × (build_refusal 1 [] [] (replicate (limit + 1) half) 0 ≡ 1)
+    × (build_refusal 2 (0 ∷ []) (9 ∷ []) [] 5 ≡ 2)
+    × (build_refusal 2 (0 ∷ []) (9 ∷ []) [] 4 ≡ 3)
+unfolding build_refusal build_shape_refusal then_given
 build-refused = (refl, refl, refl, refl)
 
 -- an end that is no bus, also of a skipped branch; no bus and no branch; and a branch with no bus
-build_ends : (buildRefusal 2 (0 ∷ []) (2 ∷ []) (small ∷ []) 4 ≡ 6)
-    × (buildRefusal 0 [] [] [] 0 ≡ 0)
-    × (buildRefusal 0 (0 ∷ []) (0 ∷ []) (half ∷ []) 0 ≡ 6)
-unfolding buildRefusal buildShapeRefusal thenGiven endsRefusal all_below
+build_ends : (build_refusal 2 (0 ∷ []) (2 ∷ []) (small ∷ []) 4 ≡ 6)
+    × (build_refusal 0 [] [] [] 0 ≡ 0)
+    × (build_refusal 0 (0 ∷ []) (0 ∷ []) (half ∷ []) 0 ≡ 6)
+unfolding build_refusal build_shape_refusal then_given ends_refusal all_below
 build_ends = (refl, refl, refl)
 
 -- ---- lodf_matrix: two branches from bus 0 to bus 1
 
 -- alike, each takes all that the other leaves; where branch 0 takes all of its own transfer, its outage leaves 0.0 in its column
-lodf : (lodfOutput 2 (zero' ∷ minus-half ∷ zero' ∷ minus-half ∷ []) (0 ∷ 0 ∷ []) (1 ∷ 1 ∷ []) (replicate 4 nan) ≡ minus_one ∷ one' ∷ one' ∷ minus_one ∷ [])
-    × (lodfOutput 2 (zero' ∷ minus_one ∷ zero' ∷ minus-half ∷ []) (0 ∷ 0 ∷ []) (1 ∷ 1 ∷ []) (replicate 4 nan) ≡ minus_one ∷ two ∷ zero' ∷ minus_one ∷ [])
-unfolding lodfOutput lodfRefusal lodfShapeRefusal thenGiven thenComputed ofLodf each ofOutage ofFactor endsRefusal all_below realGrid realRow outage outageFactor branchTransfer denominator transfer plus0 one smallMagnitude abs lt add sub div neg sum round units odd size span climb count_trailing_zeros of_bits of_fields
+lodf : (lodf_output 2 (zero' ∷ minus-half ∷ zero' ∷ minus-half ∷ []) (0 ∷ 0 ∷ []) (1 ∷ 1 ∷ []) (replicate 4 nan) ≡ minus_one ∷ one' ∷ one' ∷ minus_one ∷ [])
+    × (lodf_output 2 (zero' ∷ minus_one ∷ zero' ∷ minus-half ∷ []) (0 ∷ 0 ∷ []) (1 ∷ 1 ∷ []) (replicate 4 nan) ≡ minus_one ∷ two ∷ zero' ∷ minus_one ∷ [])
+unfolding lodf_output lodf_refusal lodf_shape_refusal then_given then_computed of_lodf each of_outage of_factor ends_refusal all_below real_grid real_row outage outage_factor branch_transfer denominator transfer plus0 one small_magnitude abs lt add sub div neg sum round units odd size span climb count_trailing_zeros of_bits of_fields
 lodf = (refl, refl)
 
 -- the first by `DcFinite.lodf-accepted`, whose premises it meets
 alike : List Float
 alike = zero' ∷ minus-half ∷ zero' ∷ minus-half ∷ []
 
-premises : (lodfShapeRefusal 2 (length alike) (0 ∷ 0 ∷ []) (1 ∷ 1 ∷ []) 4 ≡ 0) × T (allFinite alike) × T (allFinite (ofLodf 2 alike (0 ∷ 0 ∷ []) (1 ∷ 1 ∷ [])))
-unfolding lodfOutput lodfRefusal lodfShapeRefusal thenGiven thenComputed ofLodf each ofOutage ofFactor endsRefusal all_below realGrid realRow outage outageFactor branchTransfer denominator transfer plus0 one smallMagnitude abs lt add sub div neg sum round units odd size span climb count_trailing_zeros of_bits of_fields alike
+premises : (lodf_shape_refusal 2 (length alike) (0 ∷ 0 ∷ []) (1 ∷ 1 ∷ []) 4 ≡ 0) × T (all_finite alike) × T (all_finite (of_lodf 2 alike (0 ∷ 0 ∷ []) (1 ∷ 1 ∷ [])))
+unfolding lodf_output lodf_refusal lodf_shape_refusal then_given then_computed of_lodf each of_outage of_factor ends_refusal all_below real_grid real_row outage outage_factor branch_transfer denominator transfer plus0 one small_magnitude abs lt add sub div neg sum round units odd size span climb count_trailing_zeros of_bits of_fields alike
 premises = (refl, tt, tt)
 
-by-law : lodfRefusal 2 alike (0 ∷ 0 ∷ []) (1 ∷ 1 ∷ []) 4 ≡ 0
+by-law : lodf_refusal 2 alike (0 ∷ 0 ∷ []) (1 ∷ 1 ∷ []) 4 ≡ 0
 by-law = let (shape, given, computed) = premises in (dc-finite.lodf-accepted 2 alike (0 ∷ 0 ∷ []) (1 ∷ 1 ∷ []) (replicate 4 nan) shape given computed).0
 
 -- a list above the limit, a wrong length, unlike lists, an end that is no bus
-lodf-refused : (lodfShapeRefusal 2 0 [] (replicate (limit + 1) 0) 0 ≡ 1)
-    × (lodfShapeRefusal 2 2 (0 ∷ []) [] 2 ≡ 2)
-    × (lodfShapeRefusal 2 2 (0 ∷ []) [] 1 ≡ 3)
-    × (lodfShapeRefusal 2 2 (0 ∷ []) (2 ∷ []) 1 ≡ 6)
-unfolding lodfShapeRefusal endsRefusal all_below
+lodf-refused : (lodf_shape_refusal 2 0 [] (replicate (limit + 1) 0) 0 ≡ 1)
+    × (lodf_shape_refusal 2 2 (0 ∷ []) [] 2 ≡ 2)
+    × (lodf_shape_refusal 2 2 (0 ∷ []) [] 1 ≡ 3)
+    × (lodf_shape_refusal 2 2 (0 ∷ []) (2 ∷ []) 1 ≡ 6)
+unfolding lodf_shape_refusal ends_refusal all_below
 lodf-refused = (refl, refl, refl, refl)
 
 -- ---- numbers that are not finite
 
 -- a reactance, after an end that is no bus; and a number of the PTDF, after the same
-given-refused : (buildRefusal 2 (0 ∷ []) (1 ∷ []) (nan ∷ []) 4 ≡ 19)
-    × (buildRefusal 2 (0 ∷ []) (2 ∷ []) (nan ∷ []) 4 ≡ 6)
-    × (lodfRefusal 2 (one' ∷ inf true ∷ []) (0 ∷ []) (1 ∷ []) 1 ≡ 19)
-    × (lodfRefusal 2 (one' ∷ inf true ∷ []) (0 ∷ []) (2 ∷ []) 1 ≡ 6)
-unfolding buildRefusal buildShapeRefusal lodfRefusal lodfShapeRefusal thenGiven thenComputed endsRefusal all_below of_bits of_fields odd count_trailing_zeros
+given-refused : (build_refusal 2 (0 ∷ []) (1 ∷ []) (nan ∷ []) 4 ≡ 19)
+    × (build_refusal 2 (0 ∷ []) (2 ∷ []) (nan ∷ []) 4 ≡ 6)
+    × (lodf_refusal 2 (one' ∷ inf true ∷ []) (0 ∷ []) (1 ∷ []) 1 ≡ 19)
+    × (lodf_refusal 2 (one' ∷ inf true ∷ []) (0 ∷ []) (2 ∷ []) 1 ≡ 6)
+unfolding build_refusal build_shape_refusal lodf_refusal lodf_shape_refusal then_given then_computed ends_refusal all_below of_bits of_fields odd count_trailing_zeros
 given-refused = (refl, refl, refl, refl)
 
 -- the largest number and its negative
@@ -121,8 +121,8 @@ abbrev pub minus-largest : Float
 minus-largest = of_bits binary64 0xffefffffffffffff
 
 -- one branch alone computes nothing; with a second branch the difference is met, also where its own row is of zeros, and a quotient
-lone-and-two : (lodfRefusal 2 (largest ∷ minus-largest ∷ []) (0 ∷ []) (1 ∷ []) 1 ≡ 0)
-    × (lodfRefusal 2 (largest ∷ minus-largest ∷ zero' ∷ zero' ∷ []) (0 ∷ 0 ∷ []) (1 ∷ 1 ∷ []) 4 ≡ 20)
-    × (lodfRefusal 2 (zero' ∷ zero' ∷ largest ∷ minus-largest ∷ []) (0 ∷ 0 ∷ []) (1 ∷ 1 ∷ []) 4 ≡ 20)
-unfolding lodfRefusal lodfShapeRefusal thenGiven thenComputed ofLodf each ofOutage ofFactor endsRefusal all_below branchTransfer denominator transfer plus0 one smallMagnitude abs lt add sub div neg sum round units odd size span climb count_trailing_zeros of_bits of_fields
+lone-and-two : (lodf_refusal 2 (largest ∷ minus-largest ∷ []) (0 ∷ []) (1 ∷ []) 1 ≡ 0)
+    × (lodf_refusal 2 (largest ∷ minus-largest ∷ zero' ∷ zero' ∷ []) (0 ∷ 0 ∷ []) (1 ∷ 1 ∷ []) 4 ≡ 20)
+    × (lodf_refusal 2 (zero' ∷ zero' ∷ largest ∷ minus-largest ∷ []) (0 ∷ 0 ∷ []) (1 ∷ 1 ∷ []) 4 ≡ 20)
+unfolding lodf_refusal lodf_shape_refusal then_given then_computed of_lodf each of_outage of_factor ends_refusal all_below branch_transfer denominator transfer plus0 one small_magnitude abs lt add sub div neg sum round units odd size span climb count_trailing_zeros of_bits of_fields
 lone-and-two = (refl, refl, refl)

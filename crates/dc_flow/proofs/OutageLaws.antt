@@ -5,69 +5,69 @@ use Rattle.lists.proofs.Order.{lt-or-ge}
 use Rattle.lists.specs.Buses.{all_below}
 use Rattle.lists.proofs.Ends.{below_at}
 use Rattle.lists.proofs.Fronts.{front-next, front-end}
-use Rattle.dc_flow.specs.Dc.{realRow, realGrid, transfer, branchTransfer, denominator, outage}
-use Rattle.dc_flow.specs.Inner.Rows.{rowTransfer, rowOutage}
+use Rattle.dc_flow.specs.Dc.{real_row, real_grid, transfer, branch_transfer, denominator, outage}
+use Rattle.dc_flow.specs.Inner.Rows.{row_transfer, row_outage}
 
 module _ (F : ℕ → Float) where
-  pub length-realRow : (m : ℕ) → length (realRow F m) ≡ m
-  unfolding realRow
-  length-realRow zero = refl
-  length-realRow (suc m) = rw (length-append, length-realRow m) (add-one m)
+  pub length-real_row : (m : ℕ) → length (real_row F m) ≡ m
+  unfolding real_row
+  length-real_row zero = refl
+  length-real_row (suc m) = rw (length-append, length-real_row m) (add-one m)
 
-  pub getD-realRow : (m k : ℕ) → k < m → get_or (realRow F m) k nan ≡ F k
-  unfolding realRow
-  getD-realRow zero k h = absurd (omega arith)
-  getD-realRow (suc m) k h =
+  pub get_or-real_row : (m k : ℕ) → k < m → get_or (real_row F m) k nan ≡ F k
+  unfolding real_row
+  get_or-real_row zero k h = absurd (omega arith)
+  get_or-real_row (suc m) k h =
       elim (lt-or-ge k m) [
-        | inl l ↦ List·getD-append (realRow F m) (F m ∷ []) nan k (rw length-realRow l) ∙ getD-realRow m k l
-        | inr l ↦ let e : k ≡ m = omega arith in rw e (get_or_at (realRow F m) (F m) [] nan m (length-realRow m))
+        | inl l ↦ List·getD-append (real_row F m) (F m ∷ []) nan k (rw length-real_row l) ∙ get_or-real_row m k l
+        | inr l ↦ let e : k ≡ m = omega arith in rw e (get_or_at (real_row F m) (F m) [] nan m (length-real_row m))
       ]
 
 -- the next is written behind the first m, and all are
-pub realRow-step : (F : ℕ → Float) (m : ℕ) (d s : List Float) (v : Float) → s ≡ realRow F m ++ drop m d → v ≡ F m → m < length d
-    → set s m v ≡ realRow F (m + 1) ++ drop (m + 1) d
-unfolding realRow
-realRow-step F m d s v e q h = rw (e, front-next (realRow F m) d m v (length-realRow F m) h, q, add-one)
+pub real_row-step : (F : ℕ → Float) (m : ℕ) (d s : List Float) (v : Float) → s ≡ real_row F m ++ drop m d → v ≡ F m → m < length d
+    → set s m v ≡ real_row F (m + 1) ++ drop (m + 1) d
+unfolding real_row
+real_row-step F m d s v e q h = rw (e, front-next (real_row F m) d m v (length-real_row F m) h, q, add-one)
 
-pub realRow-all : (F : ℕ → Float) (k m : ℕ) (s d : List Float) → s ≡ realRow F k ++ drop k d → m ≤ k → k ≤ m → length d ≡ m → s ≡ realRow F m
-realRow-all F k m s d e h g l =
+pub real_row-all : (F : ℕ → Float) (k m : ℕ) (s d : List Float) → s ≡ real_row F k ++ drop k d → m ≤ k → k ≤ m → length d ≡ m → s ≡ real_row F m
+real_row-all F k m s d e h g l =
     let same : k ≡ m = omega arith in
-    e ∙ front-end (realRow F k) d k (omega arith) ∙ rw same
+    e ∙ front-end (real_row F k) d k (omega arith) ∙ rw same
 
-pub realRow-same : (F G : ℕ → Float) (m : ℕ) → ((k : ℕ) → k < m → F k ≡ G k) → realRow F m ≡ realRow G m
-unfolding realRow
-realRow-same F G zero h = refl
-realRow-same F G (suc m) h = rw (realRow-same F G m (λ k l. h k (omega arith)), h m (omega arith))
+pub real_row-same : (F G : ℕ → Float) (m : ℕ) → ((k : ℕ) → k < m → F k ≡ G k) → real_row F m ≡ real_row G m
+unfolding real_row
+real_row-same F G zero h = refl
+real_row-same F G (suc m) h = rw (real_row-same F G m (λ k l. h k (omega arith)), h m (omega arith))
 
 -- one number is written over: all others are the same
-pub realRow-set : (F G : ℕ → Float) (m l : ℕ) (v : Float) → l < m → v ≡ G l → ((k : ℕ) → eqb l k ≡ false → F k ≡ G k)
-    → set (realRow F m) l v ≡ realRow G m
-realRow-set F G m l v h q others =
-    ext_get_or nan _ _ (length-set (realRow F m) l v ∙ length-realRow F m ∙ sym (length-realRow G m))
-    (λ k i. at k (rw (length-set (realRow F m) l v, length-realRow F m) at i) (eqb l k) refl)
+pub real_row-set : (F G : ℕ → Float) (m l : ℕ) (v : Float) → l < m → v ≡ G l → ((k : ℕ) → eqb l k ≡ false → F k ≡ G k)
+    → set (real_row F m) l v ≡ real_row G m
+real_row-set F G m l v h q others =
+    ext_get_or nan _ _ (length-set (real_row F m) l v ∙ length-real_row F m ∙ sym (length-real_row G m))
+    (λ k i. at k (rw (length-set (real_row F m) l v, length-real_row F m) at i) (eqb l k) refl)
   where
-    at : (k : ℕ) → k < m → (same : Bool) → eqb l k ≡ same → get_or (set (realRow F m) l v) k nan ≡ get_or (realRow G m) k nan
+    at : (k : ℕ) → k < m → (same : Bool) → eqb l k ≡ same → get_or (set (real_row F m) l v) k nan ≡ get_or (real_row G m) k nan
     at k i true e =
         let own : l ≡ k = eqb-true l k e in
-        rw (← own, get_or-set_same (realRow F m) l v nan (rw length-realRow h), q) (sym (getD-realRow G m l h))
+        rw (← own, get_or-set_same (real_row F m) l v nan (rw length-real_row h), q) (sym (get_or-real_row G m l h))
     at k i false e =
-        get_or-set_other (realRow F m) l k v nan (λ p. true≢false (sym (eq-eqb l k (sym p)) ∙ e)) ∙ getD-realRow F m k i ∙ others k e ∙ sym (getD-realRow G m k i)
+        get_or-set_other (real_row F m) l k v nan (λ p. true≢false (sym (eq-eqb l k (sym p)) ∙ e)) ∙ get_or-real_row F m k i ∙ others k e ∙ sym (get_or-real_row G m k i)
 
 module _ (F : ℕ → ℕ → Float) (m : ℕ) where
-  pub length-realGrid : (l : ℕ) → length (realGrid F m l) ≡ l * m
-  unfolding realGrid
-  length-realGrid zero = sym (zero-mul m)
-  length-realGrid (suc l) = rw (length-append, length-realGrid l, length-realRow (F l) m, suc-mul l m)
+  pub length-real_grid : (l : ℕ) → length (real_grid F m l) ≡ l * m
+  unfolding real_grid
+  length-real_grid zero = sym (zero-mul m)
+  length-real_grid (suc l) = rw (length-append, length-real_grid l, length-real_row (F l) m, suc-mul l m)
 
-  pub realGrid-next : (l : ℕ) → realGrid F m (l + 1) ≡ realGrid F m l ++ realRow (F l) m
-  unfolding realGrid
-  realGrid-next l = rw add-one
+  pub real_grid-next : (l : ℕ) → real_grid F m (l + 1) ≡ real_grid F m l ++ real_row (F l) m
+  unfolding real_grid
+  real_grid-next l = rw add-one
 
-pub realGrid-all : (F : ℕ → ℕ → Float) (m l d : ℕ) (s out : List Float) → s ≡ realGrid F m l ++ drop d out → m ≤ l → l ≤ m → d ≡ l * m
-    → length out ≡ m * m → s ≡ realGrid F m m
-realGrid-all F m l d s out e h g q z =
+pub real_grid-all : (F : ℕ → ℕ → Float) (m l d : ℕ) (s out : List Float) → s ≡ real_grid F m l ++ drop d out → m ≤ l → l ≤ m → d ≡ l * m
+    → length out ≡ m * m → s ≡ real_grid F m m
+real_grid-all F m l d s out e h g q z =
     let same : l ≡ m = omega arith in
-    e ∙ front-end (realGrid F m l) out d (rw (q, same) (omega arith)) ∙ rw same
+    e ∙ front-end (real_grid F m l) out d (rw (q, same) (omega arith)) ∙ rw same
 
 pub length_part {ℓ} : {A : Type ℓ} (a w : ℕ) (s : List A) → a + w ≤ length s → length (take (a + w - a) (drop a s)) ≡ w
 length_part a w s h = length-take-le (a + w - a) (drop a s) (rw length-drop (omega arith)) ∙ omega arith
@@ -81,8 +81,8 @@ pub ruleset ends = (below_at, to_below)
 -- a row as a part: from l n on, w = n long
 pub row-transfer-part : (n w : ℕ) (ptdf : List Float) (froms tos : List ℕ) (l a k : ℕ) → w ≡ n → a ≡ l * n
     → (get_or froms k 0 < n) × (get_or tos k 0 < n)
-    → rowTransfer (take w (drop a ptdf)) (get_or froms k 0) (get_or tos k 0) ≡ branchTransfer n ptdf froms tos k l
-unfolding branchTransfer transfer
+    → row_transfer (take w (drop a ptdf)) (get_or froms k 0) (get_or tos k 0) ≡ branch_transfer n ptdf froms tos k l
+unfolding branch_transfer transfer
 row-transfer-part n w ptdf froms tos l a k e f h =
     let i = get_or froms k 0 in
     let j = get_or tos k 0 in
@@ -90,9 +90,9 @@ row-transfer-part n w ptdf froms tos l a k e f h =
     rw (e, f, get_or-take n row i nan h.0, get_or-take n row j nan h.1, get_or-drop (l * n) ptdf i nan, get_or-drop (l * n) ptdf j nan)
 
 pub row-outage : (n w : ℕ) (ptdf : List Float) (froms tos : List ℕ) (ds : List Float) (l a : ℕ) → w ≡ n → a ≡ l * n
-    → ds ≡ realRow (denominator n ptdf froms tos) (length froms) → length tos ≡ length froms → T (all_below n froms) × T (all_below n tos)
-    → (k : ℕ) → k < length froms → rowOutage l (take w (drop a ptdf)) froms tos ds k ≡ outage n ptdf froms tos l k
-unfolding rowOutage outage
+    → ds ≡ real_row (denominator n ptdf froms tos) (length froms) → length tos ≡ length froms → T (all_below n froms) × T (all_below n tos)
+    → (k : ℕ) → k < length froms → row_outage l (take w (drop a ptdf)) froms tos ds k ≡ outage n ptdf froms tos l k
+unfolding row_outage outage
 row-outage n w ptdf froms tos ds l a e f q z below k h =
     let part = row-transfer-part n w ptdf froms tos l a k e f (search ends) in
-    rw (part, q, getD-realRow (denominator n ptdf froms tos) (length froms) k h)
+    rw (part, q, get_or-real_row (denominator n ptdf froms tos) (length froms) k h)

@@ -4,10 +4,10 @@ use lib.ListN.{get_or-replicate}
 use borrow.Author.Tests.{eqb-false}
 use Rattle.lists.specs.Buses.{up_to, mem, others}
 use Rattle.lists.proofs.Ends.{mem-here, mem-next, mem-end}
-use Rattle.lists.proofs.Order.{length-upTo}
-use Rattle.dc_flow.specs.Dc.{retainedOf}
+use Rattle.lists.proofs.Order.{length-up_to}
+use Rattle.dc_flow.specs.Dc.{retained_of}
 use Rattle.dc_flow.specs.Inner.Rows.{mark_of, Marked}
-use Rattle.lists.proofs.Stores.{upTo-here}
+use Rattle.lists.proofs.Stores.{up_to-here}
 
 -- ---- marks: those so far, and those to come by the rest of the list
 
@@ -57,11 +57,11 @@ mark-tells false mark e = ((λ z. refl), (λ nz. absurd (nz e)))
 module _ (n k : ℕ) (interior : List ℕ) (h : k < n) where
   pub retained-here : mem k interior ≡ false → others interior (drop k (up_to n)) ≡ k ∷ others interior (drop (k + 1) (up_to n))
   unfolding others
-  retained-here e = rw (upTo-here n k h, e)
+  retained-here e = rw (up_to-here n k h, e)
 
   pub retained-skip : mem k interior ≡ true → others interior (drop k (up_to n)) ≡ others interior (drop (k + 1) (up_to n))
   unfolding others
-  retained-skip e = rw (upTo-here n k h, e)
+  retained-skip e = rw (up_to-here n k h, e)
 
 fewer : (ks xs : List ℕ) → length (others ks xs) ≤ length xs
 unfolding others
@@ -72,6 +72,6 @@ fewer ks (x ∷ xs) = go (mem x ks) (fewer ks xs)
     go true h = omega arith
     go false h = omega arith
 
-pub retained-fit : (n : ℕ) (interior : List ℕ) → length (retainedOf n interior) ≤ n
-unfolding retainedOf
-retained-fit n interior = rw length-upTo at (fewer interior (up_to n))
+pub retained-fit : (n : ℕ) (interior : List ℕ) → length (retained_of n interior) ≤ n
+unfolding retained_of
+retained-fit n interior = rw length-up_to at (fewer interior (up_to n))

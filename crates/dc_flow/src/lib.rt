@@ -26,7 +26,7 @@ pub enum Retained {
 
 // The refusal's number, 0 where there is none.
 pub fn number_of(answer: Retained) -> u32
-    ensures { result ≡ spec.retainedNumber answer }
+    ensures { result ≡ spec.retained_number answer }
 {
     match answer {
         Retained::Count(_) => 0,
@@ -36,8 +36,8 @@ pub fn number_of(answer: Retained) -> u32
 
 // The buses below n that `interior` does not name, rising, with 0 behind them. Buses count from 0.
 pub fn retained_buses(n: usize, interior: &[usize], retained: &mut [usize]) -> Retained
-    ensures answer { result ≡ spec.retainedAnswer n interior.now retained.old }
-    ensures output { retained.new ≡ spec.retainedOutput n interior.now retained.old }
+    ensures answer { result ≡ spec.retained_answer n interior.now retained.old }
+    ensures output { retained.new ≡ spec.retained_output n interior.now retained.old }
 {
     if over(n, interior.len(), 0, 0) {
         return Retained::Refused(TOO_MANY);
@@ -60,9 +60,9 @@ pub fn build_b_bus(
     b: &mut [f64],
 ) -> Outcome
     ensures answer { result ≡ refusals.outcome
-        (spec.buildRefusal n branch_from.now branch_to.now branch_x.now (length b.old)) }
+        (spec.build_refusal n branch_from.now branch_to.now branch_x.now (length b.old)) }
     ensures output { b.new
-        ≡ spec.builtOutput n branch_from.now branch_to.now branch_x.now b.old }
+        ≡ spec.built_output n branch_from.now branch_to.now branch_x.now b.old }
 {
     let f = build_refusal(n, branch_from, branch_to, branch_x, b.len());
     if f != 0 {
@@ -83,8 +83,8 @@ pub fn lodf_matrix(
     lodf: &mut [f64],
 ) -> Outcome
     ensures answer { result ≡ refusals.outcome
-        (spec.lodfRefusal n ptdf.now branch_from.now branch_to.now (length lodf.old)) }
-    ensures output { lodf.new ≡ spec.lodfOutput n ptdf.now branch_from.now branch_to.now lodf.old }
+        (spec.lodf_refusal n ptdf.now branch_from.now branch_to.now (length lodf.old)) }
+    ensures output { lodf.new ≡ spec.lodf_output n ptdf.now branch_from.now branch_to.now lodf.old }
 {
     let f = lodf_refusal(n, ptdf, branch_from, branch_to, lodf.len());
     if f != 0 {

@@ -1,6 +1,6 @@
 // The line outage factors, from the PTDF: one row for each branch, one column for each bus.
 ghost use Rattle.std.specs.Prelude.{false, ◌≡◌, ◌<◌, ◌≤◌, ◌*◌, length, T, eqb};
-ghost use Rattle.binary64.specs.Values.{allFinite};
+ghost use Rattle.binary64.specs.Values.{all_finite};
 ghost use Rattle.refusals.specs.Refusals as refusals;
 ghost use Rattle.lists.specs.Buses as buses;
 ghost use Rattle.dc_flow.specs.Dc as spec;
@@ -20,7 +20,7 @@ pub fn outages(n: usize, ptdf: &[f64], froms: &[usize], tos: &[usize], lodf: &mu
     requires ptdf_len { (length ptdf.now ≡ length froms.now * n)
         × (length lodf.old ≡ length froms.now * length froms.now) }
     ensures { lodf.new
-        ≡ spec.realGrid (spec.outage n ptdf.now froms.now tos.now) (length froms.now)
+        ≡ spec.real_grid (spec.outage n ptdf.now froms.now tos.now) (length froms.now)
         (length froms.now) }
 {
     let m = froms.len();
@@ -44,7 +44,7 @@ fn outages_by(
     requires ptdf_len { (length ptdf.now ≡ length froms.now * n)
         × (length lodf.old ≡ length froms.now * length froms.now) }
     ensures { lodf.new
-        ≡ spec.realGrid (spec.outage n ptdf.now froms.now tos.now) (length froms.now)
+        ≡ spec.real_grid (spec.outage n ptdf.now froms.now tos.now) (length froms.now)
         (length froms.now) }
 {
     denominators(n, ptdf, froms, tos, ds);
@@ -59,7 +59,7 @@ fn denominators(n: usize, ptdf: &[f64], froms: &[usize], tos: &[usize], ds: &mut
         × (T (buses.all_below n tos.now)) }
     requires ptdf_len { length ptdf.now ≡ length froms.now * n }
     ensures { ds.new
-        ≡ spec.realRow (spec.denominator n ptdf.now froms.now tos.now) (length froms.now) }
+        ≡ spec.real_row (spec.denominator n ptdf.now froms.now tos.now) (length froms.now) }
 {
     let mut k = 0;
     let mut a = 0;
@@ -75,7 +75,7 @@ fn denominators(n: usize, ptdf: &[f64], froms: &[usize], tos: &[usize], ds: &mut
 fn row_transfer(row: &[f64], f: usize, t: usize) -> f64
     requires { (f < length row.now)
         × (t < length row.now) }
-    ensures { result ≡ rows.rowTransfer row.now f t }
+    ensures { result ≡ rows.row_transfer row.now f t }
 {
     row[f] - row[t]
 }
@@ -87,9 +87,9 @@ fn outage_rows(n: usize, ptdf: &[f64], froms: &[usize], tos: &[usize], ds: &[f64
         × (T (buses.all_below n tos.now)) }
     requires ptdf_len { (length ptdf.now ≡ length froms.now * n)
         × (length lodf.old ≡ length froms.now * length froms.now) }
-    requires ds_value { ds.now ≡ spec.realRow (spec.denominator n ptdf.now froms.now tos.now) (length froms.now) }
+    requires ds_value { ds.now ≡ spec.real_row (spec.denominator n ptdf.now froms.now tos.now) (length froms.now) }
     ensures { lodf.new
-        ≡ spec.realGrid (spec.outage n ptdf.now froms.now tos.now) (length froms.now)
+        ≡ spec.real_grid (spec.outage n ptdf.now froms.now tos.now) (length froms.now)
         (length froms.now) }
 {
     let m = froms.len();
@@ -114,7 +114,7 @@ fn outage_row(l: usize, t: &[f64], froms: &[usize], tos: &[usize], ds: &[f64], r
         × (length ds.now ≡ length froms.now)
         × (length row.old ≡ length froms.now) }
     ensures { row.new
-        ≡ spec.realRow (rows.rowOutage l t.now froms.now tos.now ds.now)
+        ≡ spec.real_row (rows.row_outage l t.now froms.now tos.now ds.now)
         (length froms.now) }
 {
     quotient_row(t, froms, tos, ds, row);
@@ -132,7 +132,7 @@ fn quotient_row(t: &[f64], froms: &[usize], tos: &[usize], ds: &[f64], row: &mut
         × (length ds.now ≡ length froms.now)
         × (length row.old ≡ length froms.now) }
     ensures { row.new
-        ≡ spec.realRow (rows.rowFactor false t.now froms.now tos.now ds.now)
+        ≡ spec.real_row (rows.row_factor false t.now froms.now tos.now ds.now)
         (length froms.now) }
 {
     let m = froms.len();
@@ -156,7 +156,7 @@ fn quotient_at(t: &[f64], froms: &[usize], tos: &[usize], ds: &[f64], k: usize) 
     requires tos_len { (length tos.now ≡ length froms.now)
         × (length ds.now ≡ length froms.now)
         × (k < length froms.now) }
-    ensures { result ≡ rows.rowFactor false t.now froms.now tos.now ds.now k }
+    ensures { result ≡ rows.row_factor false t.now froms.now tos.now ds.now k }
 {
     quotient(row_transfer(t, froms[k], tos[k]), ds[k])
 }
@@ -164,7 +164,7 @@ fn quotient_at(t: &[f64], froms: &[usize], tos: &[usize], ds: &[f64], k: usize) 
 // The factor of a branch for the outage of another, from what it takes of a transfer between that one's ends and from that one's
 // denominator d: divided before the test, so that two divisions run at once.
 fn quotient(taken: f64, d: f64) -> f64
-    ensures { result ≡ spec.outageFactor false taken d }
+    ensures { result ≡ spec.outage_factor false taken d }
 {
     let q = taken / d;
     if abs(d) < SMALL_MAGNITUDE {
@@ -175,7 +175,7 @@ fn quotient(taken: f64, d: f64) -> f64
 
 // The factor of branch l for the outage of branch k, from what l takes of a transfer between k's ends and from k's denominator d.
 fn outage_factor(l: usize, k: usize, taken: f64, d: f64) -> f64
-    ensures { result ≡ spec.outageFactor (eqb l k) taken d }
+    ensures { result ≡ spec.outage_factor (eqb l k) taken d }
 {
     if l == k {
         return -1.0;
@@ -191,7 +191,7 @@ pub fn outages_finite(n: usize, ptdf: &[f64], froms: &[usize], tos: &[usize]) ->
     requires t { (T (buses.all_below n froms.now))
         × (T (buses.all_below n tos.now)) }
     requires ptdf_len { length ptdf.now ≡ length froms.now * n }
-    ensures { result ≡ allFinite (spec.ofLodf n ptdf.now froms.now tos.now) }
+    ensures { result ≡ all_finite (spec.of_lodf n ptdf.now froms.now tos.now) }
 {
     let m = froms.len();
     if m < 2 {
@@ -209,7 +209,7 @@ fn finite_by(n: usize, ptdf: &[f64], froms: &[usize], tos: &[usize], ds: &mut [f
     requires t { (T (buses.all_below n froms.now))
         × (T (buses.all_below n tos.now)) }
     requires ptdf_len { length ptdf.now ≡ length froms.now * n }
-    ensures { result ≡ allFinite (spec.ofLodf n ptdf.now froms.now tos.now) }
+    ensures { result ≡ all_finite (spec.of_lodf n ptdf.now froms.now tos.now) }
 {
     denominators(n, ptdf, froms, tos, ds);
     if !all_finite(ds) {
@@ -224,8 +224,8 @@ fn rows_finite(n: usize, ptdf: &[f64], froms: &[usize], tos: &[usize], ds: &[f64
     requires t { (T (buses.all_below n froms.now))
         × (T (buses.all_below n tos.now)) }
     requires ptdf_len { length ptdf.now ≡ length froms.now * n }
-    requires ds_value { ds.now ≡ spec.realRow (spec.denominator n ptdf.now froms.now tos.now) (length froms.now) }
-    ensures { result ≡ allFinite (spec.realGrid (spec.outage n ptdf.now froms.now tos.now)
+    requires ds_value { ds.now ≡ spec.real_row (spec.denominator n ptdf.now froms.now tos.now) (length froms.now) }
+    ensures { result ≡ all_finite (spec.real_grid (spec.outage n ptdf.now froms.now tos.now)
         (length froms.now) (length froms.now)) }
 {
     let mut l = 0;
@@ -247,7 +247,7 @@ fn row_finite(l: usize, t: &[f64], froms: &[usize], tos: &[usize], ds: &[f64]) -
         × (T (buses.all_below (length t.now) tos.now)) }
     requires tos_len { (length tos.now ≡ length froms.now)
         × (length ds.now ≡ length froms.now) }
-    ensures { result ≡ allFinite (spec.realRow (rows.rowOutage l t.now froms.now tos.now ds.now)
+    ensures { result ≡ all_finite (spec.real_row (rows.row_outage l t.now froms.now tos.now ds.now)
         (length froms.now)) }
 {
     let mut k = 0;

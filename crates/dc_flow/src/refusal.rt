@@ -14,7 +14,7 @@ use refusals::{
 
 // 6 where an end is no bus, also of a branch that would be skipped.
 fn ends_refusal(n: usize, froms: &[usize], tos: &[usize]) -> u32
-    ensures { result ≡ spec.endsRefusal n froms.now tos.now }
+    ensures { result ≡ spec.ends_refusal n froms.now tos.now }
 {
     if !all_below(n, froms) {
         return NO_SUCH_END;
@@ -27,7 +27,7 @@ fn ends_refusal(n: usize, froms: &[usize], tos: &[usize]) -> u32
 
 // The refusal of `build_b_bus`, 0 where there is none; `len` is the length of its output slice.
 pub fn build_refusal(n: usize, froms: &[usize], tos: &[usize], xs: &[f64], len: usize) -> u32
-    ensures { result ≡ spec.buildRefusal n froms.now tos.now xs.now len }
+    ensures { result ≡ spec.build_refusal n froms.now tos.now xs.now len }
 {
     let f = build_shape_refusal(n, froms, tos, xs, len);
     if f != 0 {
@@ -41,7 +41,7 @@ pub fn build_refusal(n: usize, froms: &[usize], tos: &[usize], xs: &[f64], len: 
 
 // That by lengths and branch ends.
 fn build_shape_refusal(n: usize, froms: &[usize], tos: &[usize], xs: &[f64], len: usize) -> u32
-    ensures { result ≡ spec.buildShapeRefusal n froms.now tos.now xs.now len }
+    ensures { result ≡ spec.build_shape_refusal n froms.now tos.now xs.now len }
 {
     let m = froms.len();
     if over(n, m, tos.len(), xs.len()) {
@@ -61,7 +61,7 @@ fn build_shape_refusal(n: usize, froms: &[usize], tos: &[usize], xs: &[f64], len
 
 // The refusal of `lodf_matrix`, 0 where there is none; `len` is the length of its output slice.
 pub fn lodf_refusal(n: usize, ptdf: &[f64], froms: &[usize], tos: &[usize], len: usize) -> u32
-    ensures { result ≡ spec.lodfRefusal n ptdf.now froms.now tos.now len }
+    ensures { result ≡ spec.lodf_refusal n ptdf.now froms.now tos.now len }
 {
     let f = lodf_shape_refusal(n, ptdf.len(), froms, tos, len);
     if f != 0 {
@@ -77,8 +77,8 @@ fn lodf_numbers_refusal(n: usize, ptdf: &[f64], froms: &[usize], tos: &[usize]) 
     requires t { (T (buses.all_below n froms.now))
         × (T (buses.all_below n tos.now)) }
     requires ptdf_len { length ptdf.now ≡ length froms.now * n }
-    ensures { result ≡ refusals.thenComputed (refusals.thenGiven 0 ptdf.now)
-        (spec.ofLodf n ptdf.now froms.now tos.now) }
+    ensures { result ≡ refusals.then_computed (refusals.then_given 0 ptdf.now)
+        (spec.of_lodf n ptdf.now froms.now tos.now) }
 {
     if all_ordinary(ptdf) {
         return 0;
@@ -94,7 +94,7 @@ fn lodf_numbers_refusal(n: usize, ptdf: &[f64], froms: &[usize], tos: &[usize]) 
 
 // That by lengths and branch ends; `given` is the length of the PTDF.
 fn lodf_shape_refusal(n: usize, given: usize, froms: &[usize], tos: &[usize], len: usize) -> u32
-    ensures { result ≡ spec.lodfShapeRefusal n given froms.now tos.now len }
+    ensures { result ≡ spec.lodf_shape_refusal n given froms.now tos.now len }
 {
     let m = froms.len();
     if over(n, m, tos.len(), 0) {

@@ -23,8 +23,8 @@ pub fn keep(n: usize, interior: &[usize], marks: &[usize], retained: &mut [usize
     requires { (retained.old ≡ replicate n 0)
         × (n ≤ length marks.now)
         × rows.Marked interior.now marks.now }
-    ensures count { result ≡ length (spec.retainedOf n interior.now) }
-    ensures output { retained.new ≡ spec.retainedSlice n interior.now }
+    ensures count { result ≡ length (spec.retained_of n interior.now) }
+    ensures output { retained.new ≡ spec.retained_slice n interior.now }
 {
     let mut count = 0;
     let mut k = 0;

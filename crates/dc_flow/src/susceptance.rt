@@ -28,7 +28,7 @@ fn add_branch(n: usize, b: &mut [f64], from: usize, to: usize, x: f64)
     requires from_lt_n { (from < n)
         × (to < n) }
     requires b_len { length b.old ≡ n * n }
-    ensures { b.new ≡ spec.addBranch n b.old from to x }
+    ensures { b.new ≡ spec.add_branch n b.old from to x }
 {
     if !(abs(x) < SMALL_MAGNITUDE) {
         join(b, from * n, to * n, from, to, 1.0 / x);

@@ -1,48 +1,48 @@
 -- The entries of Kron reduction: a record of another length, and one that fits.
 use Rattle.prelude.proofs.Prelude.{◌≡◌, refl, ◌∙◌, Bool, true, false, ◌&&◌, ◌||◌, cond, List, ℕ, needs, eqb, ltb, length, Float, eq-eqb, ne_eqb}
 use Rattle.complex.specs.{Complex}
-use Rattle.refusals.specs.Refusals.{limit, tooMany, wrongLength, refuse, number}
+use Rattle.refusals.specs.Refusals.{limit, too_many, wrong_length, refuse, number}
 use Rattle.refusals.specs.declared.Outcome.{Outcome}
 use Rattle.kron_reduction.specs.declared.KronReducer.{KronReducer}
 use Rattle.kron_reduction.specs.declared.NewReducer.{NewReducer}
 use Rattle.kron_reduction.specs.declared.AfterRemoval.{AfterRemoval}
 use Rattle.kron_reduction.specs.declared.AfterRemovals.{AfterRemovals}
 use Rattle.kron_reduction.specs.declared.Impedance.{Impedance}
-use Rattle.kron_reduction.specs.Reducer.{reducerInputOf, afterNew, afterBus, afterBuses}
+use Rattle.kron_reduction.specs.Reducer.{reducer_input_of, after_new, after_bus, after_buses}
 use Rattle.kron_reduction.specs.Reading as reading
-use Rattle.entries.specs.Records.{recordBytes, recordIn, inBytes, storedRecord}
-use Rattle.entries.specs.Answers.{answerAfter, valueAfter}
-use Rattle.entries.specs.Kron.{fitting, ReducerMade, BusRemoved, fromInput, noneRemoved, ListRemoved, MatrixRead, ActiveRead, ImpedanceRead}
+use Rattle.entries.specs.Records.{record_bytes, record_in, in_bytes, stored_record}
+use Rattle.entries.specs.Answers.{answer_after, value_after}
+use Rattle.entries.specs.Kron.{fitting, ReducerMade, BusRemoved, from_input, none_removed, ListRemoved, MatrixRead, ActiveRead, ImpedanceRead}
 
 abbrev Fits : List ℕ → Type 0
-Fits rec = length rec ≡ recordBytes
+Fits rec = length rec ≡ record_bytes
 
 fit : (rec : List ℕ) (n l f : ℕ) → Fits rec → fitting rec n l f ≡ f
 unfolding fitting
-fit rec n l f h = rw (eq-eqb (length rec) recordBytes h) refl
+fit rec n l f h = rw (eq-eqb (length rec) record_bytes h) refl
 
-unfit : (rec : List ℕ) (n l f : ℕ) → (Fits rec → ⊥) → refuse (ltb limit n || ltb limit l) tooMany wrongLength ≡ fitting rec n l f
+unfit : (rec : List ℕ) (n l f : ℕ) → (Fits rec → ⊥) → refuse (ltb limit n || ltb limit l) too_many wrong_length ≡ fitting rec n l f
 unfolding fitting
-unfit rec n l f h = rw (ne_eqb (length rec) recordBytes h) refl
+unfit rec n l f h = rw (ne_eqb (length rec) record_bytes h) refl
 
-left : {A : Type 0} (rec : List ℕ) (x y : A) → Fits rec → x ≡ cond (eqb (length rec) recordBytes) x y
-left rec x y h = rw (eq-eqb (length rec) recordBytes h) refl
+left : {A : Type 0} (rec : List ℕ) (x y : A) → Fits rec → x ≡ cond (eqb (length rec) record_bytes) x y
+left rec x y h = rw (eq-eqb (length rec) record_bytes h) refl
 
-as_it_was : {A : Type 0} (rec : List ℕ) (x y : A) → (Fits rec → ⊥) → y ≡ cond (eqb (length rec) recordBytes) x y
-as_it_was rec x y h = rw (ne_eqb (length rec) recordBytes h) refl
+as_it_was : {A : Type 0} (rec : List ℕ) (x y : A) → (Fits rec → ⊥) → y ≡ cond (eqb (length rec) record_bytes) x y
+as_it_was rec x y h = rw (ne_eqb (length rec) record_bytes h) refl
 
-unstored : (rec : List ℕ) (f : ℕ) (r : KronReducer) → (Fits rec → ⊥) → rec ≡ storedRecord f r rec
-unfolding storedRecord
-unstored rec f r h = rw (ne_eqb (length rec) recordBytes h) (elim (eqb f 0) as (λ b. rec ≡ cond (b && false) (inBytes r) rec) [ true ↦ refl | false ↦ refl ])
+unstored : (rec : List ℕ) (f : ℕ) (r : KronReducer) → (Fits rec → ⊥) → rec ≡ stored_record f r rec
+unfolding stored_record
+unstored rec f r h = rw (ne_eqb (length rec) record_bytes h) (elim (eqb f 0) as (λ b. rec ≡ cond (b && false) (in_bytes r) rec) [ true ↦ refl | false ↦ refl ])
 
 -- ---- new
 
 pub fresh-unfit : (n : ℕ) (ys : List Float) (ns rec : List ℕ) (f : ℕ)
-    → (Fits rec → ⊥) → f ≡ refuse (ltb limit n || ltb limit (length ns)) tooMany wrongLength → ReducerMade n ys ns rec f rec
+    → (Fits rec → ⊥) → f ≡ refuse (ltb limit n || ltb limit (length ns)) too_many wrong_length → ReducerMade n ys ns rec f rec
 fresh-unfit n ys ns rec f h e = record { told = e ∙ unfit _ _ _ _ h; stored = unstored _ _ _ h }
 
 pub fresh-fit : (n : ℕ) (ys : List Float) (ns rec : List ℕ) (f : ℕ) (o : NewReducer) (rec' : List ℕ)
-    → Fits rec → o ≡ afterNew (reducerInputOf n ys ns) → f ≡ number o.answer → rec' ≡ storedRecord f o.rec rec → ReducerMade n ys ns rec f rec'
+    → Fits rec → o ≡ after_new (reducer_input_of n ys ns) → f ≡ number o.answer → rec' ≡ stored_record f o.rec rec → ReducerMade n ys ns rec f rec'
 fresh-fit n ys ns rec f o rec' h e g k = record { told = rw fit cc; stored = cc }
 
 -- ---- one bus
@@ -51,32 +51,32 @@ pub removed-unfit : (rec : List ℕ) (ys : List Float) (bus : ℕ) → (Fits rec
 removed-unfit rec ys bus h = record { told = unfit rec 0 1 _ h; stored = unstored _ _ _ h; matrix = as_it_was rec _ _ h }
 
 pub removed-fit : (rec : List ℕ) (ys : List Float) (bus f : ℕ) (r : KronReducer) (t : AfterRemoval) (rec' : List ℕ) (ys' : List Float)
-    → Fits rec → r ≡ recordIn rec → t ≡ (afterBus r ys bus).out → ys' ≡ (afterBus r ys bus).slice → f ≡ number t.answer
-    → rec' ≡ storedRecord f t.rec rec → BusRemoved rec ys bus f rec' ys'
-removed-fit rec ys bus f r t rec' ys' h i e s g k = record { told = rw fit cc; stored = cc; matrix = rw (eq-eqb (length rec) recordBytes h) cc }
+    → Fits rec → r ≡ record_in rec → t ≡ (after_bus r ys bus).out → ys' ≡ (after_bus r ys bus).slice → f ≡ number t.answer
+    → rec' ≡ stored_record f t.rec rec → BusRemoved rec ys bus f rec' ys'
+removed-fit rec ys bus f r t rec' ys' h i e s g k = record { told = rw fit cc; stored = cc; matrix = rw (eq-eqb (length rec) record_bytes h) cc }
 
 -- ---- a list of buses
 
 -- 1 and 2 are no stops, and leave an answer as it was
-unfit-answerAfter : (b : Bool) (x held : ℕ) → held ≡ answerAfter (fromInput (refuse b tooMany wrongLength)) x held
-unfolding answerAfter fromInput
-unfit-answerAfter b x held = elim b [ true ↦ refl | false ↦ refl ]
+unfit-answer_after : (b : Bool) (x held : ℕ) → held ≡ answer_after (from_input (refuse b too_many wrong_length)) x held
+unfolding answer_after from_input
+unfit-answer_after b x held = elim b [ true ↦ refl | false ↦ refl ]
 
 pub listed-unfit : (rec : List ℕ) (ys : List Float) (ks : List ℕ) (removed f : ℕ)
-    → (Fits rec → ⊥) → f ≡ refuse (ltb limit 0 || ltb limit (length ks)) tooMany wrongLength → ListRemoved rec ys ks removed f rec ys removed
+    → (Fits rec → ⊥) → f ≡ refuse (ltb limit 0 || ltb limit (length ks)) too_many wrong_length → ListRemoved rec ys ks removed f rec ys removed
 listed-unfit rec ys ks removed f h e = record {
   told = e ∙ unfit rec 0 (length ks) _ h;
   stored = unstored _ _ _ h;
   matrix = as_it_was rec _ _ h;
-  counted = rw e (unfit-answerAfter (ltb limit (length ks)) _ removed);
+  counted = rw e (unfit-answer_after (ltb limit (length ks)) _ removed);
 }
 
 pub listed-fit : (rec : List ℕ) (ys : List Float) (ks : List ℕ) (removed f p s : ℕ) (r : KronReducer) (t : AfterRemovals) (rec' : List ℕ) (ys' : List Float) (removed' : ℕ)
-    → Fits rec → r ≡ recordIn rec → t ≡ (afterBuses r ys ks).out → ys' ≡ (afterBuses r ys ks).slice → f ≡ number t.removals.answer
-    → p ≡ noneRemoved f t.removals.removed → rec' ≡ storedRecord p t.rec rec
-    → s ≡ fromInput f → removed' ≡ answerAfter s t.removals.removed removed → ListRemoved rec ys ks removed f rec' ys' removed'
+    → Fits rec → r ≡ record_in rec → t ≡ (after_buses r ys ks).out → ys' ≡ (after_buses r ys ks).slice → f ≡ number t.removals.answer
+    → p ≡ none_removed f t.removals.removed → rec' ≡ stored_record p t.rec rec
+    → s ≡ from_input f → removed' ≡ answer_after s t.removals.removed removed → ListRemoved rec ys ks removed f rec' ys' removed'
 listed-fit rec ys ks removed f p s r t rec' ys' removed' h i e y g j k u v =
-    record { told = rw fit cc; stored = cc; matrix = rw (eq-eqb (length rec) recordBytes h) cc; counted = cc }
+    record { told = rw fit cc; stored = cc; matrix = rw (eq-eqb (length rec) record_bytes h) cc; counted = cc }
 
 -- ---- reading
 
@@ -84,32 +84,32 @@ pub shown-unfit : (rec : List ℕ) (ys out : List Float) → (Fits rec → ⊥) 
 shown-unfit rec ys out h = record { told = unfit rec 0 0 _ h; matrix = as_it_was rec _ _ h }
 
 pub shown-fit : (rec : List ℕ) (ys out : List Float) (f : ℕ) (r : KronReducer) (a : Outcome) (out' : List Float)
-    → Fits rec → r ≡ recordIn rec → a ≡ (reading.afterMatrix r ys out).answer → out' ≡ (reading.afterMatrix r ys out).out → f ≡ number a
+    → Fits rec → r ≡ record_in rec → a ≡ (reading.after_matrix r ys out).answer → out' ≡ (reading.after_matrix r ys out).out → f ≡ number a
     → MatrixRead rec ys out f out'
-shown-fit rec ys out f r a out' h i e s g = record { told = rw fit cc; matrix = rw (eq-eqb (length rec) recordBytes h) cc }
+shown-fit rec ys out f r a out' h i e s g = record { told = rw fit cc; matrix = rw (eq-eqb (length rec) record_bytes h) cc }
 
-unfit-count : (x held : ℕ) → held ≡ answerAfter 2 x held
-unfolding answerAfter
+unfit-count : (x held : ℕ) → held ≡ answer_after 2 x held
+unfolding answer_after
 unfit-count x held = refl
 
 pub active-unfit : (rec buses : List ℕ) (count : ℕ) → (Fits rec → ⊥) → ActiveRead rec buses count 2 buses count
 active-unfit rec buses count h = record { told = unfit rec 0 0 _ h; numbers = as_it_was rec _ _ h; counted = unfit-count _ _ }
 
 pub active-fit : (rec buses : List ℕ) (count f : ℕ) (r : KronReducer) (a : Outcome) (buses' : List ℕ) (count' : ℕ)
-    → Fits rec → r ≡ recordIn rec → a ≡ (reading.afterActive r buses).answer → buses' ≡ (reading.afterActive r buses).buses → f ≡ number a
-    → count' ≡ answerAfter f r.n_buses count → ActiveRead rec buses count f buses' count'
-active-fit rec buses count f r a buses' count' h i e s g k = record { told = rw fit cc; numbers = rw (eq-eqb (length rec) recordBytes h) cc; counted = cc }
+    → Fits rec → r ≡ record_in rec → a ≡ (reading.after_active r buses).answer → buses' ≡ (reading.after_active r buses).buses → f ≡ number a
+    → count' ≡ answer_after f r.n_buses count → ActiveRead rec buses count f buses' count'
+active-fit rec buses count f r a buses' count' h i e s g k = record { told = rw fit cc; numbers = rw (eq-eqb (length rec) record_bytes h) cc; counted = cc }
 
 pub seen-unfit : (rec : List ℕ) (ys : List Float) (i j : ℕ) (work : List Float) (z : Complex) → (Fits rec → ⊥) → ImpedanceRead rec ys i j work z 2 work z
 seen-unfit rec ys i j work z h = record { told = unfit rec 0 0 _ h; cleared = as_it_was rec _ _ h; value = as_it_was rec _ _ h }
 
 pub seen-fit : (rec : List ℕ) (ys : List Float) (i j : ℕ) (work : List Float) (z : Complex) (f : ℕ) (r : KronReducer) (a : Impedance) (work' : List Float) (z' : Complex)
-    → Fits rec → r ≡ recordIn rec → a ≡ (reading.afterImpedance r ys i j work).answer → work' ≡ (reading.afterImpedance r ys i j work).work
-    → z' ≡ valueAfter a z → f ≡ reading.impedanceNumber a → ImpedanceRead rec ys i j work z f work' z'
+    → Fits rec → r ≡ record_in rec → a ≡ (reading.after_impedance r ys i j work).answer → work' ≡ (reading.after_impedance r ys i j work).work
+    → z' ≡ value_after a z → f ≡ reading.impedance_number a → ImpedanceRead rec ys i j work z f work' z'
 seen-fit rec ys i j work z f r a work' z' h b e w v g = record {
   told = rw fit cc;
-  cleared = rw (eq-eqb (length rec) recordBytes h) cc;
-  value = rw (eq-eqb (length rec) recordBytes h) cc;
+  cleared = rw (eq-eqb (length rec) record_bytes h) cc;
+  value = rw (eq-eqb (length rec) record_bytes h) cc;
 }
 
 -- what an entry returns, once its record is found not to fit, or to fit

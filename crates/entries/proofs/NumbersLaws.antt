@@ -2,7 +2,7 @@
 use Rattle.prelude.proofs.Prelude.{◌≡◌, refl, sym, ap, ◌∙◌, true, false, cond, ℕ, ◌+◌, ◌*◌, ◌<◌, arith, needs, eqb, ◌/◌, ◌%◌, mul_comm, eqb-true, eq-eqb, ne_eqb}
 use native.Mathlib.Nat.{div-add-mod'}
 use lib.Arith.{digits_div, digits_mod}
-use Rattle.entries.specs.Answers.{answerAfter}
+use Rattle.entries.specs.Answers.{answer_after}
 use Rattle.entries.specs.Numbers.{misfit}
 
 -- ---- lengths
@@ -37,12 +37,12 @@ fits k b n f g h = (elim (eqb b (k * n)) as (λ t. eqb b (k * n) ≡ t → f ≡
 
 -- ---- what a call leaves
 
-pub as_it_was : {A : Type 0} (f : ℕ) (new held : A) → (f ≡ 0 → ⊥) → held ≡ answerAfter f new held
-unfolding answerAfter
+pub as_it_was : {A : Type 0} (f : ℕ) (new held : A) → (f ≡ 0 → ⊥) → held ≡ answer_after f new held
+unfolding answer_after
 as_it_was f new held h = rw (ne_eqb f 0 h) refl
 
-pub converted : {A : Type 0} (x new held : A) → x ≡ new → x ≡ answerAfter 0 new held
-unfolding answerAfter
+pub converted : {A : Type 0} (x new held : A) → x ≡ new → x ≡ answer_after 0 new held
+unfolding answer_after
 converted x new held e = e
 
 pub told_none : (f m : ℕ) → f ≡ m → f ≡ 0 → 0 ≡ m

@@ -17,36 +17,36 @@ use Rattle.rei_equivalent.specs.declared.ReiAnswer.TheVariants as reis
 -- ---- what several pointers hold together
 
 -- a Ward study's sizes, in buses, its ratio, and how many rows it reduced
-abbrev pub summaryOf : ℕ → ℕ → Float → ℕ → WardSummary
-summaryOf r e x rows = record { n_buses_reduced = r; n_buses_equivalent = e; reduction_ratio = x; rows_reduced = rows }
+abbrev pub summary_of : ℕ → ℕ → Float → ℕ → WardSummary
+summary_of r e x rows = record { n_buses_reduced = r; n_buses_equivalent = e; reduction_ratio = x; rows_reduced = rows }
 
 -- an REI equivalent: bus, voltage in per unit, P in MW, Q in MVAr, and the number of ties
-abbrev pub reiOf : ℕ → Float → Float → Float → ℕ → ReiEquivalent
-reiOf b v p q n = record { rei_bus_id = b; rei_voltage_pu = v; rei_p_mw = p; rei_q_mvar = q; n_ties = n }
+abbrev pub rei_of : ℕ → Float → Float → Float → ℕ → ReiEquivalent
+rei_of b v p q n = record { rei_bus_id = b; rei_voltage_pu = v; rei_p_mw = p; rei_q_mvar = q; n_ties = n }
 
 -- ---- at the end
 
 -- by the refusal f
-unfoldable pub answerAfter : {A : Type 0} → ℕ → A → A → A
-answerAfter f new held = cond (eqb f 0) new held
+unfoldable pub answer_after : {A : Type 0} → ℕ → A → A → A
+answer_after f new held = cond (eqb f 0) new held
 
 -- by the library's answer
-unfoldable pub valueAfter : Impedance → Complex → Complex
-valueAfter (impedances.Value z) held = z
-valueAfter (impedances.Refused k) held = held
+unfoldable pub value_after : Impedance → Complex → Complex
+value_after (impedances.Value z) held = z
+value_after (impedances.Refused k) held = held
 
-abbrev pub countAfter : Retained → ℕ → ℕ
-countAfter (counts.Count n) held = n
-countAfter (counts.Refused k) held = held
+abbrev pub count_after : Retained → ℕ → ℕ
+count_after (counts.Count n) held = n
+count_after (counts.Refused k) held = held
 
-unfoldable pub rowsAfter : Counted → ℕ → ℕ
-rowsAfter (reduced.Reduced n) held = n
-rowsAfter (reduced.Refused k) held = held
+unfoldable pub rows_after : Counted → ℕ → ℕ
+rows_after (reduced.Reduced n) held = n
+rows_after (reduced.Refused k) held = held
 
-unfoldable pub summaryAfter : WardAnswer → WardSummary → WardSummary
-summaryAfter (wards.Done s) held = s
-summaryAfter (wards.Refused k) held = held
+unfoldable pub summary_after : WardAnswer → WardSummary → WardSummary
+summary_after (wards.Done s) held = s
+summary_after (wards.Refused k) held = held
 
-unfoldable pub equivalentAfter : ReiAnswer → ReiEquivalent → ReiEquivalent
-equivalentAfter (reis.Done e) held = e
-equivalentAfter (reis.Refused k) held = held
+unfoldable pub equivalent_after : ReiAnswer → ReiEquivalent → ReiEquivalent
+equivalent_after (reis.Done e) held = e
+equivalent_after (reis.Refused k) held = held

@@ -7,10 +7,10 @@ use Rattle.complex.specs.declared.magnitude.Real.{Real}
 use Rattle.complex.specs.declared.magnitude.Real.TheVariants as reals
 
 -- what the pointers hold, by the answer: it, or what was there
-unfoldable pub pairAfter : Pair → Complex → Complex
-pairAfter (pairs.Finite z) held = z
-pairAfter pairs.NotFinite held = held
+unfoldable pub pair_after : Pair → Complex → Complex
+pair_after (pairs.Finite z) held = z
+pair_after pairs.NotFinite held = held
 
-unfoldable pub realAfter : Real → Float → Float
-realAfter (reals.Finite x) held = x
-realAfter reals.NotFinite held = held
+unfoldable pub real_after : Real → Float → Float
+real_after (reals.Finite x) held = x
+real_after reals.NotFinite held = held

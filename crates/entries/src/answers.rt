@@ -1,6 +1,6 @@
 // Single answers: written where the call was carried out, else left as they are.
 ghost use Rattle.std.specs.Prelude.{◌≡◌};
-ghost use Rattle.complex.specs.Arithmetic.{complexOf};
+ghost use Rattle.complex.specs.Arithmetic.{complex_of};
 ghost use Rattle.entries.specs.Answers as spec;
 
 use equivalents::dc::Retained;
@@ -11,7 +11,7 @@ use refusals::Counted;
 
 // A count of buses, by the refusal.
 pub fn give_count(out: &mut usize, x: usize, refusal: u32)
-    ensures { out.new ≡ spec.answerAfter refusal x out.old }
+    ensures { out.new ≡ spec.answer_after refusal x out.old }
 {
     if refusal == 0 {
         *out = x;
@@ -20,8 +20,8 @@ pub fn give_count(out: &mut usize, x: usize, refusal: u32)
 
 // An impedance, in per unit.
 pub fn give_value(answer: Impedance, re: &mut f64, im: &mut f64)
-    ensures { complexOf re.new im.new
-        ≡ spec.valueAfter answer (complexOf re.old im.old) }
+    ensures { complex_of re.new im.new
+        ≡ spec.value_after answer (complex_of re.old im.old) }
 {
     match answer {
         Impedance::Value(z) => {
@@ -34,7 +34,7 @@ pub fn give_value(answer: Impedance, re: &mut f64, im: &mut f64)
 
 // How many buses are retained.
 pub fn give_retained(answer: Retained, count: &mut usize)
-    ensures { count.new ≡ spec.countAfter answer count.old }
+    ensures { count.new ≡ spec.count_after answer count.old }
 {
     match answer {
         Retained::Count(n) => {
@@ -46,7 +46,7 @@ pub fn give_retained(answer: Retained, count: &mut usize)
 
 // How many rows were reduced.
 pub fn give_rows(answer: Counted, rows: &mut usize)
-    ensures { rows.new ≡ spec.rowsAfter answer rows.old }
+    ensures { rows.new ≡ spec.rows_after answer rows.old }
 {
     match answer {
         Counted::Reduced(n) => {
@@ -64,9 +64,9 @@ pub fn give_summary(
     ratio: &mut f64,
     rows: &mut usize,
 )
-    ensures { spec.summaryOf reduced.new equivalent.new ratio.new rows.new
-        ≡ spec.summaryAfter answer
-        (spec.summaryOf reduced.old equivalent.old ratio.old rows.old) }
+    ensures { spec.summary_of reduced.new equivalent.new ratio.new rows.new
+        ≡ spec.summary_after answer
+        (spec.summary_of reduced.old equivalent.old ratio.old rows.old) }
 {
     match answer {
         WardAnswer::Done(s) => {
@@ -88,7 +88,7 @@ fn write_equivalent(
     q: &mut f64,
     ties: &mut usize,
 )
-    ensures { spec.reiOf bus.new voltage.new p.new q.new ties.new ≡ e }
+    ensures { spec.rei_of bus.new voltage.new p.new q.new ties.new ≡ e }
 {
     *bus = e.rei_bus_id;
     *voltage = e.rei_voltage_pu;
@@ -106,9 +106,9 @@ pub fn give_equivalent(
     q: &mut f64,
     ties: &mut usize,
 )
-    ensures { spec.reiOf bus.new voltage.new p.new q.new ties.new
-        ≡ spec.equivalentAfter answer
-        (spec.reiOf bus.old voltage.old p.old q.old ties.old) }
+    ensures { spec.rei_of bus.new voltage.new p.new q.new ties.new
+        ≡ spec.equivalent_after answer
+        (spec.rei_of bus.old voltage.old p.old q.old ties.old) }
 {
     match answer {
         ReiAnswer::Done(e) => write_equivalent(e, bus, voltage, p, q, ties),

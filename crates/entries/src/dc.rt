@@ -15,10 +15,10 @@ pub extern "C" fn jeturipe_retained_buses(
     retained: &mut [usize],
     count: &mut usize,
 ) -> u32
-    ensures { (result ≡ spec.retainedNumber (spec.retainedAnswer n interior.now retained.old))
-        × (retained.new ≡ spec.retainedOutput n interior.now retained.old)
+    ensures { (result ≡ spec.retained_number (spec.retained_answer n interior.now retained.old))
+        × (retained.new ≡ spec.retained_output n interior.now retained.old)
         × (count.new
-        ≡ answers.countAfter (spec.retainedAnswer n interior.now retained.old) count.old) }
+        ≡ answers.count_after (spec.retained_answer n interior.now retained.old) count.old) }
 {
     let answer = equivalents::dc::retained_buses(n, interior, retained);
     give_retained(answer, count);
@@ -35,10 +35,10 @@ pub extern "C" fn jeturipe_build_b_bus(
     b: &mut [f64],
 ) -> u32
     ensures { (result ≡ refusals.number (refusals.outcome
-        (spec.buildRefusal n branch_from.now branch_to.now branch_x.now
+        (spec.build_refusal n branch_from.now branch_to.now branch_x.now
         (length b.old))))
         × (b.new
-        ≡ spec.builtOutput n branch_from.now branch_to.now branch_x.now b.old) }
+        ≡ spec.built_output n branch_from.now branch_to.now branch_x.now b.old) }
 {
     number(equivalents::dc::build_b_bus(n, branch_from, branch_to, branch_x, b))
 }
@@ -53,10 +53,10 @@ pub extern "C" fn jeturipe_lodf_matrix(
     lodf: &mut [f64],
 ) -> u32
     ensures { (result ≡ refusals.number (refusals.outcome
-        (spec.lodfRefusal n ptdf.now branch_from.now branch_to.now
+        (spec.lodf_refusal n ptdf.now branch_from.now branch_to.now
         (length lodf.old))))
         × (lodf.new
-        ≡ spec.lodfOutput n ptdf.now branch_from.now branch_to.now lodf.old) }
+        ≡ spec.lodf_output n ptdf.now branch_from.now branch_to.now lodf.old) }
 {
     number(equivalents::dc::lodf_matrix(n, ptdf, branch_from, branch_to, lodf))
 }

@@ -1,8 +1,8 @@
 // Kron reduction. The record is a byte slice of exactly RECORD bytes; where it has another length the call is refused and nothing is
 // touched. Admittances are in per unit; buses are named by the numbers given at making.
 ghost use Rattle.std.specs.Prelude.{◌≡◌, ◌||◌, ltb};
-ghost use Rattle.refusals.specs.Refusals.{limit, tooMany, wrongLength, refuse};
-ghost use Rattle.complex.specs.Arithmetic.{complexOf};
+ghost use Rattle.refusals.specs.Refusals.{limit, too_many, wrong_length, refuse};
+ghost use Rattle.complex.specs.Arithmetic.{complex_of};
 ghost use Rattle.entries.specs.Kron as spec;
 
 use crate::answers::{give_count, give_value};
@@ -14,7 +14,7 @@ use refusals::{
 
 // The refusal where the record is not of its length: 1 for a size or a list above the limit, else 2.
 fn unfit(n: usize, l: usize) -> u32
-    ensures { result ≡ refuse (ltb limit n || ltb limit l) tooMany wrongLength }
+    ensures { result ≡ refuse (ltb limit n || ltb limit l) too_many wrong_length }
 {
     if n > LIMIT {
         return TOO_MANY;
@@ -56,7 +56,7 @@ pub extern "C" fn jeturipe_eliminate_bus(rec: &mut [u8], y: &mut [f64], bus: u32
 
 // The refusal where it is told from the input; 0 where a list is carried out or stopped, by 11, 12 or 20.
 fn from_input(refusal: u32) -> u32
-    ensures { result ≡ spec.fromInput refusal }
+    ensures { result ≡ spec.from_input refusal }
 {
     if refusal == NOT_ACTIVE {
         return 0;
@@ -73,7 +73,7 @@ fn from_input(refusal: u32) -> u32
 
 // The refusal of a list that removed no bus, else 0.
 fn none_removed(refusal: u32, count: usize) -> u32
-    ensures { result ≡ spec.noneRemoved refusal count }
+    ensures { result ≡ spec.none_removed refusal count }
 {
     if count == 0 { refusal } else { 0 }
 }
@@ -143,8 +143,8 @@ pub extern "C" fn jeturipe_thevenin_impedance(
     z_im: &mut f64,
 ) -> u32
     ensures { spec.ImpedanceRead rec.now y.now bus_i bus_j work.old
-        (complexOf z_re.old z_im.old)
-        result work.new (complexOf z_re.new z_im.new) }
+        (complex_of z_re.old z_im.old)
+        result work.new (complex_of z_re.new z_im.new) }
 {
     if rec.len() != RECORD {
         return WRONG_LENGTH;

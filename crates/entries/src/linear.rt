@@ -21,7 +21,7 @@ pub extern "C" fn jeturipe_solve_linear(
     rows_reduced: &mut usize,
 ) -> u32
     ensures { spec.SolveAnswered
-        (calls.afterSolve n a.now b.now (Rows allowance) x.old work.old)
+        (calls.after_solve n a.now b.now (Rows allowance) x.old work.old)
         result x.new work.new rows_reduced.old rows_reduced.new }
 {
     let answer = solver::solve_linear(n, a, b, Allowance::Rows(allowance), x, work);
@@ -38,9 +38,9 @@ pub extern "C" fn jeturipe_complex_matrix_inverse(
     work: &mut [f64],
 ) -> u32
     ensures { (result ≡ refusals.number
-        (calls.afterInverse n mat.now inverse.old work.old).answer)
-        × (inverse.new ≡ (calls.afterInverse n mat.now inverse.old work.old).output)
-        × (work.new ≡ (calls.afterInverse n mat.now inverse.old work.old).work) }
+        (calls.after_inverse n mat.now inverse.old work.old).answer)
+        × (inverse.new ≡ (calls.after_inverse n mat.now inverse.old work.old).output)
+        × (work.new ≡ (calls.after_inverse n mat.now inverse.old work.old).work) }
 {
     number(solver::complex_matrix_inverse(n, mat, inverse, work))
 }

@@ -28,7 +28,7 @@ pub extern "C" fn jeturipe_build_y_bus(
 ) -> u32
     ensures { spec.BuildAnswered
         (building.data_of numbers.now branch_from.now branch_to.now
-        (spec.inService branch_status.now) branch_r.now branch_x.now branch_b.now
+        (spec.in_service branch_status.now) branch_r.now branch_x.now branch_b.now
         branch_tap.now branch_shift.now gs.now bs.now base_mva)
         n result y.old y.new }
 {
@@ -76,7 +76,7 @@ fn build_served(
 ) -> u32
     requires { length status.now ≡ length serves.old }
     ensures { spec.BuildAnswered
-        (building.data_of numbers.now from.now to.now (spec.inService status.now)
+        (building.data_of numbers.now from.now to.now (spec.in_service status.now)
         r.now x.now b.now tap.now shift.now gs.now bs.now base)
         n result y.old y.new }
 {
@@ -89,7 +89,7 @@ fn build_served(
 // Which branches are in service: those whose byte is not 0.
 fn in_service(status: &[u8], serves: &mut [bool])
     requires { length status.now ≡ length serves.old }
-    ensures { serves.new ≡ spec.inService status.now }
+    ensures { serves.new ≡ spec.in_service status.now }
 {
     let mut k = 0;
     while k < status.len() {

@@ -1,8 +1,8 @@
 // Bytes to numbers and back, little-endian: 8 bytes a number, 4 a bus number. Any NaN pattern is read; 7ff8000000000000 is written.
 // A length that does not fit is 2, and nothing is written.
 ghost use Rattle.std.specs.Prelude.{◌≡◌, ◌<◌, length};
-ghost use Rattle.bytes.specs.Bytes as inBytes;
-ghost use Rattle.entries.specs.Answers.{answerAfter};
+ghost use Rattle.bytes.specs.Bytes as in_bytes;
+ghost use Rattle.entries.specs.Answers.{answer_after};
 ghost use Rattle.entries.specs.Numbers as spec;
 
 use bytes::{read_floats, read_halves, read_words, write_floats, write_halves, write_words};
@@ -28,7 +28,7 @@ fn misfit(per: usize, bytes: usize, count: usize) -> u32
 pub extern "C" fn jeturipe_numbers_of_bytes(bytes: &[u8], numbers: &mut [f64]) -> u32
     ensures { (result ≡ spec.misfit 8 (length bytes.now) (length numbers.old))
         × (numbers.new
-        ≡ answerAfter result (inBytes.floats (length numbers.old) bytes.now) numbers.old) }
+        ≡ answer_after result (in_bytes.floats (length numbers.old) bytes.now) numbers.old) }
 {
     let refusal = misfit(8, bytes.len(), numbers.len());
     if refusal != 0 {
@@ -43,7 +43,7 @@ pub extern "C" fn jeturipe_numbers_of_bytes(bytes: &[u8], numbers: &mut [f64]) -
 pub extern "C" fn jeturipe_bytes_of_numbers(numbers: &[f64], bytes: &mut [u8]) -> u32
     ensures { (result ≡ spec.misfit 8 (length bytes.old) (length numbers.now))
         × (bytes.new
-        ≡ answerAfter result (inBytes.of_floats numbers.now) bytes.old) }
+        ≡ answer_after result (in_bytes.of_floats numbers.now) bytes.old) }
 {
     let refusal = misfit(8, bytes.len(), numbers.len());
     if refusal != 0 {
@@ -58,7 +58,7 @@ pub extern "C" fn jeturipe_bytes_of_numbers(numbers: &[f64], bytes: &mut [u8]) -
 pub extern "C" fn jeturipe_words_of_bytes(bytes: &[u8], words: &mut [usize]) -> u32
     ensures { (result ≡ spec.misfit 8 (length bytes.now) (length words.old))
         × (words.new
-        ≡ answerAfter result (inBytes.words 8 (length words.old) bytes.now) words.old) }
+        ≡ answer_after result (in_bytes.words 8 (length words.old) bytes.now) words.old) }
 {
     let refusal = misfit(8, bytes.len(), words.len());
     if refusal != 0 {
@@ -73,7 +73,7 @@ pub extern "C" fn jeturipe_words_of_bytes(bytes: &[u8], words: &mut [usize]) -> 
 pub extern "C" fn jeturipe_bytes_of_words(words: &[usize], bytes: &mut [u8]) -> u32
     ensures { (result ≡ spec.misfit 8 (length bytes.old) (length words.now))
         × (bytes.new
-        ≡ answerAfter result (inBytes.ofWords 8 words.now) bytes.old) }
+        ≡ answer_after result (in_bytes.of_words 8 words.now) bytes.old) }
 {
     let refusal = misfit(8, bytes.len(), words.len());
     if refusal != 0 {
@@ -88,7 +88,7 @@ pub extern "C" fn jeturipe_bytes_of_words(words: &[usize], bytes: &mut [u8]) -> 
 pub extern "C" fn jeturipe_bus_numbers_of_bytes(bytes: &[u8], numbers: &mut [u32]) -> u32
     ensures { (result ≡ spec.misfit 4 (length bytes.now) (length numbers.old))
         × (numbers.new
-        ≡ answerAfter result (inBytes.words 4 (length numbers.old) bytes.now) numbers.old) }
+        ≡ answer_after result (in_bytes.words 4 (length numbers.old) bytes.now) numbers.old) }
 {
     let refusal = misfit(4, bytes.len(), numbers.len());
     if refusal != 0 {
@@ -103,7 +103,7 @@ pub extern "C" fn jeturipe_bus_numbers_of_bytes(bytes: &[u8], numbers: &mut [u32
 pub extern "C" fn jeturipe_bytes_of_bus_numbers(numbers: &[u32], bytes: &mut [u8]) -> u32
     ensures { (result ≡ spec.misfit 4 (length bytes.old) (length numbers.now))
         × (bytes.new
-        ≡ answerAfter result (inBytes.ofWords 4 numbers.now) bytes.old) }
+        ≡ answer_after result (in_bytes.of_words 4 numbers.now) bytes.old) }
 {
     let refusal = misfit(4, bytes.len(), numbers.len());
     if refusal != 0 {

@@ -26,8 +26,8 @@ fn copy(from: &[u8], to: &mut [u8])
 
 // The rows of the active buses, a byte each, of a record.
 fn active_in(s: &[u8]) -> [u8; LIMIT]
-    requires { length s.now ≡ spec.recordBytes }
-    ensures { result ≡ spec.activeIn s.now }
+    requires { length s.now ≡ spec.record_bytes }
+    ensures { result ≡ spec.active_in s.now }
 {
     let mut active = [0; LIMIT];
     copy(&s[16..FRONT], &mut active);
@@ -36,8 +36,8 @@ fn active_in(s: &[u8]) -> [u8; LIMIT]
 
 // The numbers of the buses, 4 bytes each, of a record.
 fn numbers_in(s: &[u8]) -> [u32; LIMIT]
-    requires { length s.now ≡ spec.recordBytes }
-    ensures { result ≡ spec.numbersIn s.now }
+    requires { length s.now ≡ spec.record_bytes }
+    ensures { result ≡ spec.numbers_in s.now }
 {
     let mut numbers = [0; LIMIT];
     read_halves(&s[FRONT..RECORD], &mut numbers);
@@ -46,7 +46,7 @@ fn numbers_in(s: &[u8]) -> [u32; LIMIT]
 
 // The record in the slice; of all zeros where the slice is not of a record's length in bytes.
 pub fn record_in(s: &[u8]) -> KronReducer
-    ensures { result ≡ spec.recordIn s.now }
+    ensures { result ≡ spec.record_in s.now }
 {
     if s.len() != RECORD {
         return KronReducer {
@@ -66,8 +66,8 @@ pub fn record_in(s: &[u8]) -> KronReducer
 
 // The sizes and the rows of a record, before its numbers.
 fn write_front(s: &mut [u8], r: KronReducer)
-    requires { length s.old ≡ spec.frontBytes }
-    ensures { s.new ≡ spec.frontOf r }
+    requires { length s.old ≡ spec.front_bytes }
+    ensures { s.new ≡ spec.front_of r }
 {
     let active = r.active_buses;
     put_word(s, 0, r.made as u64);
@@ -77,8 +77,8 @@ fn write_front(s: &mut [u8], r: KronReducer)
 
 // A whole record.
 fn write_record(s: &mut [u8], r: KronReducer)
-    requires { length s.old ≡ spec.recordBytes }
-    ensures { s.new ≡ spec.inBytes r }
+    requires { length s.old ≡ spec.record_bytes }
+    ensures { s.new ≡ spec.in_bytes r }
 {
     let numbers = r.numbers;
     write_front(&mut s[0..FRONT], r);
@@ -87,7 +87,7 @@ fn write_record(s: &mut [u8], r: KronReducer)
 
 // Writes the record where the refusal is none.
 pub fn store_record(s: &mut [u8], r: KronReducer, refusal: u32)
-    ensures { s.new ≡ spec.storedRecord refusal r s.old }
+    ensures { s.new ≡ spec.stored_record refusal r s.old }
 {
     if refusal == 0 {
         if s.len() == RECORD {

@@ -31,16 +31,16 @@ pub extern "C" fn jeturipe_rei_compute(
           entries = y_sub.now;
           p = p_inj.now;
           q = q_inj.now;
-          busId = next_bus_id;
-          spokeBuses = spoke_buses.old;
+          bus_id = next_bus_id;
+          spoke_buses = spoke_buses.old;
           spokes = spokes.old;
-          tieBuses = tie_buses.old;
+          tie_buses = tie_buses.old;
           ties = ties.old;
         })
         result spoke_buses.new spokes.new tie_buses.new ties.new
-        (answers.reiOf rei_bus_id.old rei_voltage_pu.old
+        (answers.rei_of rei_bus_id.old rei_voltage_pu.old
         rei_p_mw.old rei_q_mvar.old n_ties.old)
-        (answers.reiOf rei_bus_id.new rei_voltage_pu.new
+        (answers.rei_of rei_bus_id.new rei_voltage_pu.new
         rei_p_mw.new rei_q_mvar.new n_ties.new) }
 {
     let answer = equivalents::rei::compute(

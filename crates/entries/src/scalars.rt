@@ -2,16 +2,16 @@
 // with 19 where a number given is not finite, with 20 where one computed is not.
 ghost use Rattle.std.specs.Prelude.{◌≡◌, cond, [], ◌∷◌, ◌++◌};
 ghost use Rattle.binary64.specs.Root.{root};
-ghost use Rattle.binary64.specs.Values.{allFinite};
+ghost use Rattle.binary64.specs.Values.{all_finite};
 ghost use Rattle.complex.specs.Arithmetic as arithmetic;
-ghost use Rattle.complex.specs.Arithmetic.{complexOf};
+ghost use Rattle.complex.specs.Arithmetic.{complex_of};
 ghost use Rattle.complex.specs.Computed as computed;
-ghost use Rattle.complex.specs.Computed.{ofParts};
+ghost use Rattle.complex.specs.Computed.{of_parts};
 ghost use Rattle.complex.specs.Leaves as leaves;
-ghost use Rattle.complex.specs.Leaves.{ofMagnitude};
+ghost use Rattle.complex.specs.Leaves.{of_magnitude};
 ghost use Rattle.complex.specs.Magnitude as magnitudes;
 ghost use Rattle.refusals.specs.Refusals as refusals;
-ghost use Rattle.entries.specs.Answers.{answerAfter};
+ghost use Rattle.entries.specs.Answers.{answer_after};
 ghost use Rattle.entries.specs.Singles as spec;
 
 use binary64::finite::finite;
@@ -21,7 +21,7 @@ use refusals::{COMPUTED_NOT_FINITE, GIVEN_NOT_FINITE};
 
 // Whether all four parts are finite.
 fn pairs_finite(a: Complex, b: Complex) -> bool
-    ensures { result ≡ allFinite (ofParts a ++ ofParts b) }
+    ensures { result ≡ all_finite (of_parts a ++ of_parts b) }
 {
     if both_finite(a) {
         return both_finite(b);
@@ -31,7 +31,7 @@ fn pairs_finite(a: Complex, b: Complex) -> bool
 
 // The refusal of an operation that answers no finite number, by whether all given are finite.
 fn none_finite(given: bool) -> u32
-    ensures { result ≡ cond given refusals.computedNotFinite refusals.givenNotFinite }
+    ensures { result ≡ cond given refusals.computed_not_finite refusals.given_not_finite }
 {
     if given {
         return COMPUTED_NOT_FINITE;
@@ -41,8 +41,8 @@ fn none_finite(given: bool) -> u32
 
 // A complex answer, and its number.
 fn give_pair(answer: Pair, given: bool, re: &mut f64, im: &mut f64) -> u32
-    ensures { (result ≡ leaves.pairNumber given answer)
-        × (complexOf re.new im.new ≡ spec.pairAfter answer (complexOf re.old im.old)) }
+    ensures { (result ≡ leaves.pair_number given answer)
+        × (complex_of re.new im.new ≡ spec.pair_after answer (complex_of re.old im.old)) }
 {
     match answer {
         Pair::Finite(z) => {
@@ -56,7 +56,7 @@ fn give_pair(answer: Pair, given: bool, re: &mut f64, im: &mut f64) -> u32
 
 // A real answer, and its number.
 fn give_real(answer: Real, given: bool, value: &mut f64) -> u32
-    ensures { (result ≡ leaves.realNumber given answer) × (value.new ≡ spec.realAfter answer value.old) }
+    ensures { (result ≡ leaves.real_number given answer) × (value.new ≡ spec.real_after answer value.old) }
 {
     match answer {
         Real::Finite(x) => {
@@ -77,12 +77,12 @@ pub extern "C" fn jeturipe_cadd(
     re: &mut f64,
     im: &mut f64,
 ) -> u32
-    ensures { (result ≡ leaves.singleRefusal
-        (ofParts (complexOf a_re a_im) ++ ofParts (complexOf b_re b_im))
-        (computed.ofSum (complexOf a_re a_im) (complexOf b_re b_im)))
-        × (complexOf re.new im.new
-        ≡ answerAfter result (arithmetic.cadd (complexOf a_re a_im) (complexOf b_re b_im))
-        (complexOf re.old im.old)) }
+    ensures { (result ≡ leaves.single_refusal
+        (of_parts (complex_of a_re a_im) ++ of_parts (complex_of b_re b_im))
+        (computed.of_sum (complex_of a_re a_im) (complex_of b_re b_im)))
+        × (complex_of re.new im.new
+        ≡ answer_after result (arithmetic.cadd (complex_of a_re a_im) (complex_of b_re b_im))
+        (complex_of re.old im.old)) }
 {
     let a = Complex { re: a_re, im: a_im };
     let b = Complex { re: b_re, im: b_im };
@@ -99,12 +99,12 @@ pub extern "C" fn jeturipe_csub(
     re: &mut f64,
     im: &mut f64,
 ) -> u32
-    ensures { (result ≡ leaves.singleRefusal
-        (ofParts (complexOf a_re a_im) ++ ofParts (complexOf b_re b_im))
-        (computed.ofDifference (complexOf a_re a_im) (complexOf b_re b_im)))
-        × (complexOf re.new im.new
-        ≡ answerAfter result (arithmetic.csub (complexOf a_re a_im) (complexOf b_re b_im))
-        (complexOf re.old im.old)) }
+    ensures { (result ≡ leaves.single_refusal
+        (of_parts (complex_of a_re a_im) ++ of_parts (complex_of b_re b_im))
+        (computed.of_difference (complex_of a_re a_im) (complex_of b_re b_im)))
+        × (complex_of re.new im.new
+        ≡ answer_after result (arithmetic.csub (complex_of a_re a_im) (complex_of b_re b_im))
+        (complex_of re.old im.old)) }
 {
     let a = Complex { re: a_re, im: a_im };
     let b = Complex { re: b_re, im: b_im };
@@ -121,12 +121,12 @@ pub extern "C" fn jeturipe_cmul(
     re: &mut f64,
     im: &mut f64,
 ) -> u32
-    ensures { (result ≡ leaves.singleRefusal
-        (ofParts (complexOf a_re a_im) ++ ofParts (complexOf b_re b_im))
-        (computed.ofProduct (complexOf a_re a_im) (complexOf b_re b_im)))
-        × (complexOf re.new im.new
-        ≡ answerAfter result (arithmetic.cmul (complexOf a_re a_im) (complexOf b_re b_im))
-        (complexOf re.old im.old)) }
+    ensures { (result ≡ leaves.single_refusal
+        (of_parts (complex_of a_re a_im) ++ of_parts (complex_of b_re b_im))
+        (computed.of_product (complex_of a_re a_im) (complex_of b_re b_im)))
+        × (complex_of re.new im.new
+        ≡ answer_after result (arithmetic.cmul (complex_of a_re a_im) (complex_of b_re b_im))
+        (complex_of re.old im.old)) }
 {
     let a = Complex { re: a_re, im: a_im };
     let b = Complex { re: b_re, im: b_im };
@@ -143,12 +143,12 @@ pub extern "C" fn jeturipe_cdiv(
     re: &mut f64,
     im: &mut f64,
 ) -> u32
-    ensures { (result ≡ leaves.singleRefusal
-        (ofParts (complexOf a_re a_im) ++ ofParts (complexOf b_re b_im))
-        (computed.ofQuotient (complexOf a_re a_im) (complexOf b_re b_im)))
-        × (complexOf re.new im.new
-        ≡ answerAfter result (arithmetic.cdiv (complexOf a_re a_im) (complexOf b_re b_im))
-        (complexOf re.old im.old)) }
+    ensures { (result ≡ leaves.single_refusal
+        (of_parts (complex_of a_re a_im) ++ of_parts (complex_of b_re b_im))
+        (computed.of_quotient (complex_of a_re a_im) (complex_of b_re b_im)))
+        × (complex_of re.new im.new
+        ≡ answer_after result (arithmetic.cdiv (complex_of a_re a_im) (complex_of b_re b_im))
+        (complex_of re.old im.old)) }
 {
     let a = Complex { re: a_re, im: a_im };
     let b = Complex { re: b_re, im: b_im };
@@ -158,9 +158,9 @@ pub extern "C" fn jeturipe_cdiv(
 // -a.
 #[unsafe(no_mangle)]
 pub extern "C" fn jeturipe_cneg(a_re: f64, a_im: f64, re: &mut f64, im: &mut f64) -> u32
-    ensures { (result ≡ leaves.singleRefusal (ofParts (complexOf a_re a_im)) (ofParts (complexOf a_re a_im)))
-        × (complexOf re.new im.new
-        ≡ answerAfter result (arithmetic.cneg (complexOf a_re a_im)) (complexOf re.old im.old)) }
+    ensures { (result ≡ leaves.single_refusal (of_parts (complex_of a_re a_im)) (of_parts (complex_of a_re a_im)))
+        × (complex_of re.new im.new
+        ≡ answer_after result (arithmetic.cneg (complex_of a_re a_im)) (complex_of re.old im.old)) }
 {
     let a = Complex { re: a_re, im: a_im };
     give_pair(complex::cneg(a), both_finite(a), re, im)
@@ -169,10 +169,10 @@ pub extern "C" fn jeturipe_cneg(a_re: f64, a_im: f64, re: &mut f64, im: &mut f64
 // 1 / a, as `jeturipe_cdiv` has it.
 #[unsafe(no_mangle)]
 pub extern "C" fn jeturipe_complex_inv(a_re: f64, a_im: f64, re: &mut f64, im: &mut f64) -> u32
-    ensures { (result ≡ leaves.singleRefusal (ofParts (complexOf a_re a_im))
-        (computed.ofQuotient arithmetic.unit (complexOf a_re a_im)))
-        × (complexOf re.new im.new
-        ≡ answerAfter result (arithmetic.complexInv (complexOf a_re a_im)) (complexOf re.old im.old)) }
+    ensures { (result ≡ leaves.single_refusal (of_parts (complex_of a_re a_im))
+        (computed.of_quotient arithmetic.unit (complex_of a_re a_im)))
+        × (complex_of re.new im.new
+        ≡ answer_after result (arithmetic.complex_inv (complex_of a_re a_im)) (complex_of re.old im.old)) }
 {
     let a = Complex { re: a_re, im: a_im };
     give_pair(complex::complex_inv(a), both_finite(a), re, im)
@@ -181,8 +181,8 @@ pub extern "C" fn jeturipe_complex_inv(a_re: f64, a_im: f64, re: &mut f64, im: &
 // The absolute value of x.
 #[unsafe(no_mangle)]
 pub extern "C" fn jeturipe_abs(x: f64, value: &mut f64) -> u32
-    ensures { (result ≡ leaves.singleRefusal (x ∷ []) (x ∷ []))
-        × (value.new ≡ answerAfter result (magnitudes.abs x) value.old) }
+    ensures { (result ≡ leaves.single_refusal (x ∷ []) (x ∷ []))
+        × (value.new ≡ answer_after result (magnitudes.abs x) value.old) }
 {
     give_real(complex::magnitude::abs(x), finite(x), value)
 }
@@ -190,8 +190,8 @@ pub extern "C" fn jeturipe_abs(x: f64, value: &mut f64) -> u32
 // The square root of x, correctly rounded; refused with 20 where x is below 0.
 #[unsafe(no_mangle)]
 pub extern "C" fn jeturipe_sqrt(x: f64, value: &mut f64) -> u32
-    ensures { (result ≡ leaves.singleRefusal (x ∷ []) (root x ∷ []))
-        × (value.new ≡ answerAfter result (root x) value.old) }
+    ensures { (result ≡ leaves.single_refusal (x ∷ []) (root x ∷ []))
+        × (value.new ≡ answer_after result (root x) value.old) }
 {
     give_real(complex::magnitude::sqrt(x), finite(x), value)
 }
@@ -199,8 +199,8 @@ pub extern "C" fn jeturipe_sqrt(x: f64, value: &mut f64) -> u32
 // The magnitude of a complex number: the root of re re + im im, each step rounded.
 #[unsafe(no_mangle)]
 pub extern "C" fn jeturipe_magnitude(re: f64, im: f64, value: &mut f64) -> u32
-    ensures { (result ≡ leaves.singleRefusal (ofParts (complexOf re im)) (ofMagnitude (complexOf re im)))
-        × (value.new ≡ answerAfter result (magnitudes.magnitude (complexOf re im)) value.old) }
+    ensures { (result ≡ leaves.single_refusal (of_parts (complex_of re im)) (of_magnitude (complex_of re im)))
+        × (value.new ≡ answer_after result (magnitudes.magnitude (complex_of re im)) value.old) }
 {
     let c = Complex { re: re, im: im };
     give_real(complex::magnitude::magnitude(c), both_finite(c), value)

@@ -33,15 +33,15 @@ pub extern "C" fn jeturipe_ward_compute(
     rows_reduced: &mut usize,
 ) -> u32
     ensures { spec.WardAnswered
-        (ward.afterCompute (ward.numberedOf numbers.now (calls.studyOf n y.now
+        (ward.after_compute (ward.numbered_of numbers.now (calls.study_of n y.now
         internal.now external.now boundary.now base_mva p_ext.now q_ext.now))
         (Rows allowance)
-        (calls.outputsOf y_ward.old p_ward.old q_ward.old work.old))
+        (calls.outputs_of y_ward.old p_ward.old q_ward.old work.old))
         result
-        (calls.outputsOf y_ward.new p_ward.new q_ward.new work.new)
-        (answers.summaryOf n_buses_reduced.old n_buses_equivalent.old reduction_ratio.old
+        (calls.outputs_of y_ward.new p_ward.new q_ward.new work.new)
+        (answers.summary_of n_buses_reduced.old n_buses_equivalent.old reduction_ratio.old
         rows_reduced.old)
-        (answers.summaryOf n_buses_reduced.new n_buses_equivalent.new reduction_ratio.new
+        (answers.summary_of n_buses_reduced.new n_buses_equivalent.new reduction_ratio.new
         rows_reduced.new) }
 {
     let answer = equivalents::ward::compute(
@@ -96,19 +96,19 @@ pub extern "C" fn jeturipe_ward_compute_extended(
     rows_reduced: &mut usize,
 ) -> u32
     ensures { spec.ExtendedAnswered
-        (ward.afterComputeExtended (ward.numberedExtendedOf (ward.numberedOf numbers.now
-        (calls.studyOf n y.now internal.now external.now boundary.now base_mva
+        (ward.after_compute_extended (ward.numbered_extended_of (ward.numbered_of numbers.now
+        (calls.study_of n y.now internal.now external.now boundary.now base_mva
         p_ext.now q_ext.now)) v_ext.now)
         (Rows allowance)
-        (calls.extendedOutputsOf
-        (calls.outputsOf y_ward.old p_ward.old q_ward.old work.old)
+        (calls.extended_outputs_of
+        (calls.outputs_of y_ward.old p_ward.old q_ward.old work.old)
         voltage_correction.old q_compensation.old))
         result
-        (calls.extendedOutputsOf (calls.outputsOf y_ward.new p_ward.new q_ward.new work.new)
+        (calls.extended_outputs_of (calls.outputs_of y_ward.new p_ward.new q_ward.new work.new)
         voltage_correction.new q_compensation.new)
-        (answers.summaryOf n_buses_reduced.old n_buses_equivalent.old reduction_ratio.old
+        (answers.summary_of n_buses_reduced.old n_buses_equivalent.old reduction_ratio.old
         rows_reduced.old)
-        (answers.summaryOf n_buses_reduced.new n_buses_equivalent.new reduction_ratio.new
+        (answers.summary_of n_buses_reduced.new n_buses_equivalent.new reduction_ratio.new
         rows_reduced.new) }
 {
     let answer = equivalents::ward::compute_extended(

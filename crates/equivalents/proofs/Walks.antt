@@ -51,7 +51,7 @@ pub use denote.Signature.{plain}
 pub use denote.Lend.{lends_ref, ref_back}
 pub use Rattle.kron_reduction.specs.declared.KronReducer.{KronReducer}
 pub use Rattle.kron_reduction.specs.declared.AfterRemoval.{AfterRemoval}
-pub use Rattle.kron_reduction.specs.Reducer.{afterBus, afterBuses}
+pub use Rattle.kron_reduction.specs.Reducer.{after_bus, after_buses}
 pub use Rattle.kron_reduction.specs.declared.AfterRemovals.{AfterRemovals}
 use denote.Struct.Laws as LL
 use Rattle.kron_reduction.specs.contracts.KronReducer as T

@@ -1,8 +1,8 @@
 -- What `thevenin_impedance` answers and leaves: only the n rows and columns of a matrix count for its inverse, and each test picks its case.
 use Rattle.prelude.proofs.Prelude.{◌≡◌, refl, sym, ap, ap₂, ◌∙◌, Bool, true, false, ◌&&◌, cond, inl, inr, List, ◌++◌, ℕ, zero, suc, ◌+◌, ◌*◌, ◌≤◌, ◌<◌, arith, T, eqb, length, take, Float, mul-le-mul, le-ltb, ne_eqb, is_true}
 use native.Mathlib.Nat.{mul-add}
-use Rattle.binary64.specs.Values.{allFinite}
-use Rattle.complex.specs.{Complex, Matrix, plus0, cadd, csub, cmul, ofSum, ofDifference, ofProduct, entry_at, zeros}
+use Rattle.binary64.specs.Values.{all_finite}
+use Rattle.complex.specs.{Complex, Matrix, plus0, cadd, csub, cmul, of_sum, of_difference, of_product, entry_at, zeros}
 use Rattle.complex.specs.declared.Pair.TheVariants.{Finite, NotFinite}
 use Rattle.complex.specs.Leaves.{pair, sum, difference, product}
 use Rattle.complex.proofs.Finite.{all_both}
@@ -11,22 +11,22 @@ use Rattle.complex.proofs.Answers.{pair-tells, pair-tells-not}
 use Rattle.complex.proofs.Matrices.{row_within}
 use Rattle.refusals.specs.Refusals.{limit}
 use Rattle.refusals.specs.declared.Allowance.TheVariants.{Unlimited}
-use Rattle.refusals.specs.Work.{Step, workRefusal, thenWork}
+use Rattle.refusals.specs.Work.{Step, work_refusal, then_work}
 use Rattle.refusals.proofs.Numbers.{given-none}
 use Rattle.refusals.proofs.Work.{then-numbers}
 use Rattle.solver.specs.GaussJordan.{augmented, solution}
-use Rattle.solver.specs.Solving.{operations, inverse, unitColumn}
-use Rattle.solver.specs.Steps.{workings, stepsOfInverse}
+use Rattle.solver.specs.Solving.{operations, inverse, unit_column}
+use Rattle.solver.specs.Steps.{workings, steps_of_inverse}
 use Rattle.solver.proofs.StepsSame.{run-steps-same}
 use Rattle.solver.proofs.GaussJordan.{run-same, augmented-system}
 use Rattle.kron_reduction.specs.declared.KronReducer.{KronReducer}
 use Rattle.kron_reduction.specs.declared.Impedance.{Impedance}
 use Rattle.kron_reduction.specs.declared.Impedance.TheVariants.{Value, Refused}
 use Rattle.lists.specs.declared.Found.TheVariants.{At, Nothing}
-use Rattle.lists.specs.Buses.{mem, place, foundIn}
-use Rattle.kron_reduction.specs.Reducer.{activeOf, row_of, sound, present}
+use Rattle.lists.specs.Buses.{mem, place, found_in}
+use Rattle.kron_reduction.specs.Reducer.{active_of, row_of, sound, present}
 use Rattle.kron_reduction.specs.Inner.Removal.{Holds}
-use Rattle.kron_reduction.specs.Reading.{readingShapeRefusal, readingRefusal, two, theveninOf, ofThevenin, stepsOfImpedance, impedance, impedanceTold, afterImpedance}
+use Rattle.kron_reduction.specs.Reading.{reading_shape_refusal, reading_refusal, two, thevenin_of, of_thevenin, steps_of_impedance, impedance, impedance_told, after_impedance}
 use Rattle.lists.proofs.Order.{lt-or-ge}
 use Rattle.lists.proofs.Lookups.{found_at, found-not}
 use Rattle.kron_reduction.proofs.Calls.{shaped-has, shaped-holds}
@@ -53,26 +53,26 @@ module _ (n : ℕ) (A B : Matrix) (same : (i j : ℕ) → i < n → j < n → A 
   pub inverse-same : (i c : ℕ) → i < n → inverse n A i c ≡ inverse n B i c
   unfolding solution
   inverse-same i c h =
-      (run-same operations n (n + 1) (omega arith) (augmented operations n A (λ (r k : ℕ). unitColumn c r)) (augmented operations n B (λ (r k : ℕ). unitColumn c r))
-      (λ (i j : ℕ) (h : i < n) (k : j < n + 1). beside_same (λ (r k : ℕ). unitColumn c r) i j h)).left i n h (omega arith)
+      (run-same operations n (n + 1) (omega arith) (augmented operations n A (λ (r k : ℕ). unit_column c r)) (augmented operations n B (λ (r k : ℕ). unit_column c r))
+      (λ (i j : ℕ) (h : i < n) (k : j < n + 1). beside_same (λ (r k : ℕ). unit_column c r) i j h)).left i n h (omega arith)
 
   -- and the same steps
-  pub steps-same : stepsOfInverse n A ≡ stepsOfInverse n B
-  unfolding stepsOfInverse
+  pub steps-same : steps_of_inverse n A ≡ steps_of_inverse n B
+  unfolding steps_of_inverse
   steps-same =
-      run-steps-same operations workings n (n + n) (omega arith) (augmented operations n A (λ (r k : ℕ). unitColumn k r)) (augmented operations n B (λ (r k : ℕ). unitColumn k r))
-      (λ (i j : ℕ) (h : i < n) (k : j < n + n). beside_same (λ (r k : ℕ). unitColumn k r) i j h)
+      run-steps-same operations workings n (n + n) (omega arith) (augmented operations n A (λ (r k : ℕ). unit_column k r)) (augmented operations n B (λ (r k : ℕ). unit_column k r))
+      (λ (i j : ℕ) (h : i < n) (k : j < n + n). beside_same (λ (r k : ℕ). unit_column k r) i j h)
 
-  pub impedance-steps-same : (p q : ℕ) → p < n → q < n → stepsOfImpedance n A p q ≡ stepsOfImpedance n B p q
-  unfolding stepsOfImpedance ofThevenin
+  pub impedance-steps-same : (p q : ℕ) → p < n → q < n → steps_of_impedance n A p q ≡ steps_of_impedance n B p q
+  unfolding steps_of_impedance of_thevenin
   impedance-steps-same p q hp hq = rw (steps-same, inverse-same p p hp, inverse-same q q hq, inverse-same p q hp)
 
-pub across-same : (Z W : Matrix) (p q : ℕ) → Z p p ≡ W p p → Z q q ≡ W q q → Z p q ≡ W p q → theveninOf Z p q ≡ theveninOf W p q
-unfolding theveninOf
+pub across-same : (Z W : Matrix) (p q : ℕ) → Z p p ≡ W p p → Z q q ≡ W q q → Z p q ≡ W p q → thevenin_of Z p q ≡ thevenin_of W p q
+unfolding thevenin_of
 across-same Z W p q a b c = rw (a, b, c)
 
-pub numbers-same : (Z W : Matrix) (p q : ℕ) → Z p p ≡ W p p → Z q q ≡ W q q → Z p q ≡ W p q → ofThevenin Z p q ≡ ofThevenin W p q
-unfolding ofThevenin
+pub numbers-same : (Z W : Matrix) (p q : ℕ) → Z p p ≡ W p p → Z q q ≡ W q q → Z p q ≡ W p q → of_thevenin Z p q ≡ of_thevenin W p q
+unfolding of_thevenin
 numbers-same Z W p q a b c = rw (a, b, c)
 
 -- ---- by what the operations answer
@@ -82,33 +82,33 @@ module _ (Z : Matrix) (p q : ℕ) where
   abbrev twice : Complex
   twice = record { re = two; im = plus0 }
 
-  three : allFinite (ofThevenin Z p q) ≡ ((allFinite (ofSum (Z p p) (Z q q)) && allFinite (ofProduct twice (Z p q))) && allFinite (ofDifference (cadd (Z p p) (Z q q)) (cmul twice (Z p q))))
-  unfolding ofThevenin
+  three : all_finite (of_thevenin Z p q) ≡ ((all_finite (of_sum (Z p p) (Z q q)) && all_finite (of_product twice (Z p q))) && all_finite (of_difference (cadd (Z p p) (Z q q)) (cmul twice (Z p q))))
+  unfolding of_thevenin
   three =
-      all_both (ofSum (Z p p) (Z q q) ++ ofProduct twice (Z p q)) (ofDifference (cadd (Z p p) (Z q q)) (cmul twice (Z p q)))
-      ∙ ap (λ (b : Bool). b && allFinite (ofDifference (cadd (Z p p) (Z q q)) (cmul twice (Z p q)))) (all_both (ofSum (Z p p) (Z q q)) (ofProduct twice (Z p q)))
+      all_both (of_sum (Z p p) (Z q q) ++ of_product twice (Z p q)) (of_difference (cadd (Z p p) (Z q q)) (cmul twice (Z p q)))
+      ∙ ap (λ (b : Bool). b && all_finite (of_difference (cadd (Z p p) (Z q q)) (cmul twice (Z p q)))) (all_both (of_sum (Z p p) (Z q q)) (of_product twice (Z p q)))
 
-  pub no-sum : NotFinite ≡ sum (Z p p) (Z q q) → NotFinite ≡ pair (ofThevenin Z p q) (theveninOf Z p q)
+  pub no-sum : NotFinite ≡ sum (Z p p) (Z q q) → NotFinite ≡ pair (of_thevenin Z p q) (thevenin_of Z p q)
   unfolding sum
-  no-sum e = pair-none (ofThevenin Z p q) (theveninOf Z p q) (three ∙ rw (pair-tells-not (ofSum (Z p p) (Z q q)) (cadd (Z p p) (Z q q)) e))
+  no-sum e = pair-none (of_thevenin Z p q) (thevenin_of Z p q) (three ∙ rw (pair-tells-not (of_sum (Z p p) (Z q q)) (cadd (Z p p) (Z q q)) e))
 
   module _ (own : Complex) (had : Finite own ≡ sum (Z p p) (Z q q)) where
-    first : (allFinite (ofSum (Z p p) (Z q q)) ≡ true) × (own ≡ cadd (Z p p) (Z q q))
+    first : (all_finite (of_sum (Z p p) (Z q q)) ≡ true) × (own ≡ cadd (Z p p) (Z q q))
     unfolding sum
-    first = pair-tells (ofSum (Z p p) (Z q q)) (cadd (Z p p) (Z q q)) own had
+    first = pair-tells (of_sum (Z p p) (Z q q)) (cadd (Z p p) (Z q q)) own had
 
-    pub no-product : NotFinite ≡ product twice (Z p q) → NotFinite ≡ pair (ofThevenin Z p q) (theveninOf Z p q)
+    pub no-product : NotFinite ≡ product twice (Z p q) → NotFinite ≡ pair (of_thevenin Z p q) (thevenin_of Z p q)
     unfolding product
     no-product e =
-        pair-none (ofThevenin Z p q) (theveninOf Z p q)
-        (three ∙ rw (first.0, pair-tells-not (ofProduct twice (Z p q)) (cmul twice (Z p q)) e))
+        pair-none (of_thevenin Z p q) (thevenin_of Z p q)
+        (three ∙ rw (first.0, pair-tells-not (of_product twice (Z p q)) (cmul twice (Z p q)) e))
 
-    pub all_three : (joint : Complex) → Finite joint ≡ product twice (Z p q) → difference own joint ≡ pair (ofThevenin Z p q) (theveninOf Z p q)
-    unfolding product difference theveninOf
+    pub all_three : (joint : Complex) → Finite joint ≡ product twice (Z p q) → difference own joint ≡ pair (of_thevenin Z p q) (thevenin_of Z p q)
+    unfolding product difference thevenin_of
     all_three joint e =
-        let second = pair-tells (ofProduct twice (Z p q)) (cmul twice (Z p q)) joint e in
-        ap₂ (λ (x y : Complex). pair (ofDifference x y) (csub x y)) first.1 second.1
-        ∙ pair_same (ofDifference (cadd (Z p p) (Z q q)) (cmul twice (Z p q))) (ofThevenin Z p q) (csub (cadd (Z p p) (Z q q)) (cmul twice (Z p q))) (sym (three ∙ rw (first.0, second.0)))
+        let second = pair-tells (of_product twice (Z p q)) (cmul twice (Z p q)) joint e in
+        ap₂ (λ (x y : Complex). pair (of_difference x y) (csub x y)) first.1 second.1
+        ∙ pair_same (of_difference (cadd (Z p p) (Z q q)) (cmul twice (Z p q))) (of_thevenin Z p q) (csub (cadd (Z p p) (Z q q)) (cmul twice (Z p q))) (sym (three ∙ rw (first.0, second.0)))
 
 -- ---- the answer
 
@@ -118,19 +118,19 @@ refused-is zero z n = absurd (n refl)
 refused-is (suc f) z n = refl
 
 -- by what the inverse's steps meet, and then by the numbers of the impedance
-module _ (met n : ℕ) (Y : Matrix) (p q : ℕ) (z : Complex) (e : met ≡ workRefusal Unlimited (stepsOfInverse n Y)) where
-  whole : workRefusal Unlimited (stepsOfImpedance n Y p q) ≡ cond (eqb met 0) (cond (allFinite (ofThevenin (inverse n Y) p q)) 0 20) met
-  unfolding stepsOfImpedance
-  whole = rw e (then-numbers (stepsOfInverse n Y) (ofThevenin (inverse n Y) p q))
+module _ (met n : ℕ) (Y : Matrix) (p q : ℕ) (z : Complex) (e : met ≡ work_refusal Unlimited (steps_of_inverse n Y)) where
+  whole : work_refusal Unlimited (steps_of_impedance n Y p q) ≡ cond (eqb met 0) (cond (all_finite (of_thevenin (inverse n Y) p q)) 0 20) met
+  unfolding steps_of_impedance
+  whole = rw e (then-numbers (steps_of_inverse n Y) (of_thevenin (inverse n Y) p q))
 
-  pub inverse-met : (met ≡ 0 → ⊥) → Refused met ≡ impedance (workRefusal Unlimited (stepsOfImpedance n Y p q)) z
+  pub inverse-met : (met ≡ 0 → ⊥) → Refused met ≡ impedance (work_refusal Unlimited (steps_of_impedance n Y p q)) z
   inverse-met h = rw (whole, ne_eqb met 0 h) (refused-is met z h)
 
-  pub impedance-value : met ≡ 0 → allFinite (ofThevenin (inverse n Y) p q) ≡ true → Value z ≡ impedance (workRefusal Unlimited (stepsOfImpedance n Y p q)) z
+  pub impedance-value : met ≡ 0 → all_finite (of_thevenin (inverse n Y) p q) ≡ true → Value z ≡ impedance (work_refusal Unlimited (steps_of_impedance n Y p q)) z
   unfolding impedance
   impedance-value h f = rw (whole, h, f)
 
-  pub impedance-lost : met ≡ 0 → allFinite (ofThevenin (inverse n Y) p q) ≡ false → Refused 20 ≡ impedance (workRefusal Unlimited (stepsOfImpedance n Y p q)) z
+  pub impedance-lost : met ≡ 0 → all_finite (of_thevenin (inverse n Y) p q) ≡ false → Refused 20 ≡ impedance (work_refusal Unlimited (steps_of_impedance n Y p q)) z
   unfolding impedance
   impedance-lost h f = rw (whole, h, f)
 
@@ -144,50 +144,50 @@ module _ (r : KronReducer) (ys : List Float) (a b : ℕ) (ws : List Float) where
 
   -- what is told before the work is the answer
   told-first : (told : ℕ) (es : List Step) (z : Complex) → (told ≡ 0 → ⊥)
-      → (Refused told ≡ impedance (thenWork told Unlimited es) z) × (ws ≡ cond (eqb told 0) (zeros (length ws)) ws)
-  unfolding thenWork
+      → (Refused told ≡ impedance (then_work told Unlimited es) z) × (ws ≡ cond (eqb told 0) (zeros (length ws)) ws)
+  unfolding then_work
   told-first told es z n = rw (ne_eqb told 0 n) (refused-is told z n, refl)
 
   abbrev Left : ℕ → Type 0
-  Left f = (Refused f ≡ (afterImpedance r ys a b ws).answer) × (ws ≡ (afterImpedance r ys a b ws).work)
+  Left f = (Refused f ≡ (after_impedance r ys a b ws).answer) × (ws ≡ (after_impedance r ys a b ws).work)
 
-  before-work : (f : ℕ) → (f ≡ 0 → ⊥) → f ≡ impedanceTold (readingRefusal 4 r ys (length ws)) (activeOf r) i j → Left f
-  unfolding afterImpedance
+  before-work : (f : ℕ) → (f ≡ 0 → ⊥) → f ≡ impedance_told (reading_refusal 4 r ys (length ws)) (active_of r) i j → Left f
+  unfolding after_impedance
   before-work f n e =
-      let xs = activeOf r in let m = r.n_buses in let Y = entry_at m ys in
-      rw (← e) (told-first f (stepsOfImpedance m Y (place i xs) (place j xs)) (theveninOf (inverse m Y) (place i xs) (place j xs)) n)
+      let xs = active_of r in let m = r.n_buses in let Y = entry_at m ys in
+      rw (← e) (told-first f (steps_of_impedance m Y (place i xs) (place j xs)) (thevenin_of (inverse m Y) (place i xs) (place j xs)) n)
 
-  pub impedance-refused : (f : ℕ) → (f ≡ 0 → ⊥) → f ≡ readingRefusal 4 r ys (length ws) → Left f
-  unfolding impedanceTold
+  pub impedance-refused : (f : ℕ) → (f ≡ 0 → ⊥) → f ≡ reading_refusal 4 r ys (length ws) → Left f
+  unfolding impedance_told
   impedance-refused f n e = before-work f n (rw (← e, ne_eqb f 0 n))
 
   -- where the input is accepted
-  module _ (ok : readingRefusal 4 r ys (length ws) ≡ 0) where
-    pub impedance-first : foundIn i (activeOf r) ≡ Nothing → Left 11
-    unfolding impedanceTold
-    impedance-first e = before-work 11 (λ (z : 11 ≡ 0). omega arith) (rw (ok, found-not i (activeOf r) e))
+  module _ (ok : reading_refusal 4 r ys (length ws) ≡ 0) where
+    pub impedance-first : found_in i (active_of r) ≡ Nothing → Left 11
+    unfolding impedance_told
+    impedance-first e = before-work 11 (λ (z : 11 ≡ 0). omega arith) (rw (ok, found-not i (active_of r) e))
 
-    module _ (p : ℕ) (at_i : foundIn i (activeOf r) ≡ At p) where
-      pub impedance-second : foundIn j (activeOf r) ≡ Nothing → Left 11
-      unfolding impedanceTold
-      impedance-second e = before-work 11 (λ (z : 11 ≡ 0). omega arith) (rw (ok, is_true (mem i (activeOf r)) (found_at i (activeOf r) p at_i).0, found-not j (activeOf r) e))
+    module _ (p : ℕ) (at_i : found_in i (active_of r) ≡ At p) where
+      pub impedance-second : found_in j (active_of r) ≡ Nothing → Left 11
+      unfolding impedance_told
+      impedance-second e = before-work 11 (λ (z : 11 ≡ 0). omega arith) (rw (ok, is_true (mem i (active_of r)) (found_at i (active_of r) p at_i).0, found-not j (active_of r) e))
 
-      module _ (q : ℕ) (at_j : foundIn j (activeOf r) ≡ At q) where
-        none_told : impedanceTold (readingRefusal 4 r ys (length ws)) (activeOf r) i j ≡ 0
-        unfolding impedanceTold
-        none_told = rw (ok, is_true (mem i (activeOf r)) (found_at i (activeOf r) p at_i).0, is_true (mem j (activeOf r)) (found_at j (activeOf r) q at_j).0)
+      module _ (q : ℕ) (at_j : found_in j (active_of r) ≡ At q) where
+        none_told : impedance_told (reading_refusal 4 r ys (length ws)) (active_of r) i j ≡ 0
+        unfolding impedance_told
+        none_told = rw (ok, is_true (mem i (active_of r)) (found_at i (active_of r) p at_i).0, is_true (mem j (active_of r)) (found_at j (active_of r) q at_j).0)
 
         pub impedance-found : (o : Impedance) (zs : List Float)
-            → (o ≡ impedance (workRefusal Unlimited (stepsOfImpedance r.n_buses (entry_at r.n_buses ys) p q)) (theveninOf (inverse r.n_buses (entry_at r.n_buses ys)) p q)) × (zs ≡ zeros (length ws))
-            → (o ≡ (afterImpedance r ys a b ws).answer) × (zs ≡ (afterImpedance r ys a b ws).work)
-        unfolding afterImpedance thenWork
-        impedance-found o zs h = rw (none_told, (found_at i (activeOf r) p at_i).1, (found_at j (activeOf r) q at_j).1) h
+            → (o ≡ impedance (work_refusal Unlimited (steps_of_impedance r.n_buses (entry_at r.n_buses ys) p q)) (thevenin_of (inverse r.n_buses (entry_at r.n_buses ys)) p q)) × (zs ≡ zeros (length ws))
+            → (o ≡ (after_impedance r ys a b ws).answer) × (zs ≡ (after_impedance r ys a b ws).work)
+        unfolding after_impedance then_work
+        impedance-found o zs h = rw (none_told, (found_at i (active_of r) p at_i).1, (found_at j (active_of r) q at_j).1) h
 
-    accepted : (readingShapeRefusal 4 r ys (length ws) ≡ 0) × T (allFinite (present r ys))
-    unfolding readingRefusal
-    accepted = given-none (readingShapeRefusal 4 r ys (length ws)) (present r ys) ok
+    accepted : (reading_shape_refusal 4 r ys (length ws) ≡ 0) × T (all_finite (present r ys))
+    unfolding reading_refusal
+    accepted = given-none (reading_shape_refusal 4 r ys (length ws)) (present r ys) ok
 
-    pub impedance-finite : T (allFinite (take (2 * (r.n_buses * r.n_buses)) ys))
+    pub impedance-finite : T (all_finite (take (2 * (r.n_buses * r.n_buses)) ys))
     impedance-finite = accepted.1
 
     pub impedance-sound : (r.made ≤ limit) × T (sound r)

@@ -4,14 +4,14 @@ use Rattle.complex.specs.{zeros}
 use Rattle.lists.proofs.Parts.{back}
 use Rattle.refusals.proofs.Answering.{passed, accepting}
 use Rattle.refusals.proofs.Numbers.{given-none, given-before, given-not, given-all}
-use Rattle.refusals.specs.Refusals.{limit, givenNotFinite}
-use Rattle.binary64.specs.Values.{allFinite}
+use Rattle.refusals.specs.Refusals.{limit, given_not_finite}
+use Rattle.binary64.specs.Values.{all_finite}
 use Rattle.kron_reduction.specs.declared.KronReducer.{KronReducer}
 use Rattle.kron_reduction.specs.declared.AfterRemovals.{AfterRemovals}
 use Rattle.kron_reduction.specs.declared.removal.Ran.{Ran}
-use Rattle.kron_reduction.specs.Kron.{State, eliminate, carriedOut, stoppedBy}
-use Rattle.kron_reduction.specs.Reducer.{reducerOf, recordOf, activeOf, numbersOf, sound, inputShapeRefusal, present, inputRefusal, stateIn, state_of, reducerStateOf, rowMajor, stored, leaves, rows_of, removedRows, removalsRefusal, removalsOf, ReducerState, AfterBuses, afterBuses, padded}
-use Rattle.kron_reduction.specs.Inner.Removal.{StandsIn, leftBy, Holds, RemovedAll}
+use Rattle.kron_reduction.specs.Kron.{State, eliminate, carried_out, stopped_by}
+use Rattle.kron_reduction.specs.Reducer.{reducer_of, record_of, active_of, numbers_of, sound, input_shape_refusal, present, input_refusal, state_in, state_of, reducer_state_of, row_major, stored, leaves, rows_of, removed_rows, removals_refusal, removals_of, ReducerState, AfterBuses, after_buses, padded}
+use Rattle.kron_reduction.specs.Inner.Removal.{StandsIn, left_by, Holds, RemovedAll}
 use Rattle.lists.proofs.Buses.{neither, rising-length}
 use Rattle.kron_reduction.proofs.States.{Accepted, taken-accepted}
 use Rattle.kron_reduction.proofs.Reducer.{Sound, sound-has, filled-places}
@@ -28,8 +28,8 @@ pub record Accepts (r : KronReducer) (ys : List Float) (l : ℕ) : Type 0 where
   pub record' : T (sound r)
 
 -- what the shapes of an input tell
-pub shaped-has : (r : KronReducer) (ys : List Float) (l : ℕ) → inputShapeRefusal r ys l ≡ 0 → Accepts r ys l
-unfolding inputShapeRefusal
+pub shaped-has : (r : KronReducer) (ys : List Float) (l : ℕ) → input_shape_refusal r ys l ≡ 0 → Accepts r ys l
+unfolding input_shape_refusal
 shaped-has r ys l e =
     let (many, e2) = passed (ltb limit r.made || ltb limit l) 0 _ e in
     let (given, e9) = passed (not (eqb (length ys) (2 * (r.made * r.made)))) 1 _ e2 in
@@ -38,32 +38,32 @@ shaped-has r ys l e =
     search (accepting, ltb-false)
 
 -- what is told: by the shapes, where they tell something, else by the numbers
-module _ (r : KronReducer) (ys : List Float) (l f : ℕ) (e : f ≡ inputShapeRefusal r ys l) where
-  pub told-shape : (f ≡ 0 → ⊥) → inputRefusal r ys l ≡ f
-  unfolding inputRefusal
+module _ (r : KronReducer) (ys : List Float) (l f : ℕ) (e : f ≡ input_shape_refusal r ys l) where
+  pub told-shape : (f ≡ 0 → ⊥) → input_refusal r ys l ≡ f
+  unfolding input_refusal
   told-shape h = sym (given-before f _ (present r ys) e h)
 
-  pub told-not : f ≡ 0 → allFinite (present r ys) ≡ false → inputRefusal r ys l ≡ givenNotFinite
-  unfolding inputRefusal
+  pub told-not : f ≡ 0 → all_finite (present r ys) ≡ false → input_refusal r ys l ≡ given_not_finite
+  unfolding input_refusal
   told-not z h = sym (given-not f _ (present r ys) e z h)
 
-  pub told_none : f ≡ 0 → allFinite (present r ys) ≡ true → inputRefusal r ys l ≡ 0
-  unfolding inputRefusal
+  pub told_none : f ≡ 0 → all_finite (present r ys) ≡ true → input_refusal r ys l ≡ 0
+  unfolding input_refusal
   told_none z h = sym (given-all f _ (present r ys) e z h)
 
-pub input-shaped : (r : KronReducer) (ys : List Float) (l : ℕ) → inputRefusal r ys l ≡ 0 → inputShapeRefusal r ys l ≡ 0
-unfolding inputRefusal
-input-shaped r ys l e = (given-none (inputShapeRefusal r ys l) (present r ys) e).0
+pub input-shaped : (r : KronReducer) (ys : List Float) (l : ℕ) → input_refusal r ys l ≡ 0 → input_shape_refusal r ys l ≡ 0
+unfolding input_refusal
+input-shaped r ys l e = (given-none (input_shape_refusal r ys l) (present r ys) e).0
 
-pub accepts-has : (r : KronReducer) (ys : List Float) (l : ℕ) → inputRefusal r ys l ≡ 0 → Accepts r ys l
+pub accepts-has : (r : KronReducer) (ys : List Float) (l : ℕ) → input_refusal r ys l ≡ 0 → Accepts r ys l
 accepts-has r ys l e = shaped-has r ys l (input-shaped r ys l e)
 
 -- and the numbers of the present rows are finite
-pub accepts-finite : (r : KronReducer) (ys : List Float) (l : ℕ) → inputRefusal r ys l ≡ 0 → T (allFinite (present r ys))
-unfolding inputRefusal
-accepts-finite r ys l e = (given-none (inputShapeRefusal r ys l) (present r ys) e).1
+pub accepts-finite : (r : KronReducer) (ys : List Float) (l : ℕ) → input_refusal r ys l ≡ 0 → T (all_finite (present r ys))
+unfolding input_refusal
+accepts-finite r ys l e = (given-none (input_shape_refusal r ys l) (present r ys) e).1
 
-pub shaped-holds : (r : KronReducer) (ys : List Float) (l : ℕ) → length r.active_buses ≡ limit → inputShapeRefusal r ys l ≡ 0 → Holds r.n_buses r.active_buses ys
+pub shaped-holds : (r : KronReducer) (ys : List Float) (l : ℕ) → length r.active_buses ≡ limit → input_shape_refusal r ys l ≡ 0 → Holds r.n_buses r.active_buses ys
 shaped-holds r ys l long e = record {
   room = has.room;
   places = filled-places r.n_buses r.active_buses has.room long has.behind;
@@ -79,18 +79,18 @@ shaped-holds r ys l long e = record {
 
     fewer : r.n_buses ≤ r.made
     fewer =
-        let a = rising-length r.made (activeOf r) has.rises has.below in
-        let b : length (activeOf r) ≡ r.n_buses = length-take-le r.n_buses r.active_buses (rw long has.room) in
+        let a = rising-length r.made (active_of r) has.rises has.below in
+        let b : length (active_of r) ≡ r.n_buses = length-take-le r.n_buses r.active_buses (rw long has.room) in
         omega arith
 
-pub accepted-holds : (r : KronReducer) (ys : List Float) (l : ℕ) → length r.active_buses ≡ limit → inputRefusal r ys l ≡ 0 → Holds r.n_buses r.active_buses ys
+pub accepted-holds : (r : KronReducer) (ys : List Float) (l : ℕ) → length r.active_buses ≡ limit → input_refusal r ys l ≡ 0 → Holds r.n_buses r.active_buses ys
 accepted-holds r ys l long e = shaped-holds r ys l long (input-shaped r ys l e)
 
 -- ---- rows at the front, +0 behind
 
 pub stored-front : (s : State) (m len : ℕ) (ys : List Float) → length s.active ≡ m → StandsIn s ys → length ys ≡ len → 2 * (m * m) ≤ len
-    → take (2 * (m * m)) ys ++ zeros (len - 2 * (m * m)) ≡ rowMajor len s.active s.entries
-unfolding rowMajor
+    → take (2 * (m * m)) ys ++ zeros (len - 2 * (m * m)) ≡ row_major len s.active s.entries
+unfolding row_major
 stored-front s m len ys e shows long fits = ap₂ (λ (a b : List Float). a ++ b) (front-rows s m ys e shows (rw long fits)) (ap (λ (k : ℕ). zeros (len - 2 * (k * k))) (sym e))
 
 -- a list whose end came back as zs
@@ -100,7 +100,7 @@ back_end a len ys zs long =
     ap (λ (b : List Float). take a ys ++ (zs ++ b)) nothing ∙ ap (λ (b : List Float). take a ys ++ b) (append-nil zs)
 
 pub laid_out : (s : State) (m len : ℕ) (ys zs : List Float) → length s.active ≡ m → StandsIn s ys → length ys ≡ len → 2 * (m * m) ≤ len → zs ≡ zeros (len - 2 * (m * m))
-    → back (2 * (m * m)) (len - 2 * (m * m)) ys zs ≡ rowMajor len s.active s.entries
+    → back (2 * (m * m)) (len - 2 * (m * m)) ys zs ≡ row_major len s.active s.entries
 laid_out s m len ys zs e shows long fits clear =
     back_end (2 * (m * m)) len ys zs long ∙ ap (λ (b : List Float). take (2 * (m * m)) ys ++ b) clear ∙ stored-front s m len ys e shows long fits
 
@@ -112,33 +112,33 @@ nothing (t ∷ ts) e = absurd (omega arith)
 
 -- a state as the call lays it out
 abbrev laid : KronReducer → State → ReducerState
-laid r e = reducerStateOf (recordOf r.made (numbersOf r) e.active) (rowMajor (2 * (r.made * r.made)) e.active e.entries)
+laid r e = reducer_state_of (record_of r.made (numbers_of r) e.active) (row_major (2 * (r.made * r.made)) e.active e.entries)
 
-leaves-cons : (r : KronReducer) (ys : List Float) (t : ℕ) (ts : List ℕ) → leaves r ys (t ∷ ts) ≡ laid r (eliminate (stateIn r.n_buses (activeOf r) ys) (t ∷ ts))
+leaves-cons : (r : KronReducer) (ys : List Float) (t : ℕ) (ts : List ℕ) → leaves r ys (t ∷ ts) ≡ laid r (eliminate (state_in r.n_buses (active_of r) ys) (t ∷ ts))
 unfolding leaves stored state_of
 leaves-cons r ys t ts = refl
 
-leaves_none : (r : KronReducer) (ys : List Float) → leaves r ys [] ≡ reducerStateOf r ys
+leaves_none : (r : KronReducer) (ys : List Float) → leaves r ys [] ≡ reducer_state_of r ys
 unfolding leaves
 leaves_none r ys = refl
 
 module _ (r : KronReducer) (ys : List Float) (ks : List ℕ) where
-  pub buses-refused : (f : ℕ) → (f ≡ 0 → ⊥) → inputRefusal r ys (length ks) ≡ f
-      → (removalsOf f 0 r ≡ (afterBuses r ys ks).out) × (ys ≡ (afterBuses r ys ks).slice)
-  unfolding removedRows removalsRefusal leaves afterBuses
+  pub buses-refused : (f : ℕ) → (f ≡ 0 → ⊥) → input_refusal r ys (length ks) ≡ f
+      → (removals_of f 0 r ≡ (after_buses r ys ks).out) × (ys ≡ (after_buses r ys ks).slice)
+  unfolding removed_rows removals_refusal leaves after_buses
   buses-refused f n e = rw (e, ne_eqb f 0 n) (refl, refl)
 
   -- where the input is accepted
-  module _ (ok : inputRefusal r ys (length ks) ≡ 0) (long : length r.active_buses ≡ limit) (full : length r.numbers ≡ limit) where
+  module _ (ok : input_refusal r ys (length ks) ≡ 0) (long : length r.active_buses ≡ limit) (full : length r.numbers ≡ limit) where
     abbrev s : State
-    s = stateIn r.n_buses (activeOf r) ys
+    s = state_in r.n_buses (active_of r) ys
 
     -- the rows of the listed buses
     abbrev rs : List ℕ
     rs = rows_of r ks
 
-    after : afterBuses r ys ks ≡ record { out = removalsOf (stoppedBy s rs) (length (carriedOut s rs)) (leaves r ys (carriedOut s rs)).rec; slice = (leaves r ys (carriedOut s rs)).slice }
-    unfolding removedRows removalsRefusal afterBuses state_of
+    after : after_buses r ys ks ≡ record { out = removals_of (stopped_by s rs) (length (carried_out s rs)) (leaves r ys (carried_out s rs)).rec; slice = (leaves r ys (carried_out s rs)).slice }
+    unfolding removed_rows removals_refusal after_buses state_of
     after = rw ok
 
     same-places : padded (eliminate s []).active ≡ r.active_buses
@@ -148,34 +148,34 @@ module _ (r : KronReducer) (ys : List Float) (ks : List ℕ) where
     module _ (ran : Ran) (bs : List ℕ) (zs : List Float) (t : RemovedAll r.n_buses r.active_buses ys rs ran bs zs) where
       -- the record that the call leaves, by its parts
       abbrev left : KronReducer
-      left = reducerOf r.made (r.n_buses - ran.done) bs r.numbers
+      left = reducer_of r.made (r.n_buses - ran.done) bs r.numbers
 
-      answered : left ≡ (leaves r ys (carriedOut s rs)).rec → removalsOf ran.stopped ran.done left ≡ (afterBuses r ys ks).out
+      answered : left ≡ (leaves r ys (carried_out s rs)).rec → removals_of ran.stopped ran.done left ≡ (after_buses r ys ks).out
       answered e =
-          ap₂ (λ (f d : ℕ). removalsOf f d left) t.says t.count
-          ∙ ap (removalsOf (stoppedBy s rs) (length (carriedOut s rs))) e
+          ap₂ (λ (f d : ℕ). removals_of f d left) t.says t.count
+          ∙ ap (removals_of (stopped_by s rs) (length (carried_out s rs))) e
           ∙ ap (λ (x : AfterBuses). x.out) (sym after)
 
-      pub buses-none : ran.done ≡ 0 → (removalsOf ran.stopped ran.done left ≡ (afterBuses r ys ks).out) × (zs ≡ (afterBuses r ys ks).slice)
-      unfolding leftBy
+      pub buses-none : ran.done ≡ 0 → (removals_of ran.stopped ran.done left ≡ (after_buses r ys ks).out) × (zs ≡ (after_buses r ys ks).slice)
+      unfolding left_by
       buses-none z =
-          let none : carriedOut s rs ≡ [] = nothing (carriedOut s rs) (sym t.count ∙ z) in
-          let kept : leaves r ys (carriedOut s rs) ≡ reducerStateOf r ys = ap (leaves r ys) none ∙ leaves_none r ys in
+          let none : carried_out s rs ≡ [] = nothing (carried_out s rs) (sym t.count ∙ z) in
+          let kept : leaves r ys (carried_out s rs) ≡ reducer_state_of r ys = ap (leaves r ys) none ∙ leaves_none r ys in
           let places : bs ≡ r.active_buses = t.places ∙ ap (λ (ts : List ℕ). padded (eliminate s ts).active) none ∙ same-places in
-          let all : left ≡ r = ap₂ (λ (n : ℕ) (xs : List ℕ). reducerOf r.made n xs r.numbers) (ap (λ (d : ℕ). r.n_buses - d) z ∙ sub-zero r.n_buses) places in (
+          let all : left ≡ r = ap₂ (λ (n : ℕ) (xs : List ℕ). reducer_of r.made n xs r.numbers) (ap (λ (d : ℕ). r.n_buses - d) z ∙ sub-zero r.n_buses) places in (
             answered (all ∙ ap (λ (h : ReducerState). h.rec) (sym kept)),
-            t.slice ∙ ap (leftBy s ys) none ∙ ap (λ (h : ReducerState). h.slice) (sym kept) ∙ ap (λ (x : AfterBuses). x.slice) (sym after),
+            t.slice ∙ ap (left_by s ys) none ∙ ap (λ (h : ReducerState). h.slice) (sym kept) ∙ ap (λ (x : AfterBuses). x.slice) (sym after),
           )
 
       -- the state that is left
       abbrev end : State
-      end = eliminate s (carriedOut s rs)
+      end = eliminate s (carried_out s rs)
 
       pub buses-fewer : ran.done ≤ r.n_buses
       buses-fewer = t.within
 
       -- the numbers are as they were
-      places-kept : r.numbers ≡ padded (numbersOf r)
+      places-kept : r.numbers ≡ padded (numbers_of r)
       places-kept =
           let ok' = accepts-has r ys (length ks) ok in
           let has = sound-has r ok'.record' in
@@ -184,25 +184,25 @@ module _ (r : KronReducer) (ys : List Float) (ks : List ℕ) where
       buses-left : length end.active ≡ r.n_buses - ran.done
       buses-left =
           let h = accepted-holds r ys (length ks) long ok in
-          let e = length-eliminate s (carriedOut s rs) h.rises (taken-accepted s rs) in
-          let l : length (activeOf r) ≡ r.n_buses = holds-long r.n_buses r.active_buses ys h in
+          let e = length-eliminate s (carried_out s rs) h.rises (taken-accepted s rs) in
+          let l : length (active_of r) ≡ r.n_buses = holds-long r.n_buses r.active_buses ys h in
           omega (arith, e, l, t.count)
 
       pub buses-room : 2 * ((r.n_buses - ran.done) * (r.n_buses - ran.done)) ≤ length ys
       buses-room = le_trans (mul-le-mul_left 2 (mul-le-mul (omega arith) (omega arith))) (accepted-holds r ys (length ks) long ok).fits
 
       pub buses-some : (ran.done ≡ 0 → ⊥) → length zs ≡ length ys → (cs : List Float) → cs ≡ zeros (length ys - 2 * ((r.n_buses - ran.done) * (r.n_buses - ran.done)))
-          → (removalsOf ran.stopped ran.done left ≡ (afterBuses r ys ks).out)
-          × (back (2 * ((r.n_buses - ran.done) * (r.n_buses - ran.done))) (length ys - 2 * ((r.n_buses - ran.done) * (r.n_buses - ran.done))) zs cs ≡ (afterBuses r ys ks).slice)
+          → (removals_of ran.stopped ran.done left ≡ (after_buses r ys ks).out)
+          × (back (2 * ((r.n_buses - ran.done) * (r.n_buses - ran.done))) (length ys - 2 * ((r.n_buses - ran.done) * (r.n_buses - ran.done))) zs cs ≡ (after_buses r ys ks).slice)
       buses-some n same cs cleared =
           let m = r.n_buses - ran.done in
-          let kept : leaves r ys (carriedOut s rs) ≡ laid r end = something (carriedOut s rs) (λ (z : length (carriedOut s rs) ≡ 0). n (t.count ∙ z)) in
-          let rec : left ≡ recordOf r.made (numbersOf r) end.active =
-          ap₂ (λ (n : ℕ) (xs : List ℕ). reducerOf r.made n xs r.numbers) (sym buses-left) t.places
-          ∙ ap (reducerOf r.made (length end.active) (padded end.active)) places-kept in (
+          let kept : leaves r ys (carried_out s rs) ≡ laid r end = something (carried_out s rs) (λ (z : length (carried_out s rs) ≡ 0). n (t.count ∙ z)) in
+          let rec : left ≡ record_of r.made (numbers_of r) end.active =
+          ap₂ (λ (n : ℕ) (xs : List ℕ). reducer_of r.made n xs r.numbers) (sym buses-left) t.places
+          ∙ ap (reducer_of r.made (length end.active) (padded end.active)) places-kept in (
             answered (rec ∙ ap (λ (h : ReducerState). h.rec) (sym kept)),
             laid_out end m (length ys) zs cs buses-left t.shows same buses-room cleared
-                ∙ ap (λ (len : ℕ). rowMajor len end.active end.entries) (accepts-has r ys (length ks) ok).slice
+                ∙ ap (λ (len : ℕ). row_major len end.active end.entries) (accepts-has r ys (length ks) ok).slice
                 ∙ ap (λ (h : ReducerState). h.slice) (sym kept)
                 ∙ ap (λ (x : AfterBuses). x.slice) (sym after),
           )
@@ -218,28 +218,28 @@ zero_or zero = inl refl
 zero_or (suc n) = inr (λ (e : suc n ≡ 0). omega arith)
 
 -- none on an input refusal
-pub none-removed : (r : KronReducer) (ys : List Float) (ks : List ℕ) → (inputRefusal r ys (length ks) ≡ 0 → ⊥) → (afterBuses r ys ks).out.removals.removed ≡ 0
-none-removed r ys ks n = sym (ap (λ (t : AfterRemovals). t.removals.removed) (buses-refused r ys ks (inputRefusal r ys (length ks)) n refl).0)
+pub none-removed : (r : KronReducer) (ys : List Float) (ks : List ℕ) → (input_refusal r ys (length ks) ≡ 0 → ⊥) → (after_buses r ys ks).out.removals.removed ≡ 0
+none-removed r ys ks n = sym (ap (λ (t : AfterRemovals). t.removals.removed) (buses-refused r ys ks (input_refusal r ys (length ks)) n refl).0)
 
 -- their number and the present size at exit are the present size at entry, accepted or refused; a record has as many places as the limit
 pub removed-count : (r : KronReducer) (ys : List Float) (ks : List ℕ) → length r.active_buses ≡ limit → length r.numbers ≡ limit
-    → (afterBuses r ys ks).out.removals.removed + (afterBuses r ys ks).out.rec.n_buses ≡ r.n_buses
-removed-count r ys ks long full = elim (zero_or (inputRefusal r ys (length ks))) [ inl ok ↦ counted ok | inr n ↦ as_it_was n ]
+    → (after_buses r ys ks).out.removals.removed + (after_buses r ys ks).out.rec.n_buses ≡ r.n_buses
+removed-count r ys ks long full = elim (zero_or (input_refusal r ys (length ks))) [ inl ok ↦ counted ok | inr n ↦ as_it_was n ]
   where
-    as_it_was : (inputRefusal r ys (length ks) ≡ 0 → ⊥) → (afterBuses r ys ks).out.removals.removed + (afterBuses r ys ks).out.rec.n_buses ≡ r.n_buses
+    as_it_was : (input_refusal r ys (length ks) ≡ 0 → ⊥) → (after_buses r ys ks).out.removals.removed + (after_buses r ys ks).out.rec.n_buses ≡ r.n_buses
     as_it_was n =
-        let e = (buses-refused r ys ks (inputRefusal r ys (length ks)) n refl).0 in
+        let e = (buses-refused r ys ks (input_refusal r ys (length ks)) n refl).0 in
         sym (ap (λ (t : AfterRemovals). t.removals.removed + t.rec.n_buses) e) ∙ zero-add r.n_buses
 
-    counted : inputRefusal r ys (length ks) ≡ 0 → (afterBuses r ys ks).out.removals.removed + (afterBuses r ys ks).out.rec.n_buses ≡ r.n_buses
-    counted ok = ap (λ (x : AfterBuses). x.out.removals.removed + x.out.rec.n_buses) (after r ys ks ok long full) ∙ sum (carriedOut (stateIn r.n_buses (activeOf r) ys) (rows_of r ks)) (taken-accepted (stateIn r.n_buses (activeOf r) ys) (rows_of r ks))
+    counted : input_refusal r ys (length ks) ≡ 0 → (after_buses r ys ks).out.removals.removed + (after_buses r ys ks).out.rec.n_buses ≡ r.n_buses
+    counted ok = ap (λ (x : AfterBuses). x.out.removals.removed + x.out.rec.n_buses) (after r ys ks ok long full) ∙ sum (carried_out (state_in r.n_buses (active_of r) ys) (rows_of r ks)) (taken-accepted (state_in r.n_buses (active_of r) ys) (rows_of r ks))
       where
         h : Holds r.n_buses r.active_buses ys
         h = accepted-holds r ys (length ks) long ok
 
-        sum : (ts : List ℕ) → Accepted (stateIn r.n_buses (activeOf r) ys) ts → length ts + (leaves r ys ts).rec.n_buses ≡ r.n_buses
+        sum : (ts : List ℕ) → Accepted (state_in r.n_buses (active_of r) ys) ts → length ts + (leaves r ys ts).rec.n_buses ≡ r.n_buses
         sum [] a = ap (λ (x : ReducerState). 0 + x.rec.n_buses) (leaves_none r ys) ∙ zero-add r.n_buses
         sum (t ∷ ts) a =
-            let e = length-eliminate (stateIn r.n_buses (activeOf r) ys) (t ∷ ts) h.rises a in
+            let e = length-eliminate (state_in r.n_buses (active_of r) ys) (t ∷ ts) h.rises a in
             ap (λ (x : ReducerState). length (t ∷ ts) + x.rec.n_buses) (leaves-cons r ys t ts)
             ∙ omega (arith, e, holds-long r.n_buses r.active_buses ys h)

@@ -1,43 +1,43 @@
 -- A removal and an impedance by operations that answer a finite number or none.
 use Rattle.prelude.proofs.Prelude.{◌≡◌, refl, sym, ◌∙◌, Bool, true, false, not, ℕ, T, eqb, is_true}
-use Rattle.binary64.specs.Values.{allFinite}
-use Rattle.complex.specs.{Complex, Matrix, plus0, cadd, cmul, cdiv, tooSmall}
+use Rattle.binary64.specs.Values.{all_finite}
+use Rattle.complex.specs.{Complex, Matrix, plus0, cadd, cmul, cdiv, too_small}
 use Rattle.complex.specs.declared.Pair.TheVariants.{Finite, NotFinite}
-use Rattle.complex.specs.Computed.{ofSum, ofProduct, ofQuotient}
+use Rattle.complex.specs.Computed.{of_sum, of_product, of_quotient}
 use Rattle.complex.specs.Leaves.{pair, sum, difference, product, quotient}
 use Rattle.complex.proofs.LeafSteps.{passes_on}
 use Rattle.complex.proofs.Leaves.{pair-finite, pair-none}
-use Rattle.lists.specs.Buses.{mem, ◌isOneOf◌}
-use Rattle.kron_reduction.specs.Kron.{newEntry, kron, State, remove, ofNewEntry, ofRemoval, accepts, entryAnswer, PassedOn}
-use Rattle.kron_reduction.specs.Reading.{two, theveninOf, ofThevenin, ImpedancePassedOn}
+use Rattle.lists.specs.Buses.{mem, ◌is_one_of◌}
+use Rattle.kron_reduction.specs.Kron.{new_entry, kron, State, remove, of_new_entry, of_removal, accepts, entry_answer, PassedOn}
+use Rattle.kron_reduction.specs.Reading.{two, thevenin_of, of_thevenin, ImpedancePassedOn}
 use Rattle.kron_reduction.proofs.Numbers.{removal-finite, removal-at}
-use Rattle.kron_reduction.proofs.States.{refusalOf, refusal_is, accepted-finite}
+use Rattle.kron_reduction.proofs.States.{refusal_of, refusal_is, accepted-finite}
 
-entry-passed : (k : ℕ) (Y : Matrix) (i j : ℕ) → entryAnswer k Y i j ≡ pair (ofNewEntry k Y i j) (kron k Y i j)
-unfolding entryAnswer product quotient difference newEntry kron
+entry-passed : (k : ℕ) (Y : Matrix) (i j : ℕ) → entry_answer k Y i j ≡ pair (of_new_entry k Y i j) (kron k Y i j)
+unfolding entry_answer product quotient difference new_entry kron
 entry-passed k Y i j =
     let p = cmul (Y i k) (Y k j) in
-    passes_on (ofProduct (Y i k) (Y k j)) p _ _ _ (passes_on (ofQuotient p (Y k k)) (cdiv p (Y k k)) _ _ _ refl)
+    passes_on (of_product (Y i k) (Y k j)) p _ _ _ (passes_on (of_quotient p (Y k k)) (cdiv p (Y k k)) _ _ _ refl)
 
 module _ (s : State) (k : ℕ) where
-  answered : T (accepts s k) → (i j : ℕ) → i isOneOf (remove s k).active → j isOneOf (remove s k).active
-      → entryAnswer k s.entries i j ≡ Finite ((remove s k).entries i j)
+  answered : T (accepts s k) → (i j : ℕ) → i is_one_of (remove s k).active → j is_one_of (remove s k).active
+      → entry_answer k s.entries i j ≡ Finite ((remove s k).entries i j)
   answered h i j l m =
       entry-passed k s.entries i j
-      ∙ sym (pair-finite _ (kron k s.entries i j) (is_true (allFinite (ofNewEntry k s.entries i j)) (removal-at s k (accepted-finite s k h) i j l m)))
+      ∙ sym (pair-finite _ (kron k s.entries i j) (is_true (all_finite (of_new_entry k s.entries i j)) (removal-at s k (accepted-finite s k h) i j l m)))
 
   -- an entry that is not answered "not finite"
-  entry-finite : (i j : ℕ) → (entryAnswer k s.entries i j ≡ NotFinite → ⊥) → T (allFinite (ofNewEntry k s.entries i j))
-  entry-finite i j other = go (allFinite (ofNewEntry k s.entries i j)) refl
+  entry-finite : (i j : ℕ) → (entry_answer k s.entries i j ≡ NotFinite → ⊥) → T (all_finite (of_new_entry k s.entries i j))
+  entry-finite i j other = go (all_finite (of_new_entry k s.entries i j)) refl
     where
-      go : (b : Bool) → allFinite (ofNewEntry k s.entries i j) ≡ b → T b
+      go : (b : Bool) → all_finite (of_new_entry k s.entries i j) ≡ b → T b
       go true e = tt
       go false e = absurd (other (entry-passed k s.entries i j ∙ sym (pair-none _ (kron k s.entries i j) e)))
 
-  accepted-where : k isOneOf s.active → T (not (tooSmall (s.entries k k))) → T (allFinite (ofRemoval s k)) → T (accepts s k)
-  accepted-where a b c = rw (refusal_is s k) (go (mem k s.active) (tooSmall (s.entries k k)) (allFinite (ofRemoval s k)) a b c)
+  accepted-where : k is_one_of s.active → T (not (too_small (s.entries k k))) → T (all_finite (of_removal s k)) → T (accepts s k)
+  accepted-where a b c = rw (refusal_is s k) (go (mem k s.active) (too_small (s.entries k k)) (all_finite (of_removal s k)) a b c)
     where
-      go : (active small fine : Bool) → T active → T (not small) → T fine → T (eqb (refusalOf active small fine) 0)
+      go : (active small fine : Bool) → T active → T (not small) → T fine → T (eqb (refusal_of active small fine) 0)
       go true false true a b c = tt
       go false small fine a b c = absurd a
       go true true fine a b c = absurd b
@@ -52,7 +52,7 @@ passed_on = record {
 }
 
 pub impedance-passed-on : ImpedancePassedOn
-unfolding sum product difference theveninOf ofThevenin
+unfolding sum product difference thevenin_of of_thevenin
 impedance-passed-on Z p q =
     let twice : Complex = record { re = two; im = plus0 } in
-    passes_on (ofSum (Z p p) (Z q q)) (cadd (Z p p) (Z q q)) _ _ _ (passes_on (ofProduct twice (Z p q)) (cmul twice (Z p q)) _ _ _ refl)
+    passes_on (of_sum (Z p p) (Z q q)) (cadd (Z p p) (Z q q)) _ _ _ (passes_on (of_product twice (Z p q)) (cmul twice (Z p q)) _ _ _ refl)

@@ -10,14 +10,14 @@ use Rattle.refusals.specs.Refusals.{limit}
 use borrow.Author.Count.{below_more}
 use lib.Dec.{leb-zero}
 use Rattle.lists.specs.Buses.{rising, all_below}
-use Rattle.kron_reduction.specs.Inner.Removal.{oldRow}
+use Rattle.kron_reduction.specs.Inner.Removal.{old_row}
 
 -- ---- the record's tests, a bus at a time
 
 -- rising from low up, and below n
-unfoldable pub risesFrom : ℕ → ℕ → List ℕ → Bool
-risesFrom low n [] = true
-risesFrom low n (x ∷ xs) = leb low x && (ltb x n && risesFrom (x + 1) n xs)
+unfoldable pub rises_from : ℕ → ℕ → List ℕ → Bool
+rises_from low n [] = true
+rises_from low n (x ∷ xs) = leb low x && (ltb x n && rises_from (x + 1) n xs)
 
 and-mix : (a b c d : Bool) → ((a && b) && (c && d)) ≡ (c && (a && (b && d)))
 and-mix true true true d = refl
@@ -34,45 +34,45 @@ and-true false = refl
 ltb-leb : (x y : ℕ) → ltb x y ≡ leb (x + 1) y
 ltb-leb x y = rw add-one
 
-rises-tail : (n x : ℕ) (xs : List ℕ) → (rising (x ∷ xs) && all_below n (x ∷ xs)) ≡ (ltb x n && risesFrom (x + 1) n xs)
-unfolding rising all_below risesFrom
+rises-tail : (n x : ℕ) (xs : List ℕ) → (rising (x ∷ xs) && all_below n (x ∷ xs)) ≡ (ltb x n && rises_from (x + 1) n xs)
+unfolding rising all_below rises_from
 rises-tail n x [] = and-true (ltb x n)
 rises-tail n x (y ∷ ys) =
     and-mix (ltb x y) (rising (y ∷ ys)) (ltb x n) (all_below n (y ∷ ys))
     ∙ ap (λ (b : Bool). ltb x n && (ltb x y && b)) (rises-tail n y ys)
-    ∙ ap (λ (b : Bool). ltb x n && (b && (ltb y n && risesFrom (y + 1) n ys))) (ltb-leb x y)
+    ∙ ap (λ (b : Bool). ltb x n && (b && (ltb y n && rises_from (y + 1) n ys))) (ltb-leb x y)
 
-pub rises-from : (n : ℕ) (xs : List ℕ) → (rising xs && all_below n xs) ≡ risesFrom 0 n xs
-unfolding rising all_below risesFrom
+pub rises-from : (n : ℕ) (xs : List ℕ) → (rising xs && all_below n xs) ≡ rises_from 0 n xs
+unfolding rising all_below rises_from
 rises-from n [] = refl
-rises-from n (x ∷ xs) = rises-tail n x xs ∙ ap (λ (b : Bool). b && (ltb x n && risesFrom (x + 1) n xs)) (sym (leb-zero x))
+rises-from n (x ∷ xs) = rises-tail n x xs ∙ ap (λ (b : Bool). b && (ltb x n && rises_from (x + 1) n xs)) (sym (leb-zero x))
 
 -- the bus at i passes, or one of the tests fails
 module _ (n low : ℕ) (xs : List ℕ) (i : ℕ) (h : i < length xs) where
-  at_i : risesFrom low n (drop i xs) ≡ (leb low (get_or xs i 0) && (ltb (get_or xs i 0) n && risesFrom (get_or xs i 0 + 1) n (drop (i + 1) xs)))
-  unfolding risesFrom
+  at_i : rises_from low n (drop i xs) ≡ (leb low (get_or xs i 0) && (ltb (get_or xs i 0) n && rises_from (get_or xs i 0 + 1) n (drop (i + 1) xs)))
+  unfolding rises_from
   at_i = rw (add-one i, drop-cons xs i 0)
 
-  pub rises-on : low ≤ get_or xs i 0 → get_or xs i 0 < n → risesFrom low n (drop i xs) ≡ risesFrom (get_or xs i 0 + 1) n (drop (i + 1) xs)
+  pub rises-on : low ≤ get_or xs i 0 → get_or xs i 0 < n → rises_from low n (drop i xs) ≡ rises_from (get_or xs i 0 + 1) n (drop (i + 1) xs)
   rises-on a b = at_i ∙ simp (le-leb _ _ a, lt-ltb _ _ b)
 
-  pub rises-low : get_or xs i 0 < low → risesFrom low n (drop i xs) ≡ false
+  pub rises-low : get_or xs i 0 < low → rises_from low n (drop i xs) ≡ false
   rises-low a = at_i ∙ simp (lt-leb _ _ a)
 
-  pub rises-high : low ≤ get_or xs i 0 → n ≤ get_or xs i 0 → risesFrom low n (drop i xs) ≡ false
+  pub rises-high : low ≤ get_or xs i 0 → n ≤ get_or xs i 0 → rises_from low n (drop i xs) ≡ false
   rises-high a b = at_i ∙ simp (le-leb _ _ a, le-ltb _ _ b)
 
 -- ---- when row k drops out
 
-pub kept-before : (k p : ℕ) → p < k → oldRow k p ≡ p
-unfolding oldRow
+pub kept-before : (k p : ℕ) → p < k → old_row k p ≡ p
+unfolding old_row
 kept-before k p h = simp (lt-ltb _ _ h)
 
-pub kept-after : (k p : ℕ) → k ≤ p → oldRow k p ≡ suc p
-unfolding oldRow
+pub kept-after : (k p : ℕ) → k ≤ p → old_row k p ≡ suc p
+unfolding old_row
 kept-after k p h = simp (le-ltb _ _ h)
 
-pub kept-lt : (k p n : ℕ) → p < n - 1 → oldRow k p < n
+pub kept-lt : (k p n : ℕ) → p < n - 1 → old_row k p < n
 kept-lt k p n h = elim (lt-or-ge p k) [ inl l ↦ rw (kept-before k p l) (omega arith) | inr l ↦ rw (kept-after k p l) (omega arith) ]
 
 -- ---- a store at the first index not yet passed

@@ -1,13 +1,13 @@
 // Whether the removal of a row computes finite numbers alone: told before anything is written.
 ghost use Rattle.std.specs.Prelude.{◌≡◌, not, ◌&&◌, ℕ, ◌*◌, ◌≤◌, ◌<◌, T, length, take};
 ghost use Rattle.std.specs.Float.Ieee.{lt};
-ghost use Rattle.binary64.specs.Values.{allFinite};
+ghost use Rattle.binary64.specs.Values.{all_finite};
 ghost use Rattle.complex.specs.Arithmetic as spec;
-ghost use Rattle.complex.specs.Inner.Ordinary.{ordinarySquare, allOrdinary};
+ghost use Rattle.complex.specs.Inner.Ordinary.{ordinary_square, all_ordinary};
 ghost use Rattle.complex.specs.Matrices.{entry_at};
 ghost use Rattle.refusals.specs.Refusals.{limit};
-ghost use Rattle.kron_reduction.specs.Kron.{start, removalRefusal};
-ghost use Rattle.kron_reduction.specs.Inner.Removal.{ofEntry, Tells, Fine};
+ghost use Rattle.kron_reduction.specs.Kron.{start, removal_refusal};
+ghost use Rattle.kron_reduction.specs.Inner.Removal.{of_entry, Tells, Fine};
 
 use binary64::finite::{all_finite, finite};
 use complex::constants::DIVISION_LIMIT;
@@ -20,7 +20,7 @@ use refusals::{COMPUTED_NOT_FINITE, SMALL_ENTRY};
 // Whether the n rows at the front hold numbers of ordinary size alone.
 pub fn front_ordinary(n: usize, y: &[f64]) -> bool
     requires { (n ≤ limit) × (2 * (n * n) ≤ length y.now) }
-    ensures { result ≡ allOrdinary (take (2 * (n * n)) y.now) }
+    ensures { result ≡ all_ordinary (take (2 * (n * n)) y.now) }
 {
     let a = 2 * (n * n);
     all_ordinary(&y[0..a])
@@ -29,7 +29,7 @@ pub fn front_ordinary(n: usize, y: &[f64]) -> bool
 // Whether they hold finite numbers alone.
 pub fn front_finite(n: usize, y: &[f64]) -> bool
     requires { (n ≤ limit) × (2 * (n * n) ≤ length y.now) }
-    ensures { result ≡ allFinite (take (2 * (n * n)) y.now) }
+    ensures { result ≡ all_finite (take (2 * (n * n)) y.now) }
 {
     let a = 2 * (n * n);
     all_finite(&y[0..a])
@@ -37,7 +37,7 @@ pub fn front_finite(n: usize, y: &[f64]) -> bool
 
 // Whether every number of a new entry is finite.
 fn entry_finite(ij: Complex, ik: Complex, kj: Complex, kk: Complex) -> bool
-    ensures { result ≡ allFinite (ofEntry ij ik kj kk) }
+    ensures { result ≡ all_finite (of_entry ij ik kj kk) }
 {
     let Pair::Finite(product) = complex::cmul(ik, kj) else {
         return false;
@@ -118,7 +118,7 @@ fn own_square(n: usize, k: usize, y: &[f64]) -> f64
 
 // Whether nothing need be tried: rows of ordinary size, divided by a square d that is not below it.
 fn surely_finite(ordinary: bool, d: f64) -> bool
-    ensures { result ≡ (not (lt d ordinarySquare) && ordinary) }
+    ensures { result ≡ (not (lt d ordinary_square) && ordinary) }
 {
     if d < ORDINARY_SQUARE {
         return false;
@@ -128,8 +128,8 @@ fn surely_finite(ordinary: bool, d: f64) -> bool
 
 // The refusal of the removal of row k: 12 or 20, or 0. `ordinary` says that the rows are of ordinary size: then nothing is tried.
 pub fn row_refusal(n: usize, k: usize, y: &[f64], ordinary: bool) -> u32
-    requires { (n ≤ limit) × (k < n) × (2 * (n * n) ≤ length y.now) × (T ordinary → T (allOrdinary (take (2 * (n * n)) y.now))) }
-    ensures { result ≡ removalRefusal (start n (entry_at n y.now)) k }
+    requires { (n ≤ limit) × (k < n) × (2 * (n * n) ≤ length y.now) × (T ordinary → T (all_ordinary (take (2 * (n * n)) y.now))) }
+    ensures { result ≡ removal_refusal (start n (entry_at n y.now)) k }
 {
     let d = own_square(n, k, y);
     if d < DIVISION_LIMIT {

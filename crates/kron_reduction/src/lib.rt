@@ -1,17 +1,17 @@
 // Kron reduction of a bus matrix that stands in a lent slice.
 ghost use Rattle.std.specs.Prelude.{◌≡◌, List, [], ◌++◌, ◌*◌, ◌-◌, ◌≤◌, ◌<◌, T, length, take, Float};
-ghost use Rattle.binary64.specs.Values.{allFinite, F64s};
+ghost use Rattle.binary64.specs.Values.{all_finite, F64s};
 ghost use Rattle.complex.specs.Entries.{entry};
-ghost use Rattle.complex.specs.Inner.Ordinary.{allOrdinary};
+ghost use Rattle.complex.specs.Inner.Ordinary.{all_ordinary};
 ghost use Rattle.complex.specs.Matrices.{zeros};
-ghost use Rattle.lists.specs.Buses.{up_to, foundIn};
+ghost use Rattle.lists.specs.Buses.{up_to, found_in};
 ghost use Rattle.refusals.specs.Refusals.{limit, outcome};
-ghost use Rattle.kron_reduction.specs.Reducer.{padded, reducerInputOf, makingShapeRefusal, makingRefusal, recordOf, afterNew};
-ghost use Rattle.kron_reduction.specs.Reducer.{reducerOf, activeOf, soundRows, soundNumbers, sound, inputShapeRefusal, inputRefusal};
-ghost use Rattle.kron_reduction.specs.Reducer.{row_of, removalsOf, afterBus, afterBuses};
-ghost use Rattle.kron_reduction.specs.Reading.{impedanceNumber, readingShapeRefusal, readingRefusal, afterMatrix};
-ghost use Rattle.kron_reduction.specs.Reading.{activeNumbers, activeRefusal};
-ghost use Rattle.kron_reduction.specs.Reading.{afterActive, afterImpedance};
+ghost use Rattle.kron_reduction.specs.Reducer.{padded, reducer_input_of, making_shape_refusal, making_refusal, record_of, after_new};
+ghost use Rattle.kron_reduction.specs.Reducer.{reducer_of, active_of, sound_rows, sound_numbers, sound, input_shape_refusal, input_refusal};
+ghost use Rattle.kron_reduction.specs.Reducer.{row_of, removals_of, after_bus, after_buses};
+ghost use Rattle.kron_reduction.specs.Reading.{impedance_number, reading_shape_refusal, reading_refusal, after_matrix};
+ghost use Rattle.kron_reduction.specs.Reading.{active_numbers, active_refusal};
+ghost use Rattle.kron_reduction.specs.Reading.{after_active, after_impedance};
 
 use crate::careful::{front_finite, front_ordinary};
 use crate::removal::{Ran, all_zero, find_bus, in_order, remove_list};
@@ -77,7 +77,7 @@ pub enum Impedance {
 
 // The refusal's number, 0 where there is none.
 pub fn number_of(answer: Impedance) -> u32
-    ensures { result ≡ impedanceNumber answer }
+    ensures { result ≡ impedance_number answer }
 {
     match answer {
         Impedance::Value(_) => 0,
@@ -118,7 +118,7 @@ fn in_places(numbers: &[u32]) -> [u32; LIMIT]
 // The record of buses with these numbers, all active.
 fn record_of(numbers: &[u32]) -> KronReducer
     requires { length numbers.now ≤ limit }
-    ensures { result ≡ recordOf (length numbers.now) numbers.now (up_to (length numbers.now)) }
+    ensures { result ≡ record_of (length numbers.now) numbers.now (up_to (length numbers.now)) }
 {
     let n = numbers.len();
     KronReducer {
@@ -131,7 +131,7 @@ fn record_of(numbers: &[u32]) -> KronReducer
 
 // What size, lengths and numbers tell of a making from a slice of `len` numbers: 1, 2 or 8, or 0.
 fn making_shape_refusal(n: usize, len: usize, numbers: &[u32]) -> u32
-    ensures { (ys : List Float) → length ys ≡ len → result ≡ makingShapeRefusal (reducerInputOf n ys numbers.now) }
+    ensures { (ys : List Float) → length ys ≡ len → result ≡ making_shape_refusal (reducer_input_of n ys numbers.now) }
 {
     if n > LIMIT {
         return TOO_MANY;
@@ -153,7 +153,7 @@ fn making_shape_refusal(n: usize, len: usize, numbers: &[u32]) -> u32
 
 // The refusals of a making: 1, 2, 8 or 19, or 0.
 fn making_refusal(n: usize, y: &[f64], numbers: &[u32]) -> u32
-    ensures { result ≡ makingRefusal (reducerInputOf n y.now numbers.now) }
+    ensures { result ≡ making_refusal (reducer_input_of n y.now numbers.now) }
 {
     let f = making_shape_refusal(n, y.len(), numbers);
     if f != 0 {
@@ -168,7 +168,7 @@ fn making_refusal(n: usize, y: &[f64], numbers: &[u32]) -> u32
 impl KronReducer {
     // y holds n rows of n entries, real then imaginary, and `numbers` the number of each row's bus. Refusals: 1, 2, 8, 19.
     pub fn new(n: usize, y: &[f64], numbers: &[u32]) -> NewReducer
-        ensures { (result ≡ afterNew (reducerInputOf n y.now numbers.now)) × F64s y.now }
+        ensures { (result ≡ after_new (reducer_input_of n y.now numbers.now)) × F64s y.now }
     {
         let f = making_refusal(n, y, numbers);
         if f != 0 {
@@ -198,7 +198,7 @@ fn answer_of(f: u32) -> Outcome
 // Whether no number stands twice, with 0 in the places behind.
 fn numbers_sound(made: usize, numbers: &[u32]) -> bool
     requires { (made ≤ limit) × (length numbers.now ≡ limit) }
-    ensures { result ≡ soundNumbers (reducerOf made 0 [] numbers.now) }
+    ensures { result ≡ sound_numbers (reducer_of made 0 [] numbers.now) }
 {
     if repeats(&numbers[0..made]) {
         return false;
@@ -209,7 +209,7 @@ fn numbers_sound(made: usize, numbers: &[u32]) -> bool
 // Whether the active rows rise below the size at making and are as many as the present size, with 0 in the places behind.
 fn rows_sound(made: usize, n: usize, active: &[u8]) -> bool
     requires { length active.now ≡ limit }
-    ensures { result ≡ soundRows (reducerOf made n active.now []) }
+    ensures { result ≡ sound_rows (reducer_of made n active.now []) }
 {
     if n > LIMIT {
         return false;
@@ -224,7 +224,7 @@ fn rows_sound(made: usize, n: usize, active: &[u8]) -> bool
 // it.
 fn is_sound(made: usize, n: usize, active: &[u8], numbers: &[u32]) -> bool
     requires { (made ≤ limit) × (length active.now ≡ limit) × (length numbers.now ≡ limit) }
-    ensures { result ≡ sound (reducerOf made n active.now numbers.now) }
+    ensures { result ≡ sound (reducer_of made n active.now numbers.now) }
 {
     if !rows_sound(made, n, active) {
         return false;
@@ -243,7 +243,7 @@ fn input_shape_refusal(
 ) -> u32
     requires { (length active.now ≡ limit) × (length numbers.now ≡ limit) }
     ensures { (ys : List Float) → length ys ≡ len
-        → result ≡ inputShapeRefusal (reducerOf made n active.now numbers.now) ys count }
+        → result ≡ input_shape_refusal (reducer_of made n active.now numbers.now) ys count }
 {
     if made > LIMIT {
         return TOO_MANY;
@@ -262,8 +262,8 @@ fn input_shape_refusal(
 
 // Whether the numbers of the n rows at the front are finite, as those of ordinary size are.
 fn given_finite(n: usize, y: &[f64], ordinary: bool) -> bool
-    requires { (n ≤ limit) × (2 * (n * n) ≤ length y.now) × (T ordinary → T (allOrdinary (take (2 * (n * n)) y.now))) }
-    ensures { result ≡ allFinite (take (2 * (n * n)) y.now) }
+    requires { (n ≤ limit) × (2 * (n * n) ≤ length y.now) × (T ordinary → T (all_ordinary (take (2 * (n * n)) y.now))) }
+    ensures { result ≡ all_finite (take (2 * (n * n)) y.now) }
 {
     if ordinary {
         return true;
@@ -282,12 +282,12 @@ fn remove_accepted(
     ordinary: bool,
 ) -> Ran
     requires { (length active.old ≡ limit) × (length numbers.now ≡ limit)
-        × (inputRefusal (reducerOf made n active.old numbers.now) y.old (length buses.now) ≡ 0)
-        × (T ordinary → T (allOrdinary (take (2 * (n * n)) y.old))) }
+        × (input_refusal (reducer_of made n active.old numbers.now) y.old (length buses.now) ≡ 0)
+        × (T ordinary → T (all_ordinary (take (2 * (n * n)) y.old))) }
     ensures { (result.done ≤ n)
-        × (removalsOf result.stopped result.done (reducerOf made (n - result.done) active.new numbers.now)
-        ≡ (afterBuses (reducerOf made n active.old numbers.now) y.old buses.now).out)
-        × (y.new ≡ (afterBuses (reducerOf made n active.old numbers.now) y.old buses.now
+        × (removals_of result.stopped result.done (reducer_of made (n - result.done) active.new numbers.now)
+        ≡ (after_buses (reducer_of made n active.old numbers.now) y.old buses.now).out)
+        × (y.new ≡ (after_buses (reducer_of made n active.old numbers.now) y.old buses.now
         ).slice) }
 {
     let count = buses.len();
@@ -308,7 +308,7 @@ fn remove_accepted(
 
 // What a list of removals answers on an input refusal.
 fn none_removed(r: KronReducer, f: u32) -> AfterRemovals
-    ensures { result ≡ removalsOf f 0 r }
+    ensures { result ≡ removals_of f 0 r }
 {
     let removals = Removals {
         answer: answer_of(f),
@@ -323,8 +323,8 @@ fn none_removed(r: KronReducer, f: u32) -> AfterRemovals
 // The buses of a list are removed in order, up to the first that is refused. Refusals: 1, 2, 9, 19; then 11, 12 or 20 as the list meets
 // them.
 pub fn remove_buses(r: KronReducer, y: &mut [f64], buses: &[u32]) -> AfterRemovals
-    ensures { (result ≡ (afterBuses r y.old buses.now).out)
-        × (y.new ≡ (afterBuses r y.old buses.now).slice) }
+    ensures { (result ≡ (after_buses r y.old buses.now).out)
+        × (y.new ≡ (after_buses r y.old buses.now).slice) }
 {
     let made = r.made;
     let n = r.n_buses;
@@ -358,7 +358,7 @@ pub fn remove_buses(r: KronReducer, y: &mut [f64], buses: &[u32]) -> AfterRemova
 
 // One bus is removed. Refusals: 1, 2, 9, 19; 11; 12 or 20.
 pub fn remove_bus(r: KronReducer, y: &mut [f64], bus: u32) -> AfterRemoval
-    ensures { (result ≡ (afterBus r y.old bus).out) × (y.new ≡ (afterBus r y.old bus).slice) }
+    ensures { (result ≡ (after_bus r y.old bus).out) × (y.new ≡ (after_bus r y.old bus).slice) }
 {
     let list = [bus];
     let out = remove_buses(r, y, &list);
@@ -376,7 +376,7 @@ pub fn remove_bus(r: KronReducer, y: &mut [f64], bus: u32) -> AfterRemoval
 // The present row of the bus with this number, or nothing.
 fn find_number(r: KronReducer, bus: u32) -> Found
     requires { (r.made ≤ limit) × T (sound r) }
-    ensures { result ≡ foundIn (row_of r bus) (activeOf r) }
+    ensures { result ≡ found_in (row_of r bus) (active_of r) }
 {
     let made = r.made;
     let numbers = r.numbers;
@@ -391,7 +391,7 @@ fn find_number(r: KronReducer, bus: u32) -> Found
 // What the record, a slice of `len` numbers and a second of m, which must have `per` for each entry at making, tell: 1, 2 or 9, or 0.
 fn reading_shape_refusal(r: KronReducer, len: usize, m: usize, per: usize) -> u32
     requires { per ≤ 4 }
-    ensures { (ys : List Float) → length ys ≡ len → result ≡ readingShapeRefusal per r ys m }
+    ensures { (ys : List Float) → length ys ≡ len → result ≡ reading_shape_refusal per r ys m }
 {
     let made = r.made;
     if made > LIMIT {
@@ -409,7 +409,7 @@ fn reading_shape_refusal(r: KronReducer, len: usize, m: usize, per: usize) -> u3
 // The input refusals of a call with a second slice of m numbers, which must have `per` for each entry at making: 1, 2, 9 or 19, or 0.
 fn reading_refusal(r: KronReducer, y: &[f64], m: usize, per: usize) -> u32
     requires { per ≤ 4 }
-    ensures { result ≡ readingRefusal per r y.now m }
+    ensures { result ≡ reading_refusal per r y.now m }
 {
     let f = reading_shape_refusal(r, y.len(), m, per);
     if f != 0 {
@@ -434,8 +434,8 @@ fn copy_rows(n: usize, y: &[f64], out: &mut [f64])
 
 // The present rows of y are copied to `out`, +0 behind. Refusals: 1, 2, 9, 19.
 pub fn reduced_matrix(r: KronReducer, y: &[f64], out: &mut [f64]) -> Outcome
-    ensures { (result ≡ (afterMatrix r y.now out.old).answer)
-        × (out.new ≡ (afterMatrix r y.now out.old).out) }
+    ensures { (result ≡ (after_matrix r y.now out.old).answer)
+        × (out.new ≡ (after_matrix r y.now out.old).out) }
 {
     let f = reading_refusal(r, y, out.len(), 2);
     if f != 0 {
@@ -448,7 +448,7 @@ pub fn reduced_matrix(r: KronReducer, y: &[f64], out: &mut [f64]) -> Outcome
 
 // The input refusals of a call with an output of m bus numbers, one for each row at making: 1, 2 or 9, or 0.
 fn active_refusal(r: KronReducer, m: usize) -> u32
-    ensures { result ≡ activeRefusal r m }
+    ensures { result ≡ active_refusal r m }
 {
     let made = r.made;
     if made > LIMIT {
@@ -470,7 +470,7 @@ fn active_refusal(r: KronReducer, m: usize) -> u32
 // The numbers of the active buses, in the order of their rows, and 0 behind them.
 pub fn active_numbers(r: KronReducer) -> [u32; LIMIT]
     requires { (r.made ≤ limit) × T (sound r) }
-    ensures { result ≡ padded (activeNumbers r) }
+    ensures { result ≡ padded (active_numbers r) }
 {
     let n = r.n_buses;
     let active = r.active_buses;
@@ -499,7 +499,7 @@ fn copy_places(places: &[u32], out: &mut [u32])
 
 // The number of each present row's bus, in order, in `out`, 0 behind. Refusals: 1, 2, 9.
 pub fn active_buses(r: KronReducer, out: &mut [u32]) -> Outcome
-    ensures { (result ≡ (afterActive r out.old).answer) × (out.new ≡ (afterActive r out.old).buses) }
+    ensures { (result ≡ (after_active r out.old).answer) × (out.new ≡ (after_active r out.old).buses) }
 {
     let f = active_refusal(r, out.len());
     if f != 0 {
@@ -521,8 +521,8 @@ pub fn thevenin_impedance(
     bus_j: u32,
     work: &mut [f64],
 ) -> Impedance
-    ensures { (result ≡ (afterImpedance r y.now bus_i bus_j work.old).answer)
-        × (work.new ≡ (afterImpedance r y.now bus_i bus_j work.old).work) }
+    ensures { (result ≡ (after_impedance r y.now bus_i bus_j work.old).answer)
+        × (work.new ≡ (after_impedance r y.now bus_i bus_j work.old).work) }
 {
     let f = reading_refusal(r, y, work.len(), 4);
     if f != 0 {

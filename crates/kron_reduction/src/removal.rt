@@ -3,10 +3,10 @@ ghost use Rattle.std.specs.Prelude.{◌≡◌, ◌&&◌, ℕ, ◌+◌, ◌*◌, 
 ghost use Rattle.complex.specs.Entries.{entry};
 ghost use Rattle.complex.specs.Matrices.{entry_at};
 ghost use Rattle.refusals.specs.Refusals.{limit};
-ghost use Rattle.lists.specs.Buses.{foundIn, rising, all_below, allZero};
-ghost use Rattle.kron_reduction.specs.Kron.{newEntry, kron};
-ghost use Rattle.complex.specs.Inner.Ordinary.{allOrdinary};
-ghost use Rattle.kron_reduction.specs.Inner.Removal.{oldRow, Holds, RemovedOne, RemovedAll};
+ghost use Rattle.lists.specs.Buses.{found_in, rising, all_below, all_zero};
+ghost use Rattle.kron_reduction.specs.Kron.{new_entry, kron};
+ghost use Rattle.complex.specs.Inner.Ordinary.{all_ordinary};
+ghost use Rattle.kron_reduction.specs.Inner.Removal.{old_row, Holds, RemovedOne, RemovedAll};
 
 use crate::careful::{front_ordinary, row_refusal};
 use complex::Complex;
@@ -25,7 +25,7 @@ pub struct Ran {
 
 // Where a bus stands among the active ones, or nothing. A row is below 256, so a record holds it in a byte.
 pub fn find_bus(active: &[u8], bus: usize) -> Found
-    ensures { result ≡ foundIn bus active.now }
+    ensures { result ≡ found_in bus active.now }
 {
     let mut i = 0;
     while i < active.len() {
@@ -59,7 +59,7 @@ pub fn in_order(made: usize, buses: &[u8]) -> bool
 
 // Whether every place is 0. The whole list is looked through, without an early end, so that the loop runs on several at once.
 pub fn all_zero(places: &[u8]) -> bool
-    ensures { result ≡ allZero places.now }
+    ensures { result ≡ all_zero places.now }
 {
     let mut zero = true;
     let mut i = 0;
@@ -74,7 +74,7 @@ pub fn all_zero(places: &[u8]) -> bool
 // Of n active buses the one in row k drops out.
 fn close_places(active: &mut [u8], n: usize, k: usize)
     requires { (k < n) × (n ≤ length active.old) }
-    ensures { ((p : ℕ) → p < n - 1 → get_or active.new p 0 ≡ get_or active.old (oldRow k p) 0)
+    ensures { ((p : ℕ) → p < n - 1 → get_or active.new p 0 ≡ get_or active.old (old_row k p) 0)
         × (get_or active.new (n - 1) 0 ≡ 0)
         × ((p : ℕ) → n ≤ p → get_or active.new p 0 ≡ get_or active.old p 0) }
 {
@@ -88,7 +88,7 @@ fn close_places(active: &mut [u8], n: usize, k: usize)
 
 // Kron's formula.
 fn new_entry(ij: Complex, ik: Complex, kj: Complex, kk: Complex) -> Complex
-    ensures { result ≡ newEntry ij ik kj kk }
+    ensures { result ≡ new_entry ij ik kj kk }
 {
     csub(ij, cdiv(cmul(ik, kj), kk))
 }
@@ -115,7 +115,7 @@ fn reduce_columns(
     s: &mut [f64],
     row: &[f64],
 )
-    requires { ((q : ℕ) → first ≤ q → q < end → oldRow k q ≡ q + d)
+    requires { ((q : ℕ) → first ≤ q → q < end → old_row k q ≡ q + d)
         × (first ≤ end)
         × (far ≡ at + d)
         × (2 * (end + far) ≤ length s.old)
@@ -123,7 +123,7 @@ fn reduce_columns(
         × (2 * (end + d) ≤ length row.now)
         × (2 * k + 1 < length row.now) }
     ensures { ((q : ℕ) → first ≤ q → q < end → entry s.new q
-        ≡ newEntry (entry s.old (at + oldRow k q)) (entry s.old (at + k)) (entry row.now (oldRow k q))
+        ≡ new_entry (entry s.old (at + old_row k q)) (entry s.old (at + k)) (entry row.now (old_row k q))
         (entry row.now k))
         × ((q : ℕ) → q < first → entry s.new q ≡ entry s.old q)
         × ((q : ℕ) → end ≤ q → entry s.new q ≡ entry s.old q) }
@@ -141,7 +141,7 @@ fn reduce_columns(
 fn left_columns(k: usize, at: usize, s: &mut [f64], row: &[f64])
     requires { (at ≤ limit * limit) × (2 * (at + k) + 1 < length s.old) × (2 * k + 1 < length row.now) }
     ensures { ((q : ℕ) → q < k → entry s.new q
-        ≡ newEntry (entry s.old (at + oldRow k q)) (entry s.old (at + k)) (entry row.now (oldRow k q))
+        ≡ new_entry (entry s.old (at + old_row k q)) (entry s.old (at + k)) (entry row.now (old_row k q))
         (entry row.now k))
         × ((q : ℕ) → k ≤ q → entry s.new q ≡ entry s.old q) }
 {
@@ -156,7 +156,7 @@ fn left_columns(k: usize, at: usize, s: &mut [f64], row: &[f64])
 fn reduce_row(n: usize, k: usize, at: usize, s: &mut [f64], row: &[f64])
     requires { (k < n) × (at ≤ limit * limit) × (length s.old ≡ 2 * (at + n)) × (length row.now ≡ 2 * n) }
     ensures { ((q : ℕ) → q < n - 1 → entry s.new q
-        ≡ newEntry (entry s.old (at + oldRow k q)) (entry s.old (at + k)) (entry row.now (oldRow k q))
+        ≡ new_entry (entry s.old (at + old_row k q)) (entry s.old (at + k)) (entry row.now (old_row k q))
         (entry row.now k))
         × ((q : ℕ) → n - 1 ≤ q → entry s.new q ≡ entry s.old q) }
 {
@@ -169,7 +169,7 @@ fn reduce_row(n: usize, k: usize, at: usize, s: &mut [f64], row: &[f64])
 fn put_row(n: usize, k: usize, i: usize, p: usize, y: &mut [f64], row: &[f64])
     requires { (n ≤ limit) × (k < n) × (i < n) × (p ≤ i) × (2 * (n * n) ≤ length y.old) × (length row.now ≡ 2 * n) }
     ensures { ((q : ℕ) → q < n - 1 → entry_at (n - 1) y.new p q
-        ≡ newEntry (entry_at n y.old i (oldRow k q)) (entry_at n y.old i k) (entry row.now (oldRow k q))
+        ≡ new_entry (entry_at n y.old i (old_row k q)) (entry_at n y.old i k) (entry row.now (old_row k q))
         (entry row.now k))
         × ((r q : ℕ) → r < p → q < n - 1 → entry_at (n - 1) y.new r q ≡ entry_at (n - 1) y.old r q)
         × ((r q : ℕ) → i < r → entry_at n y.new r q ≡ entry_at n y.old r q)
@@ -188,12 +188,12 @@ fn put_rows(n: usize, k: usize, d: usize, first: usize, end: usize, y: &mut [f64
         × (k < n)
         × (first ≤ end)
         × (end + d ≤ n)
-        × ((p : ℕ) → first ≤ p → p < end → oldRow k p ≡ p + d)
+        × ((p : ℕ) → first ≤ p → p < end → old_row k p ≡ p + d)
         × (2 * (n * n) ≤ length y.old)
         × (length row.now ≡ 2 * n) }
     ensures { ((r q : ℕ) → first ≤ r → r < end → q < n - 1 → entry_at (n - 1) y.new r q
-        ≡ newEntry (entry_at n y.old (oldRow k r) (oldRow k q)) (entry_at n y.old (oldRow k r) k)
-        (entry row.now (oldRow k q)) (entry row.now k))
+        ≡ new_entry (entry_at n y.old (old_row k r) (old_row k q)) (entry_at n y.old (old_row k r) k)
+        (entry row.now (old_row k q)) (entry row.now k))
         × ((r q : ℕ) → r < first → q < n - 1 → entry_at (n - 1) y.new r q ≡ entry_at (n - 1) y.old r q)
         × ((r q : ℕ) → end + d ≤ r → entry_at n y.new r q ≡ entry_at n y.old r q)
         × ((t : ℕ) → end * (n - 1) ≤ t → entry y.new t ≡ entry y.old t) }
@@ -209,8 +209,8 @@ fn put_rows(n: usize, k: usize, d: usize, first: usize, end: usize, y: &mut [f64
 fn other_rows(n: usize, k: usize, y: &mut [f64], row: &[f64])
     requires { (n ≤ limit) × (k < n) × (2 * (n * n) ≤ length y.old) × (length row.now ≡ 2 * n) }
     ensures { ((p q : ℕ) → p < n - 1 → q < n - 1 → entry_at (n - 1) y.new p q
-        ≡ newEntry (entry_at n y.old (oldRow k p) (oldRow k q)) (entry_at n y.old (oldRow k p) k)
-        (entry row.now (oldRow k q)) (entry row.now k))
+        ≡ new_entry (entry_at n y.old (old_row k p) (old_row k q)) (entry_at n y.old (old_row k p) k)
+        (entry row.now (old_row k q)) (entry row.now k))
         × ((t : ℕ) → (n - 1) * (n - 1) ≤ t → entry y.new t ≡ entry y.old t) }
 {
     put_rows(n, k, 0, 0, k, y, row);
@@ -221,7 +221,7 @@ fn other_rows(n: usize, k: usize, y: &mut [f64], row: &[f64])
 fn remove_row(n: usize, k: usize, y: &mut [f64], row: &mut [f64])
     requires { (n ≤ limit) × (k < n) × (2 * (n * n) ≤ length y.old) × (length row.old ≡ 2 * limit) }
     ensures { ((p q : ℕ) → p < n - 1 → q < n - 1 → entry_at (n - 1) y.new p q
-        ≡ kron k (entry_at n y.old) (oldRow k p) (oldRow k q))
+        ≡ kron k (entry_at n y.old) (old_row k p) (old_row k q))
         × ((t : ℕ) → (n - 1) * (n - 1) ≤ t → entry y.new t ≡ entry y.old t) }
 {
     let w = 2 * n;
@@ -242,7 +242,7 @@ fn remove_one(
     ordinary: bool,
 ) -> u32
     requires { Holds n active.old y.old × (length row.old ≡ 2 * limit)
-        × (T ordinary → T (allOrdinary (take (2 * (n * n)) y.old))) }
+        × (T ordinary → T (all_ordinary (take (2 * (n * n)) y.old))) }
     ensures { RemovedOne n active.old y.old bus result active.new y.new }
 {
     let Found::At(k) = find_bus(&active[0..n], bus) else {
@@ -260,8 +260,8 @@ fn remove_one(
 // Whether the m rows after `done` removals are of ordinary size: the caller has told it of the first ones.
 fn still_ordinary(done: usize, m: usize, y: &[f64], ordinary: bool) -> bool
     requires { (m ≤ limit) × (2 * (m * m) ≤ length y.now)
-        × (done ≡ 0 → T ordinary → T (allOrdinary (take (2 * (m * m)) y.now))) }
-    ensures { T result → T (allOrdinary (take (2 * (m * m)) y.now)) }
+        × (done ≡ 0 → T ordinary → T (all_ordinary (take (2 * (m * m)) y.now))) }
+    ensures { T result → T (all_ordinary (take (2 * (m * m)) y.now)) }
 {
     if done == 0 {
         return ordinary;
@@ -279,7 +279,7 @@ pub fn remove_list(
     ordinary: bool,
 ) -> Ran
     requires { Holds n active.old y.old × (length row.old ≡ 2 * limit)
-        × (T ordinary → T (allOrdinary (take (2 * (n * n)) y.old))) }
+        × (T ordinary → T (all_ordinary (take (2 * (n * n)) y.old))) }
     ensures { RemovedAll n active.old y.old buses.now result active.new y.new }
 {
     let mut done = 0;

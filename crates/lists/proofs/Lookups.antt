@@ -2,7 +2,7 @@
 -- steps of the loops.
 use Rattle.prelude.proofs.Prelude.{◌≡◌, refl, sym, ◌∙◌, subst, Bool, true, false, ◌&&◌, ◌||◌, cond, List, [], ◌∷◌, ℕ, zero, suc, ◌+◌, ◌≤◌, ◌<◌, add-one, arith, T, eqb, length, get_or, drop, map, zero-add, eqb→eq, length-map, drop_of_length-le, drop-cons, eq-eqb, ne_eqb}
 use lib.Ieee.Fits.{eq→eqb}
-use Rattle.lists.specs.Buses.{mem, ◌isOneOf◌, place, foundIn, allZero, rowsIn}
+use Rattle.lists.specs.Buses.{mem, ◌is_one_of◌, place, found_in, all_zero, rows_in}
 use Rattle.lists.proofs.Buses.{or_assoc, place_none}
 use Rattle.lists.proofs.Ends.{mem-here, mem-next, mem-end}
 use Rattle.lists.specs.declared.Found.TheVariants.{At, Nothing}
@@ -17,8 +17,8 @@ pub sought-start : (k : ℕ) (xs : List ℕ) → Sought k xs 0
 sought-start k xs = record { among = refl; stands = sym (zero-add _) }
 
 module _ (k : ℕ) (xs : List ℕ) (i : ℕ) (s : Sought k xs i) where
-  pub sought-here : i < length xs → get_or xs i 0 ≡ k → At i ≡ foundIn k xs
-  unfolding foundIn place
+  pub sought-here : i < length xs → get_or xs i 0 ≡ k → At i ≡ found_in k xs
+  unfolding found_in place
   sought-here h e =
       let z : place k (drop i xs) ≡ 0 = rw (drop-cons xs i 0, eq-eqb k (get_or xs i 0) (sym e)) in
       let p : place k xs ≡ i = omega (arith, s.stands) in
@@ -30,8 +30,8 @@ module _ (k : ℕ) (xs : List ℕ) (i : ℕ) (s : Sought k xs i) where
       let p : place k (drop i xs) ≡ suc (place k (drop (i + 1) xs)) = rw (add-one i, drop-cons xs i 0, ne_eqb k (get_or xs i 0) (λ e. n (sym e))) in
       record { among = s.among ∙ mem-next k i xs h n; stands = omega (arith, s.stands) }
 
-  pub sought-end : length xs ≤ i → Nothing ≡ foundIn k xs
-  unfolding foundIn
+  pub sought-end : length xs ≤ i → Nothing ≡ found_in k xs
+  unfolding found_in
   sought-end h = rw (s.among, mem-end k i xs h)
 
 pub ruleset seeking = (sought-start, sought-here, sought-next, sought-end)
@@ -58,13 +58,13 @@ eqb-turned a b = go (eqb b a) (eqb→eq b a) (λ (p : b ≡ a). eq→eqb p)
     go false f g = ne_eqb a b (λ (p : a ≡ b). g (sym p))
 
 module _ (xs : List ℕ) (i : ℕ) (f : Bool) where
-  module _ (e : allZero xs ≡ (f && allZero (drop i xs))) where
-    pub zero_more : i < length xs → allZero xs ≡ (f && eqb (get_or xs i 0) 0 && allZero (drop (i + 1) xs))
-    unfolding allZero
+  module _ (e : all_zero xs ≡ (f && all_zero (drop i xs))) where
+    pub zero_more : i < length xs → all_zero xs ≡ (f && eqb (get_or xs i 0) 0 && all_zero (drop (i + 1) xs))
+    unfolding all_zero
     zero_more h = e ∙ rw (drop-cons xs i 0, and_assoc, add-one)
 
-    pub zero-end : length xs ≤ i → f ≡ allZero xs
-    unfolding allZero
+    pub zero-end : length xs ≤ i → f ≡ all_zero xs
+    unfolding all_zero
     zero-end h = sym (e ∙ rw (drop_of_length-le xs h) (and-true f))
 
   module _ (k : ℕ) (e : mem k xs ≡ (f || mem k (drop i xs))) where
@@ -78,16 +78,16 @@ pub ruleset passing = (zero_more, zero-end, seen_more, seen_end)
 
 -- ---- a bus that was found, or not
 
-pub found_at : (k : ℕ) (xs : List ℕ) (p : ℕ) → foundIn k xs ≡ At p → (k isOneOf xs) × (place k xs ≡ p)
-unfolding foundIn
+pub found_at : (k : ℕ) (xs : List ℕ) (p : ℕ) → found_in k xs ≡ At p → (k is_one_of xs) × (place k xs ≡ p)
+unfolding found_in
 found_at k xs p e = go (mem k xs) e
   where
     go : (b : Bool) → cond b (At (place k xs)) Nothing ≡ At p → T b × (place k xs ≡ p)
     go true e = (tt, cc)
     go false e = let z : ◌≡◌ {A = ℕ} 0 1 = cc in absurd (omega arith)
 
-pub found-not : (k : ℕ) (xs : List ℕ) → foundIn k xs ≡ Nothing → mem k xs ≡ false
-unfolding foundIn
+pub found-not : (k : ℕ) (xs : List ℕ) → found_in k xs ≡ Nothing → mem k xs ≡ false
+unfolding found_in
 found-not k xs e = go (mem k xs) e
   where
     go : (b : Bool) → cond b (At (place k xs)) Nothing ≡ Nothing → b ≡ false
@@ -95,20 +95,20 @@ found-not k xs e = go (mem k xs) e
     go false e = refl
 
 -- its row is then the count of rows
-pub found_nowhere : (k : ℕ) (xs : List ℕ) → foundIn k xs ≡ Nothing → place k xs ≡ length xs
-found_nowhere k xs e = place_none k xs (λ (m : k isOneOf xs). subst T (found-not k xs e) m)
+pub found_nowhere : (k : ℕ) (xs : List ℕ) → found_in k xs ≡ Nothing → place k xs ≡ length xs
+found_nowhere k xs e = place_none k xs (λ (m : k is_one_of xs). subst T (found-not k xs e) m)
 
 -- ---- the rows of a list of buses
 
-pub length-rowsIn : (ns ks : List ℕ) → length (rowsIn ns ks) ≡ length ks
-unfolding rowsIn
-length-rowsIn ns ks = length-map ks (λ (k : ℕ). place k ns)
+pub length-rows_in : (ns ks : List ℕ) → length (rows_in ns ks) ≡ length ks
+unfolding rows_in
+length-rows_in ns ks = length-map ks (λ (k : ℕ). place k ns)
 
 pub get_d_map : {A B : Type 0} (f : A → B) (d : A) (e : B) (xs : List A) (i : ℕ) → i < length xs → get_or (map f xs) i e ≡ f (get_or xs i d)
 get_d_map f d e [] i h = absurd (omega arith)
 get_d_map f d e (x ∷ xs) zero h = refl
 get_d_map f d e (x ∷ xs) (suc i) h = get_d_map f d e xs i (omega arith)
 
-pub getD-rowsIn : (ns ks : List ℕ) (i : ℕ) → i < length ks → get_or (rowsIn ns ks) i 0 ≡ place (get_or ks i 0) ns
-unfolding rowsIn
-getD-rowsIn ns = get_d_map (λ (k : ℕ). place k ns) 0 0
+pub get_or-rows_in : (ns ks : List ℕ) (i : ℕ) → i < length ks → get_or (rows_in ns ks) i 0 ≡ place (get_or ks i 0) ns
+unfolding rows_in
+get_or-rows_in ns = get_d_map (λ (k : ℕ). place k ns) 0 0

@@ -1,8 +1,8 @@
 -- Numbers name rows: where no number stands twice, each row has one number and each number one row. What is asked of buses by number is asked of their rows.
 use Rattle.prelude.proofs.Prelude.{◌≡◌, refl, sym, ap, ◌∙◌, subst, Bool, true, false, ◌&&◌, ◌||◌, inl, inr, List, [], ◌∷◌, ◌++◌, ℕ, arith, T, eqb, ltb, length, get_or, ap₂, eqb→eq, and_l, and_r, is_true, ne_eqb, lt-ltb, le-ltb}
 use lib.Ieee.Fits.{eq→eqb}
-use Rattle.lists.specs.Buses.{mem, ◌isOneOf◌, place, all_below, repeats, within, rowsIn}
-use Rattle.lists.proofs.Buses.{failed, neither, in-or-out, place-lt, place_none, getD-place}
+use Rattle.lists.specs.Buses.{mem, ◌is_one_of◌, place, all_below, repeats, within, rows_in}
+use Rattle.lists.proofs.Buses.{failed, neither, in-or-out, place-lt, place_none, get_or-place}
 pub use Rattle.lists.proofs.Buses.{place-number}
 
 -- ---- a list that repeats none
@@ -27,10 +27,10 @@ repeats-more (x ∷ ns) k d e =
 
 -- ---- numbers and their rows
 
-pub rowsIn-append : (ns ks ls : List ℕ) → rowsIn ns (ks ++ ls) ≡ rowsIn ns ks ++ rowsIn ns ls
-unfolding rowsIn
-rowsIn-append ns [] ls = refl
-rowsIn-append ns (k ∷ ks) ls = ap (λ (l : List ℕ). place k ns ∷ l) (rowsIn-append ns ks ls)
+pub rows_in-append : (ns ks ls : List ℕ) → rows_in ns (ks ++ ls) ≡ rows_in ns ks ++ rows_in ns ls
+unfolding rows_in
+rows_in-append ns [] ls = refl
+rows_in-append ns (k ∷ ks) ls = ap (λ (l : List ℕ). place k ns ∷ l) (rows_in-append ns ks ls)
 
 -- a bus has a row exactly where its number is there
 pub place-below : (k : ℕ) (ns : List ℕ) → ltb (place k ns) (length ns) ≡ mem k ns
@@ -42,30 +42,30 @@ place-below k ns = elim (in-or-out k ns) [
     not-below : (n : ℕ) → ltb n n ≡ false
     not-below n = le-ltb n n (omega arith)
 
-pub below-within : (ns ks : List ℕ) → all_below (length ns) (rowsIn ns ks) ≡ within ns ks
-unfolding all_below within rowsIn
+pub below-within : (ns ks : List ℕ) → all_below (length ns) (rows_in ns ks) ≡ within ns ks
+unfolding all_below within rows_in
 below-within ns [] = refl
 below-within ns (k ∷ ks) = ap₂ (λ (a b : Bool). a && b) (place-below k ns) (below-within ns ks)
 
 -- two numbers that are there and have one row are the same
-place_same : (a b : ℕ) (ns : List ℕ) → a isOneOf ns → b isOneOf ns → place a ns ≡ place b ns → a ≡ b
-place_same a b ns m l e = sym (getD-place a ns m) ∙ ap (λ (i : ℕ). get_or ns i 0) e ∙ getD-place b ns l
+place_same : (a b : ℕ) (ns : List ℕ) → a is_one_of ns → b is_one_of ns → place a ns ≡ place b ns → a ≡ b
+place_same a b ns m l e = sym (get_or-place a ns m) ∙ ap (λ (i : ℕ). get_or ns i 0) e ∙ get_or-place b ns l
 
-eqb-place : (a b : ℕ) (ns : List ℕ) → a isOneOf ns → b isOneOf ns → eqb (place a ns) (place b ns) ≡ eqb a b
+eqb-place : (a b : ℕ) (ns : List ℕ) → a is_one_of ns → b is_one_of ns → eqb (place a ns) (place b ns) ≡ eqb a b
 eqb-place a b ns m l = go (eqb a b) (eqb→eq a b) (λ (p : a ≡ b). eq→eqb p)
   where
     go : (c : Bool) → (T c → a ≡ b) → (a ≡ b → T c) → eqb (place a ns) (place b ns) ≡ c
     go true f g = is_true (eqb (place a ns) (place b ns)) (eq→eqb (ap (λ (k : ℕ). place k ns) (f tt)))
     go false f g = ne_eqb (place a ns) (place b ns) (λ (p : place a ns ≡ place b ns). g (place_same a b ns m l p))
 
-mem-rows : (ns : List ℕ) (k : ℕ) (ks : List ℕ) → k isOneOf ns → T (within ns ks) → mem (place k ns) (rowsIn ns ks) ≡ mem k ks
-unfolding within rowsIn
+mem-rows : (ns : List ℕ) (k : ℕ) (ks : List ℕ) → k is_one_of ns → T (within ns ks) → mem (place k ns) (rows_in ns ks) ≡ mem k ks
+unfolding within rows_in
 mem-rows ns k [] m w = refl
 mem-rows ns k (l ∷ ks) m w =
     ap₂ (λ (a b : Bool). a || b) (eqb-place k l ns m (and_l (mem l ns) (within ns ks) w)) (mem-rows ns k ks m (and_r (mem l ns) (within ns ks) w))
 
-pub repeats-rows : (ns ks : List ℕ) → T (within ns ks) → repeats (rowsIn ns ks) ≡ repeats ks
-unfolding repeats within rowsIn
+pub repeats-rows : (ns ks : List ℕ) → T (within ns ks) → repeats (rows_in ns ks) ≡ repeats ks
+unfolding repeats within rows_in
 repeats-rows ns [] w = refl
 repeats-rows ns (k ∷ ks) w =
     ap₂ (λ (a b : Bool). a || b) (mem-rows ns k ks (and_l (mem k ns) (within ns ks) w) (and_r (mem k ns) (within ns ks) w)) (repeats-rows ns ks (and_r (mem k ns) (within ns ks) w))

@@ -8,18 +8,18 @@ lt-or-ge a zero = inr (omega arith)
 lt-or-ge zero (suc b) = inl (omega arith)
 lt-or-ge (suc a) (suc b) = elim (lt-or-ge a b) [ inl l ↦ inl (omega arith) | inr l ↦ inr (omega arith) ]
 
-pub length-upTo : (n : ℕ) → length (up_to n) ≡ n
+pub length-up_to : (n : ℕ) → length (up_to n) ≡ n
 unfolding up_to
-length-upTo zero = refl
-length-upTo (suc n) = length-append (up_to n) (n ∷ []) ∙ ap (λ (k : ℕ). k + 1) (length-upTo n) ∙ omega arith
+length-up_to zero = refl
+length-up_to (suc n) = length-append (up_to n) (n ∷ []) ∙ ap (λ (k : ℕ). k + 1) (length-up_to n) ∙ omega arith
 
-pub getD-upTo : (n k d : ℕ) → k < n → get_or (up_to n) k d ≡ k
+pub get_or-up_to : (n k d : ℕ) → k < n → get_or (up_to n) k d ≡ k
 unfolding up_to
-getD-upTo zero k d h = absurd (omega arith)
-getD-upTo (suc n) k d h = pick (getD-upTo n k d) (lt-or-ge k n)
+get_or-up_to zero k d h = absurd (omega arith)
+get_or-up_to (suc n) k d h = pick (get_or-up_to n k d) (lt-or-ge k n)
   where
     pick : (k < n → get_or (up_to n) k d ≡ k) → (k < n) ⊎ (n ≤ k) → get_or (up_to n ++ (n ∷ [])) k d ≡ k
-    pick ih (inl l) = List·getD-append (up_to n) (n ∷ []) d k (rw length-upTo l) ∙ ih l
+    pick ih (inl l) = List·getD-append (up_to n) (n ∷ []) d k (rw length-up_to l) ∙ ih l
     pick ih (inr l) =
         let e : k ≡ n = omega arith in
-        rw e (get_or_at (up_to n) n [] d n (length-upTo n))
+        rw e (get_or_at (up_to n) n [] d n (length-up_to n))

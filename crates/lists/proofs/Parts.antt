@@ -9,18 +9,18 @@ module _ {ℓ} {A : Type ℓ} (a k : ℕ) (xs ys : List A) (d : A) where
   pub length_back : a + k ≤ length xs → length ys ≡ k → length (back a k xs ys) ≡ length xs
   length_back h e = simp (length-append, length-take-le a xs (omega arith), length-drop) (omega arith)
 
-  pub getD-back-before : a ≤ length xs → (j : ℕ) → j < a → get_or (back a k xs ys) j d ≡ get_or xs j d
-  getD-back-before h j l =
+  pub get_or-back-before : a ≤ length xs → (j : ℕ) → j < a → get_or (back a k xs ys) j d ≡ get_or xs j d
+  get_or-back-before h j l =
       List·getD-append (take a xs) (ys ++ drop k (drop a xs)) d j (rw (length-take-le a xs h) l) ∙ get_or-take a xs j d l
 
-  pub getD-back-in : a ≤ length xs → (j : ℕ) → j < length ys → get_or (back a k xs ys) (a + j) d ≡ get_or ys j d
-  getD-back-in h j l =
+  pub get_or-back-in : a ≤ length xs → (j : ℕ) → j < length ys → get_or (back a k xs ys) (a + j) d ≡ get_or ys j d
+  get_or-back-in h j l =
       ap (λ (n : ℕ). get_or (back a k xs ys) (n + j) d) (sym (length-take-le a xs h))
       ∙ get_or-append-add (take a xs) (ys ++ drop k (drop a xs)) j d
       ∙ List·getD-append ys (drop k (drop a xs)) d j l
 
-  pub getD-back-after : a ≤ length xs → length ys ≡ k → (j : ℕ) → get_or (back a k xs ys) (a + (k + j)) d ≡ get_or xs (a + (k + j)) d
-  getD-back-after h e j =
+  pub get_or-back-after : a ≤ length xs → length ys ≡ k → (j : ℕ) → get_or (back a k xs ys) (a + (k + j)) d ≡ get_or xs (a + (k + j)) d
+  get_or-back-after h e j =
       ap (λ (n : ℕ). get_or (back a k xs ys) (n + (k + j)) d) (sym (length-take-le a xs h))
       ∙ get_or-append-add (take a xs) (ys ++ drop k (drop a xs)) (k + j) d
       ∙ ap (λ (n : ℕ). get_or (ys ++ drop k (drop a xs)) (n + j) d) (sym e)

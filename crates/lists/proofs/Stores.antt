@@ -2,17 +2,17 @@
 use Rattle.prelude.proofs.Prelude.{◌≡◌, ◌∙◌, List, [], ◌∷◌, ◌++◌, ℕ, ◌+◌, ◌-◌, ◌≤◌, ◌<◌, add-one, arith, length, drop, replicate, zero-add, length-replicate, drop_of_length-le, sets, drop-cons}
 use lib.Seq.{sets-eq}
 use Rattle.lists.specs.Buses.{up_to}
-use Rattle.lists.proofs.Order.{length-upTo, getD-upTo}
+use Rattle.lists.proofs.Order.{length-up_to, get_or-up_to}
 use Rattle.lists.proofs.Fronts.{drop-replicate, front-end}
 
 -- the buses from i on
-pub upTo-here : (n i : ℕ) → i < n → drop i (up_to n) ≡ i ∷ drop (i + 1) (up_to n)
-upTo-here n i h =
-    let within : i < length (up_to n) = rw length-upTo h in
-    rw (drop-cons (up_to n) i 0 within, getD-upTo n i 0 h, add-one)
+pub up_to-here : (n i : ℕ) → i < n → drop i (up_to n) ≡ i ∷ drop (i + 1) (up_to n)
+up_to-here n i h =
+    let within : i < length (up_to n) = rw length-up_to h in
+    rw (drop-cons (up_to n) i 0 within, get_or-up_to n i 0 h, add-one)
 
-pub upTo-end : (n i : ℕ) → n ≤ i → drop i (up_to n) ≡ []
-upTo-end n i h = drop_of_length-le (up_to n) {i = i} (rw length-upTo h)
+pub up_to-end : (n i : ℕ) → n ≤ i → drop i (up_to n) ≡ []
+up_to-end n i h = drop_of_length-le (up_to n) {i = i} (rw length-up_to h)
 
 module _ {ℓ} {A : Type ℓ} where
   -- over a list that holds as many: they are the list

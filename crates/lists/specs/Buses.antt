@@ -13,9 +13,9 @@ mem k [] = false
 mem k (x ∷ xs) = eqb k x || mem k xs
 
 -- bus k is one of xs
-infix 40 ◌isOneOf◌
-abbrev pub ◌isOneOf◌ : ℕ → List ℕ → Type 0
-k isOneOf xs = T (mem k xs)
+infix 40 ◌is_one_of◌
+abbrev pub ◌is_one_of◌ : ℕ → List ℕ → Type 0
+k is_one_of xs = T (mem k xs)
 
 -- xs without those in ks, in the old order
 unfoldable pub others : List ℕ → List ℕ → List ℕ
@@ -28,8 +28,8 @@ place k [] = 0
 place k (x ∷ xs) = cond (eqb k x) 0 (suc (place k xs))
 
 -- the same, or nothing
-unfoldable pub foundIn : ℕ → List ℕ → Found
-foundIn k xs = cond (mem k xs) (At (place k xs)) Nothing
+unfoldable pub found_in : ℕ → List ℕ → Found
+found_in k xs = cond (mem k xs) (At (place k xs)) Nothing
 
 unfoldable pub rising : List ℕ → Bool
 rising [] = true
@@ -40,9 +40,9 @@ unfoldable pub all_below : ℕ → List ℕ → Bool
 all_below n [] = true
 all_below n (x ∷ xs) = ltb x n && all_below n xs
 
-unfoldable pub allZero : List ℕ → Bool
-allZero [] = true
-allZero (x ∷ xs) = eqb x 0 && allZero xs
+unfoldable pub all_zero : List ℕ → Bool
+all_zero [] = true
+all_zero (x ∷ xs) = eqb x 0 && all_zero xs
 
 -- a number that stands twice in the list
 unfoldable pub repeats : List ℕ → Bool
@@ -55,6 +55,6 @@ within xs [] = true
 within xs (k ∷ ks) = mem k xs && within xs ks
 
 -- the rows of the buses numbered ks, where ns are the rows' numbers; a number that no row has becomes the count of rows
-unfoldable pub rowsIn : List ℕ → List ℕ → List ℕ
+unfoldable pub rows_in : List ℕ → List ℕ → List ℕ
 unfolding place
-rowsIn ns ks = map (λ (k : ℕ). place k ns) ks
+rows_in ns ks = map (λ (k : ℕ). place k ns) ks

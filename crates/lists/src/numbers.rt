@@ -6,7 +6,7 @@ use crate::Found;
 
 // The row of the bus with this number, or nothing.
 pub fn find(numbers: &[u32], bus: u32) -> Found
-    ensures { result ≡ buses.foundIn bus numbers.now }
+    ensures { result ≡ buses.found_in bus numbers.now }
 {
     let mut i = 0;
     while i < numbers.len() {
@@ -31,7 +31,7 @@ fn row_of(numbers: &[u32], bus: u32) -> usize
 // The rows of the listed buses, in the list's order.
 pub fn rows_of(numbers: &[u32], list: &[u32], rows: &mut [usize])
     requires { length list.now ≡ length rows.old }
-    ensures { rows.new ≡ buses.rowsIn numbers.now list.now }
+    ensures { rows.new ≡ buses.rows_in numbers.now list.now }
 {
     let mut i = 0;
     while i < list.len() {
@@ -73,7 +73,7 @@ pub fn repeats(list: &[u32]) -> bool
 
 // Whether every place is 0, looked through as `contains` does.
 pub fn all_zero(places: &[u32]) -> bool
-    ensures { result ≡ buses.allZero places.now }
+    ensures { result ≡ buses.all_zero places.now }
 {
     let mut zero = true;
     let mut i = 0;

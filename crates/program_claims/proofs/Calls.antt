@@ -2,14 +2,14 @@
 use Rattle.prelude.proofs.Prelude.{◌≡◌, refl, sym, ap, subst, Bool, true, false, cond, List, [], ◌∷◌, ◌++◌, ℕ, zero, suc, ◌+◌, ◌*◌, ◌≤◌, ◌<◌, arith, T, length, take, drop, Float, ◌^◌, map, append_assoc, append-nil, leb, leb→le, binary64}
 use lib.Ieee.Fits.{nan-fits}
 use lib.Ieee.Bits.{of_bits-fits}
-use Rattle.binary64.specs.Values.{allFinite, F64s}
+use Rattle.binary64.specs.Values.{all_finite, F64s}
 use Rattle.complex.proofs.Finite.{none, all_more}
 use Rattle.refusals.specs.declared.Outcome.{Outcome}
 use Rattle.refusals.specs.declared.Outcome.TheVariants.{Done, Refused}
 use Rattle.lists.specs.Buses.{mem}
 use Rattle.kron_reduction.specs.declared.KronReducer.{KronReducer}
-use Rattle.kron_reduction.specs.Reducer.{reducerInputOf, afterNew, afterBus, ReducerState, reducerStateOf}
-use Rattle.claims.specs.Accounts.{bus, after_call, leftFrom}
+use Rattle.kron_reduction.specs.Reducer.{reducer_input_of, after_new, after_bus, ReducerState, reducer_state_of}
+use Rattle.claims.specs.Accounts.{bus, after_call, left_from}
 use Rattle.text_numbers.specs.declared.Number.{Number}
 use Rattle.text_numbers.specs.declared.Number.TheVariants.{Is, Not}
 use Rattle.reduce_text.specs.declared.text.Entry.{Entry}
@@ -18,11 +18,11 @@ use Rattle.reduce_text.specs.declared.read.End.{End}
 use Rattle.reduce_text.specs.declared.read.End.TheVariants.{Kept, RefusedDrop, BadLine}
 use Rattle.text_numbers.specs.Bytes.{Bytes}
 use Rattle.text_numbers.proofs.WordSizes.{decimal-below}
-use Rattle.reduce_text.specs.Lines.{busesOf, number_of, dropOf, entry_of}
-use Rattle.reduce_text.specs.Reading.{most, Run, ended, noReducer, ofWord, onNumber, onOutcome, on_entry, afterDrop, drops, finish, entries, badAt, named, first}
+use Rattle.reduce_text.specs.Lines.{buses_of, number_of, drop_of, entry_of}
+use Rattle.reduce_text.specs.Reading.{most, Run, ended, no_reducer, of_word, on_number, on_outcome, on_entry, after_drop, drops, finish, entries, bad_at, named, first}
 use Rattle.reduce_text.proofs.LineLaws.{entry-finite}
 use Rattle.reduce_text.proofs.Fit.{Names, names-none, names_more}
-use Rattle.program_claims.specs.Inputs.{entryParts, entriesOf, busIn, names_of, dropped, calls_of, orNone}
+use Rattle.program_claims.specs.Inputs.{entry_parts, entries_of, bus_in, names_of, dropped, calls_of, or_none}
 
 -- ---- a run that ended otherwise is not kept
 
@@ -38,37 +38,37 @@ abbrev pub end_of : Run → End
 end_of R = R.reading.end
 
 abbrev pub held_of : Run → ReducerState
-held_of R = reducerStateOf R.reading.rec R.numbers
+held_of R = reducer_state_of R.reading.rec R.numbers
 
 -- ---- the drops
 
 pub record AsCalls (R : Run) (h : ReducerState) (ls : List Bytes) : Type 0 where
-  pub ends : held_of R ≡ leftFrom h (calls_of ls)
+  pub ends : held_of R ≡ left_from h (calls_of ls)
   pub all_lines : length (calls_of ls) ≡ length ls
 
 module _ (p : ℕ) (r : KronReducer) (ys : List Float) (l : Bytes) (ls : List Bytes)
-    (rest : (r' : KronReducer) (ys' : List Float) → end_of (drops finish (p + 1) r' ys' ls) ≡ Kept → AsCalls (drops finish (p + 1) r' ys' ls) (reducerStateOf r' ys') ls) where
+    (rest : (r' : KronReducer) (ys' : List Float) → end_of (drops finish (p + 1) r' ys' ls) ≡ Kept → AsCalls (drops finish (p + 1) r' ys' ls) (reducer_state_of r' ys') ls) where
   abbrev next : KronReducer → List Float → Run
   next r' ys' = drops finish (p + 1) r' ys' ls
 
   abbrev Line : Run → Number → Type 0
-  Line R w = (held_of R ≡ leftFrom (reducerStateOf r ys) (map bus (busIn w ++ dropped ls))) × (length (map bus (busIn w ++ dropped ls)) ≡ suc (length ls))
+  Line R w = (held_of R ≡ left_from (reducer_state_of r ys) (map bus (bus_in w ++ dropped ls))) × (length (map bus (bus_in w ++ dropped ls)) ≡ suc (length ls))
 
-  after : (k : ℕ) (o : Outcome) → let R = onOutcome o k (afterBus r ys k).out.rec (afterBus r ys k).slice next in end_of R ≡ Kept → Line R (Is k)
-  unfolding leftFrom after_call calls_of
-  after k Done h = let c = rest (afterBus r ys k).out.rec (afterBus r ys k).slice h in (c.ends, ap suc c.all_lines)
+  after : (k : ℕ) (o : Outcome) → let R = on_outcome o k (after_bus r ys k).out.rec (after_bus r ys k).slice next in end_of R ≡ Kept → Line R (Is k)
+  unfolding left_from after_call calls_of
+  after k Done h = let c = rest (after_bus r ys k).out.rec (after_bus r ys k).slice h in (c.ends, ap suc c.all_lines)
   after k (Refused f) h = absurd (at-end (RefusedDrop f k) h)
 
-  line : (w : Number) → let R = onNumber w (λ k. afterDrop k (afterBus r ys k) next) (finish p r ys (l ∷ ls)) in end_of R ≡ Kept → Line R w
+  line : (w : Number) → let R = on_number w (λ k. after_drop k (after_bus r ys k) next) (finish p r ys (l ∷ ls)) in end_of R ≡ Kept → Line R w
   unfolding finish
-  line (Is k) h = after k (afterBus r ys k).out.answer h
+  line (Is k) h = after k (after_bus r ys k).out.answer h
   line Not h = absurd (at-end (BadLine p) h)
 
-pub drops-calls : (p : ℕ) (r : KronReducer) (ys : List Float) (ls : List Bytes) → end_of (drops finish p r ys ls) ≡ Kept → AsCalls (drops finish p r ys ls) (reducerStateOf r ys) ls
-unfolding drops finish dropped calls_of leftFrom
+pub drops-calls : (p : ℕ) (r : KronReducer) (ys : List Float) (ls : List Bytes) → end_of (drops finish p r ys ls) ≡ Kept → AsCalls (drops finish p r ys ls) (reducer_state_of r ys) ls
+unfolding drops finish dropped calls_of left_from
 drops-calls p r ys [] h = record { ends = refl; all_lines = refl }
 drops-calls p r ys (l ∷ ls) h =
-    let c = line p r ys l ls (λ r' ys'. drops-calls (p + 1) r' ys' ls) (dropOf l) h in
+    let c = line p r ys l ls (λ r' ys'. drops-calls (p + 1) r' ys' ls) (drop_of l) h in
     record { ends = c.0; all_lines = c.1 }
 
 -- ---- the entries
@@ -76,31 +76,31 @@ drops-calls p r ys (l ∷ ls) h =
 -- k entry lines, where the numbers ys were read before, and then the drops on what they make
 pub record AsMade (n : ℕ) (ns : List ℕ) (k : ℕ) (ys : List Float) (R : Run) (ls : List Bytes) : Type 0 where
   pub there : k ≤ length ls
-  pub numbers : length (entriesOf (take k ls)) ≡ 2 * k
+  pub numbers : length (entries_of (take k ls)) ≡ 2 * k
   pub place : ℕ
-  pub then : let zs = ys ++ entriesOf (take k ls) in R ≡ drops finish place (afterNew (reducerInputOf n zs ns)).rec zs (drop k ls)
+  pub then : let zs = ys ++ entries_of (take k ls) in R ≡ drops finish place (after_new (reducer_input_of n zs ns)).rec zs (drop k ls)
 
 module _ (n : ℕ) (ns : List ℕ) (k p : ℕ) (ys : List Float) (l : Bytes) (ls : List Bytes)
     (rest : (zs : List Float) → end_of (entries (drops finish) n ns k (p + 1) zs ls) ≡ Kept → AsMade n ns k zs (entries (drops finish) n ns k (p + 1) zs ls) ls) where
   entry : (w : Entry)
-      → let R = on_entry w (λ a b. entries (drops finish) n ns k (p + 1) (ys ++ (ofWord a ∷ ofWord b ∷ [])) ls) (ended (BadLine p) noReducer ys) in
-      let zs = ys ++ (entryParts w ++ entriesOf (take k ls)) in
+      → let R = on_entry w (λ a b. entries (drops finish) n ns k (p + 1) (ys ++ (of_word a ∷ of_word b ∷ [])) ls) (ended (BadLine p) no_reducer ys) in
+      let zs = ys ++ (entry_parts w ++ entries_of (take k ls)) in
       end_of R ≡ Kept
-      → (k ≤ length ls) × (length (entryParts w ++ entriesOf (take k ls)) ≡ 2 * suc k) × (at : ℕ) × (R ≡ drops finish at (afterNew (reducerInputOf n zs ns)).rec zs (drop k ls))
+      → (k ≤ length ls) × (length (entry_parts w ++ entries_of (take k ls)) ≡ 2 * suc k) × (at : ℕ) × (R ≡ drops finish at (after_new (reducer_input_of n zs ns)).rec zs (drop k ls))
   entry (Words a b) h =
-      let c = rest (ys ++ (ofWord a ∷ ofWord b ∷ [])) h in (
+      let c = rest (ys ++ (of_word a ∷ of_word b ∷ [])) h in (
         c.there,
         omega (arith, c.numbers),
         c.place,
         subst
-            (λ (zs : List Float). entries (drops finish) n ns k (p + 1) (ys ++ (ofWord a ∷ ofWord b ∷ [])) ls ≡ drops finish c.place (afterNew (reducerInputOf n zs ns)).rec zs (drop k ls))
-            (append_assoc ys (ofWord a ∷ ofWord b ∷ []) (entriesOf (take k ls)))
+            (λ (zs : List Float). entries (drops finish) n ns k (p + 1) (ys ++ (of_word a ∷ of_word b ∷ [])) ls ≡ drops finish c.place (after_new (reducer_input_of n zs ns)).rec zs (drop k ls))
+            (append_assoc ys (of_word a ∷ of_word b ∷ []) (entries_of (take k ls)))
             c.then,
       )
   entry NoEntry h = absurd (at-end (BadLine p) h)
 
 pub entries-made : (n : ℕ) (ns : List ℕ) (k p : ℕ) (ys : List Float) (ls : List Bytes) → end_of (entries (drops finish) n ns k p ys ls) ≡ Kept → AsMade n ns k ys (entries (drops finish) n ns k p ys ls) ls
-unfolding entries entriesOf
+unfolding entries entries_of
 entries-made n ns zero p ys ls h = record { there = omega arith; numbers = refl; place = p; then = simp append-nil }
 entries-made n ns (suc k) p ys [] h = absurd (at-end (BadLine p) h)
 entries-made n ns (suc k) p ys (l ∷ ls) h =
@@ -120,11 +120,11 @@ module _ (n k j p : ℕ) (ns : List ℕ) (l : Bytes) (ls : List Bytes) (g : Name
   abbrev Line' : Run → Number → Type 0
   Line' R w =
       (k ≤ length ls)
-      × Names n (ns ++ (busIn w ++ names_of (take k ls)))
-      × AsMade n (ns ++ (busIn w ++ names_of (take k ls))) (n * n) [] R (drop k ls)
+      × Names n (ns ++ (bus_in w ++ names_of (take k ls)))
+      × AsMade n (ns ++ (bus_in w ++ names_of (take k ls))) (n * n) [] R (drop k ls)
 
   one : (b : ℕ) → b < 2 ^ 32 → (t : Bool) → mem b ns ≡ t
-      → let R = cond t (badAt p) (named (drops finish) n k (p + 1) (ns ++ (b ∷ [])) ls) in end_of R ≡ Kept → Line' R (Is b)
+      → let R = cond t (bad_at p) (named (drops finish) n k (p + 1) (ns ++ (b ∷ [])) ls) in end_of R ≡ Kept → Line' R (Is b)
   one b q true m h = absurd (at-end (BadLine p) h)
   one b q false m h =
       let c = rest (ns ++ (b ∷ [])) (names_more j ns b g q m) h in
@@ -133,7 +133,7 @@ module _ (n k j p : ℕ) (ns : List ℕ) (l : Bytes) (ls : List Bytes) (g : Name
       (c.there, subst (Names n) e c.names, subst (λ (ms : List ℕ). AsMade n ms (n * n) [] R (drop k ls)) e c.made)
 
   number : (w : Number) → number_of l ≡ w
-      → let R = onNumber w (λ b. cond (mem b ns) (badAt p) (named (drops finish) n k (p + 1) (ns ++ (b ∷ [])) ls)) (badAt p) in end_of R ≡ Kept → Line' R w
+      → let R = on_number w (λ b. cond (mem b ns) (bad_at p) (named (drops finish) n k (p + 1) (ns ++ (b ∷ [])) ls)) (bad_at p) in end_of R ≡ Kept → Line' R w
   number (Is b) e h = one b (decimal-below l b e) (mem b ns) refl h
   number Not e h = absurd (at-end (BadLine p) h)
 
@@ -156,45 +156,45 @@ named-made n (suc k) j p ns (l ∷ ls) g e h =
 -- ---- the first line
 
 -- the numbers of entry lines fit binary64, whatever their bits
-pub f64s : (ls : List Bytes) → F64s (entriesOf ls)
-unfolding entriesOf
+pub f64s : (ls : List Bytes) → F64s (entries_of ls)
+unfolding entries_of
 f64s [] i = nan-fits binary64
 f64s (l ∷ ls) i = entry-fits (entry_of l) (f64s ls) i
   where
-    entry-fits : (w : Entry) → F64s (entriesOf ls) → F64s (entryParts w ++ entriesOf ls)
+    entry-fits : (w : Entry) → F64s (entries_of ls) → F64s (entry_parts w ++ entries_of ls)
     entry-fits (Words a b) f zero = of_bits-fits binary64 a
     entry-fits (Words a b) f (suc zero) = of_bits-fits binary64 b
     entry-fits (Words a b) f (suc (suc i)) = f i
     entry-fits NoEntry f i = f i
 
 -- and they are finite
-pub all-finite : (ls : List Bytes) → T (allFinite (entriesOf ls))
-unfolding entriesOf
+pub all-finite : (ls : List Bytes) → T (all_finite (entries_of ls))
+unfolding entries_of
 all-finite [] = none
 all-finite (l ∷ ls) = entry-all (entry_of l) refl (all-finite ls)
   where
-    entry-all : (w : Entry) → entry_of l ≡ w → T (allFinite (entriesOf ls)) → T (allFinite (entryParts w ++ entriesOf ls))
+    entry-all : (w : Entry) → entry_of l ≡ w → T (all_finite (entries_of ls)) → T (all_finite (entry_parts w ++ entries_of ls))
     entry-all (Words a b) e h =
         let (x, y) = entry-finite l a b e in
-        all_more (ofWord a) (ofWord b ∷ entriesOf ls) x (all_more (ofWord b) (entriesOf ls) y h)
+        all_more (of_word a) (of_word b ∷ entries_of ls) x (all_more (of_word b) (entries_of ls) y h)
     entry-all NoEntry e h = h
 
 -- a first line with so many buses, numbers, entries and drops behind it
 pub record AsInput (l : Bytes) (ls : List Bytes) (R : Run) (n : ℕ) : Type 0 where
-  pub size : busesOf l ≡ Is n
+  pub size : buses_of l ≡ Is n
   pub small : n ≤ most
   pub named : AsNamed n n [] R ls
 
-pub first-buses : (l : Bytes) (ls : List Bytes) → end_of (first (drops finish) (l ∷ ls)) ≡ Kept → AsInput l ls (first (drops finish) (l ∷ ls)) (orNone (busesOf l))
+pub first-buses : (l : Bytes) (ls : List Bytes) → end_of (first (drops finish) (l ∷ ls)) ≡ Kept → AsInput l ls (first (drops finish) (l ∷ ls)) (or_none (buses_of l))
 unfolding first
-first-buses l ls h = number' (busesOf l) refl h
+first-buses l ls h = number' (buses_of l) refl h
   where
-    within : (n : ℕ) → busesOf l ≡ Is n → (b : Bool) → (T b → n ≤ most)
-        → let R = cond b (named (drops finish) n n 2 [] ls) (badAt 1) in end_of R ≡ Kept → AsInput l ls R n
+    within : (n : ℕ) → buses_of l ≡ Is n → (b : Bool) → (T b → n ≤ most)
+        → let R = cond b (named (drops finish) n n 2 [] ls) (bad_at 1) in end_of R ≡ Kept → AsInput l ls R n
     within n e true f h = record { size = e; small = f tt; named = named-made n n 0 2 [] ls names-none (omega arith) h }
     within n e false f h = absurd (at-end (BadLine 1) h)
 
-    number' : (w : Number) → busesOf l ≡ w
-        → let R = onNumber w (λ n. cond (leb n most) (named (drops finish) n n 2 [] ls) (badAt 1)) (badAt 1) in end_of R ≡ Kept → AsInput l ls R (orNone w)
+    number' : (w : Number) → buses_of l ≡ w
+        → let R = on_number w (λ n. cond (leb n most) (named (drops finish) n n 2 [] ls) (bad_at 1)) (bad_at 1) in end_of R ≡ Kept → AsInput l ls R (or_none w)
     number' (Is n) e h = within n e (leb n most) (leb→le n most) h
     number' Not e h = absurd (at-end (BadLine 1) h)

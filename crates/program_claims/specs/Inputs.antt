@@ -1,6 +1,6 @@
 -- What an input of `reduce` says: the buses and their numbers, the matrix that a reducer is made of, and the drops as a list of calls.
 use Rattle.std.specs.Prelude.{ℕ, ◌*◌, List, [], ◌∷◌, ◌++◌, map, ◌≡◌, get_or, take, drop, Float}
-use Rattle.kron_reduction.specs.Reducer.{ReducerInput, reducerInputOf, ReducerState, reducerStateOf}
+use Rattle.kron_reduction.specs.Reducer.{ReducerInput, reducer_input_of, ReducerState, reducer_state_of}
 use Rattle.claims.specs.Accounts.{Call, bus, Account, account}
 use Rattle.text_numbers.specs.declared.Number.{Number}
 use Rattle.text_numbers.specs.declared.Number.TheVariants.{Is, Not}
@@ -8,34 +8,34 @@ use Rattle.reduce_text.specs.declared.text.Entry.{Entry}
 use Rattle.reduce_text.specs.declared.text.Entry.TheVariants.{Words, NoEntry}
 use Rattle.reduce_text.specs.declared.read.End.TheVariants.{Kept}
 use Rattle.text_numbers.specs.Bytes.{Bytes}
-use Rattle.reduce_text.specs.Lines.{lines, busesOf, number_of, dropOf, entry_of}
-use Rattle.reduce_text.specs.Reading.{ofWord, run_of}
+use Rattle.reduce_text.specs.Lines.{lines, buses_of, number_of, drop_of, entry_of}
+use Rattle.reduce_text.specs.Reading.{of_word, run_of}
 
 -- ---- lines that are taken for numbers, for entries, and for drops
 
-abbrev pub busIn : Number → List ℕ
-busIn (Is k) = k ∷ []
-busIn Not = []
+abbrev pub bus_in : Number → List ℕ
+bus_in (Is k) = k ∷ []
+bus_in Not = []
 
 -- the buses of the number lines, in order
 unfoldable pub names_of : List Bytes → List ℕ
 names_of [] = []
-names_of (l ∷ ls) = busIn (number_of l) ++ names_of ls
+names_of (l ∷ ls) = bus_in (number_of l) ++ names_of ls
 
 -- real and imaginary part
-abbrev pub entryParts : Entry → List Float
-entryParts (Words a b) = ofWord a ∷ ofWord b ∷ []
-entryParts NoEntry = []
+abbrev pub entry_parts : Entry → List Float
+entry_parts (Words a b) = of_word a ∷ of_word b ∷ []
+entry_parts NoEntry = []
 
 -- the numbers of the entry lines, in order
-unfoldable pub entriesOf : List Bytes → List Float
-entriesOf [] = []
-entriesOf (l ∷ ls) = entryParts (entry_of l) ++ entriesOf ls
+unfoldable pub entries_of : List Bytes → List Float
+entries_of [] = []
+entries_of (l ∷ ls) = entry_parts (entry_of l) ++ entries_of ls
 
 -- the buses of the drop lines, in order
 unfoldable pub dropped : List Bytes → List ℕ
 dropped [] = []
-dropped (l ∷ ls) = busIn (dropOf l) ++ dropped ls
+dropped (l ∷ ls) = bus_in (drop_of l) ++ dropped ls
 
 -- a call of `eliminate_bus` for each
 unfoldable pub calls_of : List Bytes → List Call
@@ -44,49 +44,49 @@ calls_of ls = map bus (dropped ls)
 
 -- ---- the whole input
 
-abbrev pub firstLine : Bytes → Bytes
-firstLine input = get_or (lines input) 0 []
+abbrev pub first_line : Bytes → Bytes
+first_line input = get_or (lines input) 0 []
 
-abbrev pub orNone : Number → ℕ
-orNone (Is n) = n
-orNone Not = 0
+abbrev pub or_none : Number → ℕ
+or_none (Is n) = n
+or_none Not = 0
 
 -- the buses that the first line tells
 unfoldable pub size_of : Bytes → ℕ
-size_of input = orNone (busesOf (firstLine input))
+size_of input = or_none (buses_of (first_line input))
 
 -- the lines behind the first: so many are numbers, so many entries, and the others drops
-abbrev pub behindFirst : Bytes → List Bytes
-behindFirst input = drop 1 (lines input)
+abbrev pub behind_first : Bytes → List Bytes
+behind_first input = drop 1 (lines input)
 
-abbrev pub numberPart : Bytes → List Bytes
-numberPart input = take (size_of input) (behindFirst input)
+abbrev pub number_part : Bytes → List Bytes
+number_part input = take (size_of input) (behind_first input)
 
-abbrev pub behindNumbers : Bytes → List Bytes
-behindNumbers input = drop (size_of input) (behindFirst input)
+abbrev pub behind_numbers : Bytes → List Bytes
+behind_numbers input = drop (size_of input) (behind_first input)
 
-abbrev pub entryCount : Bytes → ℕ
-entryCount input = size_of input * size_of input
+abbrev pub entry_count : Bytes → ℕ
+entry_count input = size_of input * size_of input
 
-abbrev pub entryPart : Bytes → List Bytes
-entryPart input = take (entryCount input) (behindNumbers input)
+abbrev pub entry_part : Bytes → List Bytes
+entry_part input = take (entry_count input) (behind_numbers input)
 
-abbrev pub dropPart : Bytes → List Bytes
-dropPart input = drop (entryCount input) (behindNumbers input)
+abbrev pub drop_part : Bytes → List Bytes
+drop_part input = drop (entry_count input) (behind_numbers input)
 
 -- the number of each bus, in row order
-unfoldable pub busNumbers : Bytes → List ℕ
-busNumbers input = names_of (numberPart input)
+unfoldable pub bus_numbers : Bytes → List ℕ
+bus_numbers input = names_of (number_part input)
 
-unfoldable pub makingIn : Bytes → ReducerInput
-makingIn input = reducerInputOf (size_of input) (entriesOf (entryPart input)) (busNumbers input)
+unfoldable pub making_in : Bytes → ReducerInput
+making_in input = reducer_input_of (size_of input) (entries_of (entry_part input)) (bus_numbers input)
 
 unfoldable pub calls : Bytes → List Call
-calls input = calls_of (dropPart input)
+calls input = calls_of (drop_part input)
 
 -- demand 3's account of these calls
-abbrev pub accountOf : Bytes → Account
-accountOf input = account (makingIn input) (calls input)
+abbrev pub account_of : Bytes → Account
+account_of input = account (making_in input) (calls input)
 
 -- ---- the run
 
@@ -95,5 +95,5 @@ abbrev pub IsKept : Bytes → Type 0
 IsKept input = (run_of input).reading.end ≡ Kept
 
 -- the record, and the numbers of the matrix, at the run's end
-unfoldable pub stateLeft : Bytes → ReducerState
-stateLeft input = reducerStateOf (run_of input).reading.rec (run_of input).numbers
+unfoldable pub state_left : Bytes → ReducerState
+state_left input = reducer_state_of (run_of input).reading.rec (run_of input).numbers

@@ -2,22 +2,22 @@
 use Rattle.prelude.proofs.Prelude.{◌≡◌, sym, ap, ◌∙◌, List, ◌++◌, ℕ, ◌-◌, ◌≤◌, arith, length, take, replicate, Float, length-append, take-append_seam, length-take-le}
 use Rattle.reduce_text.specs.declared.Answer.{Answer}
 use Rattle.reduce_text.specs.declared.Answer.TheVariants.{Written, Refused}
-use Rattle.reduce_text.specs.Reduce.{outputLength, matrixLength, printed, AfterReduce, afterReduce}
+use Rattle.reduce_text.specs.Reduce.{output_length, matrix_length, printed, AfterReduce, after_reduce}
 use Rattle.reduce_text.proofs.ReduceLaws.{after_both}
 use Rattle.reduce.specs.Inner.Moves.{Front}
 
-module _ (input out : List ℕ) (ys : List Float) (o : outputLength ≡ length out) (m : matrixLength ≡ length ys) where
+module _ (input out : List ℕ) (ys : List Float) (o : output_length ≡ length out) (m : matrix_length ≡ length ys) where
   -- the zeros behind the text
   abbrev zeros : List ℕ
-  zeros = replicate (outputLength - length (printed input)) 0
+  zeros = replicate (output_length - length (printed input)) 0
 
-  is-written : (a : Answer) → a ≡ (afterReduce input out ys).answer → a ≡ Written (length (printed input))
+  is-written : (a : Answer) → a ≡ (after_reduce input out ys).answer → a ≡ Written (length (printed input))
   is-written a e = e ∙ ap (λ (r : AfterReduce). r.answer) (after_both input out ys (sym o) (sym m))
 
-  pub never-refused : (a : Answer) (k : ℕ) → a ≡ (afterReduce input out ys).answer → a ≡ Refused k → ⊥
+  pub never-refused : (a : Answer) (k : ℕ) → a ≡ (after_reduce input out ys).answer → a ≡ Refused k → ⊥
   never-refused a k e r = let z : Written (length (printed input)) ≡ Refused k = sym (is-written a e) ∙ r in let q : ◌≡◌ {A = ℕ} 0 1 = cc in omega arith
 
-  pub answer-front : (a : Answer) (left : List ℕ) (n : ℕ) → a ≡ (afterReduce input out ys).answer → left ≡ (afterReduce input out ys).output → a ≡ Written n → Front n left (printed input)
+  pub answer-front : (a : Answer) (left : List ℕ) (n : ℕ) → a ≡ (after_reduce input out ys).answer → left ≡ (after_reduce input out ys).output → a ≡ Written n → Front n left (printed input)
   answer-front a left n e l w =
       let z : Written n ≡ Written (length (printed input)) = sym w ∙ is-written a e in
       let k : n ≡ length (printed input) = cc in

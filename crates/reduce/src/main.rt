@@ -1,7 +1,7 @@
 // The program `reduce`: standard input is read until it ends or the buffer is full, and what `reduce_text` makes of it is written.
 // Bytes beyond the buffer cannot change the answer (reduce_text!Prefix `printed-prefix`). Where reading fails nothing is written.
 ghost use Rattle.std.specs.Prelude.{◌≡◌, length};
-ghost use Rattle.reduce_text.specs.Reduce.{inputLength, outputLength, matrixLength, printed};
+ghost use Rattle.reduce_text.specs.Reduce.{input_length, output_length, matrix_length, printed};
 ghost use Rattle.reduce.specs.Inner.Moves.{Front};
 
 use moves::Move;
@@ -11,26 +11,26 @@ mod moves;
 
 // The buffers, by their lengths alone.
 fn input_buffer() -> [u8; reduce_text::INPUT]
-    ensures { inputLength ≡ length result }
+    ensures { input_length ≡ length result }
 {
     [0; reduce_text::INPUT]
 }
 
 fn output_buffer() -> [u8; reduce_text::OUTPUT]
-    ensures { outputLength ≡ length result }
+    ensures { output_length ≡ length result }
 {
     [0; reduce_text::OUTPUT]
 }
 
 fn matrix_buffer() -> [f64; reduce_text::MATRIX]
-    ensures { matrixLength ≡ length result }
+    ensures { matrix_length ≡ length result }
 {
     [0.0; reduce_text::MATRIX]
 }
 
 // What is printed for this input stands at the output's front; answers how many bytes it has.
 fn answer(input: &[u8], output: &mut [u8], matrix: &mut [f64]) -> usize
-    requires { (outputLength ≡ length output.old) × (matrixLength ≡ length matrix.old) }
+    requires { (output_length ≡ length output.old) × (matrix_length ≡ length matrix.old) }
     ensures { Front result output.new (printed input.now) }
 {
     let told = reduce_text::reduce(input, output, matrix);

@@ -1,21 +1,21 @@
 -- What a run leaves has room: the making is accepted and the record is one that removals leave, so its buses are few, and the text of every run fits the output.
 use Rattle.prelude.proofs.Prelude.{◌≡◌, refl, sym, ap, ◌∙◌, subst, ◌⊎◌, inl, inr, Bool, true, false, cond, List, [], ◌∷◌, ◌++◌, ℕ, zero, suc, ◌+◌, ◌-◌, ◌*◌, ◌≤◌, ◌<◌, arith, T, length, get_or, replicate, Float, ◌^◌, map, mul-le-mul, le_trans, le_of_eq, leb, lit≤, leb→le, length-append}
-use Rattle.binary64.specs.Values.{allFinite}
+use Rattle.binary64.specs.Values.{all_finite}
 use Rattle.complex.specs.{entry_at}
 use Rattle.complex.proofs.Finite.{none, all_more, all_join}
 use Rattle.refusals.specs.declared.Outcome.{Outcome}
 use Rattle.refusals.specs.declared.Outcome.TheVariants.{Done, Refused}
-use Rattle.refusals.specs.Refusals.{limit, notActive, smallEntry, computedNotFinite, outcome}
+use Rattle.refusals.specs.Refusals.{limit, not_active, small_entry, computed_not_finite, outcome}
 use Rattle.kron_reduction.specs.declared.KronReducer.{KronReducer}
-use Rattle.kron_reduction.specs.Kron.{State, start, eliminate, carriedOut, stoppedBy}
-use Rattle.lists.specs.Buses.{mem, rising, all_below, repeats, rowsIn}
-use Rattle.kron_reduction.specs.Reducer.{padded, reducerInputOf, makingRefusal, recordOf, activeOf, sound, afterNew, ReducerState, reducerStateOf, stored, leaves, removedRows, removalsRefusal, afterBus}
-use Rattle.kron_reduction.specs.Reading.{activeNumbers}
+use Rattle.kron_reduction.specs.Kron.{State, start, eliminate, carried_out, stopped_by}
+use Rattle.lists.specs.Buses.{mem, rising, all_below, repeats, rows_in}
+use Rattle.kron_reduction.specs.Reducer.{padded, reducer_input_of, making_refusal, record_of, active_of, sound, after_new, ReducerState, reducer_state_of, stored, leaves, removed_rows, removals_refusal, after_bus}
+use Rattle.kron_reduction.specs.Reading.{active_numbers}
 use Rattle.kron_reduction.proofs.States.{FromState, stop-cases, FiniteIn, finite-eliminate, Regular, regular-start, regular-eliminate, taken-accepted}
 use Rattle.lists.proofs.Naming.{repeats-more}
 use Rattle.kron_reduction.proofs.Making.{making-none}
 use Rattle.kron_reduction.proofs.FiniteAnswers.{finite-start}
-use Rattle.kron_reduction.proofs.Reducer.{sound-recordOf, active-room, length-stored, rowMajor-all, removed-stored, refusal-stored, leaves-stored}
+use Rattle.kron_reduction.proofs.Reducer.{sound-record_of, active-room, length-stored, row_major-all, removed-stored, refusal-stored, leaves-stored}
 use Rattle.text_numbers.specs.declared.Number.{Number}
 use Rattle.text_numbers.specs.declared.Number.TheVariants.{Is, Not}
 use Rattle.reduce_text.specs.declared.text.Entry.{Entry}
@@ -24,9 +24,9 @@ use Rattle.reduce_text.specs.declared.read.End.{End}
 use Rattle.reduce_text.specs.declared.read.End.TheVariants.{Kept, RefusedDrop, BadLine}
 use Rattle.text_numbers.specs.Bytes.{Bytes}
 use Rattle.text_numbers.proofs.WordSizes.{decimal-below}
-use Rattle.reduce_text.specs.Lines.{lines, busesOf, number_of, dropOf, entry_of}
+use Rattle.reduce_text.specs.Lines.{lines, buses_of, number_of, drop_of, entry_of}
 use Rattle.reduce_text.proofs.LineLaws.{entry-finite}
-use Rattle.reduce_text.specs.Reading.{most, Run, ended, noReducer, Onward, ofWord, onNumber, onOutcome, on_entry, afterDrop, drops, finish, entries, badAt, named, first, run_of}
+use Rattle.reduce_text.specs.Reading.{most, Run, ended, no_reducer, Onward, of_word, on_number, on_outcome, on_entry, after_drop, drops, finish, entries, bad_at, named, first, run_of}
 
 -- `reduce` reads no more buses than the library takes
 pub most-limit : most ≤ limit
@@ -77,10 +77,10 @@ names_more k ns b h l m = record {
 
 -- ---- the numbers of entry lines are finite
 
-pub finite-more : (ys : List Float) (l : Bytes) (a b : ℕ) → T (allFinite ys) → entry_of l ≡ Words a b → T (allFinite (ys ++ (ofWord a ∷ ofWord b ∷ [])))
+pub finite-more : (ys : List Float) (l : Bytes) (a b : ℕ) → T (all_finite ys) → entry_of l ≡ Words a b → T (all_finite (ys ++ (of_word a ∷ of_word b ∷ [])))
 finite-more ys l a b h e =
     let (x, y) = entry-finite l a b e in
-    all_join ys (ofWord a ∷ ofWord b ∷ []) h (all_more (ofWord a) (ofWord b ∷ []) x (all_more (ofWord b) [] y none))
+    all_join ys (of_word a ∷ of_word b ∷ []) h (all_more (of_word a) (of_word b ∷ []) x (all_more (of_word b) [] y none))
 
 -- ---- record and matrix are the layout of a state
 
@@ -90,17 +90,17 @@ pub record StoredRun (n : ℕ) (ns : List ℕ) (r : KronReducer) (ys : List Floa
   pub names : Names n ns
   pub regular : Regular n state
   pub fine : FiniteIn state
-  pub stored_is : reducerStateOf r ys ≡ stored n ns state
+  pub stored_is : reducer_state_of r ys ≡ stored n ns state
 
-pub making-accepted : (n : ℕ) (ns : List ℕ) (ys : List Float) → n ≤ most → Names n ns → length ys ≡ 2 * (n * n) → T (allFinite ys) → makingRefusal (reducerInputOf n ys ns) ≡ 0
+pub making-accepted : (n : ℕ) (ns : List ℕ) (ys : List Float) → n ≤ most → Names n ns → length ys ≡ 2 * (n * n) → T (all_finite ys) → making_refusal (reducer_input_of n ys ns) ≡ 0
 making-accepted n ns ys h m e f =
     sym (making-none n ys ns (le_trans h most-limit) (le_trans (le_of_eq m.many) (le_trans h most-limit)) e m.many m.distinct f)
 
-pub fresh : (n : ℕ) (ns : List ℕ) (ys : List Float) → n ≤ most → Names n ns → length ys ≡ 2 * (n * n) → T (allFinite ys) → reducerStateOf (afterNew (reducerInputOf n ys ns)).rec ys ≡ stored n ns (start n (entry_at n ys))
-unfolding afterNew stored
-fresh n ns ys h m e f = rw (making-accepted n ns ys h m e f, rowMajor-all n ys e)
+pub fresh : (n : ℕ) (ns : List ℕ) (ys : List Float) → n ≤ most → Names n ns → length ys ≡ 2 * (n * n) → T (all_finite ys) → reducer_state_of (after_new (reducer_input_of n ys ns)).rec ys ≡ stored n ns (start n (entry_at n ys))
+unfolding after_new stored
+fresh n ns ys h m e f = rw (making-accepted n ns ys h m e f, row_major-all n ys e)
 
-pub stored-new : (n : ℕ) (ns : List ℕ) (ys : List Float) → n ≤ most → Names n ns → length ys ≡ 2 * (n * n) → T (allFinite ys) → StoredRun n ns (afterNew (reducerInputOf n ys ns)).rec ys
+pub stored-new : (n : ℕ) (ns : List ℕ) (ys : List Float) → n ≤ most → Names n ns → length ys ≡ 2 * (n * n) → T (all_finite ys) → StoredRun n ns (after_new (reducer_input_of n ys ns)).rec ys
 stored-new n ns ys h m e f = record {
   state = start n (entry_at n ys);
   small = h;
@@ -116,24 +116,24 @@ module _ (n : ℕ) (ns : List ℕ) (r : KronReducer) (ys : List Float) (k : ℕ)
 
   -- what the removal leaves
   abbrev pub left : State
-  left = eliminate h.state (carriedOut h.state (rowsIn ns (k ∷ [])))
+  left = eliminate h.state (carried_out h.state (rows_in ns (k ∷ [])))
 
-  pub left_is : reducerStateOf (afterBus r ys k).out.rec (afterBus r ys k).slice ≡ stored n ns left
-  unfolding afterBus
+  pub left_is : reducer_state_of (after_bus r ys k).out.rec (after_bus r ys k).slice ≡ stored n ns left
+  unfolding after_bus
   left_is =
       let s = h.state in
-      let ts = carriedOut s (rowsIn ns (k ∷ [])) in
-      ap (λ (x : ReducerState). leaves x.rec x.slice (removedRows x.rec x.slice (k ∷ []))) h.stored_is
+      let ts = carried_out s (rows_in ns (k ∷ [])) in
+      ap (λ (x : ReducerState). leaves x.rec x.slice (removed_rows x.rec x.slice (k ∷ []))) h.stored_is
       ∙ ap (leaves (stored n ns s).rec (stored n ns s).slice) (removed-stored n ns s within h.names.many h.names.distinct h.regular h.fine (k ∷ []) (lit≤ tt))
-      ∙ leaves-stored n ns s within h.names.many h.names.distinct h.regular ts (taken-accepted s (rowsIn ns (k ∷ [])))
+      ∙ leaves-stored n ns s within h.names.many h.names.distinct h.regular ts (taken-accepted s (rows_in ns (k ∷ [])))
 
-  pub stored-bus : StoredRun n ns (afterBus r ys k).out.rec (afterBus r ys k).slice
+  pub stored-bus : StoredRun n ns (after_bus r ys k).out.rec (after_bus r ys k).slice
   stored-bus = record {
     state = left;
     small = h.small;
     names = h.names;
-    regular = regular-eliminate n h.state (carriedOut h.state (rowsIn ns (k ∷ []))) h.regular;
-    fine = finite-eliminate h.state (carriedOut h.state (rowsIn ns (k ∷ []))) h.fine (taken-accepted h.state (rowsIn ns (k ∷ [])));
+    regular = regular-eliminate n h.state (carried_out h.state (rows_in ns (k ∷ []))) h.regular;
+    fine = finite-eliminate h.state (carried_out h.state (rows_in ns (k ∷ []))) h.fine (taken-accepted h.state (rows_in ns (k ∷ [])));
     stored_is = left_is;
   }
 
@@ -144,12 +144,12 @@ pub record Fit (r : KronReducer) (ys : List Float) : Type 0 where
   pub is-sound : T (sound r)
   pub few : r.n_buses ≤ most
   pub entries : 2 * (r.n_buses * r.n_buses) ≤ length ys
-  pub below : Small (activeNumbers r)
+  pub below : Small (active_numbers r)
 
-none-sound : T (sound noReducer)
-none-sound = sound-recordOf 0 [] [] (omega arith) (unfold rising in tt) (unfold all_below in tt) refl (unfold repeats in refl)
+none-sound : T (sound no_reducer)
+none-sound = sound-record_of 0 [] [] (omega arith) (unfold rising in tt) (unfold all_below in tt) refl (unfold repeats in refl)
 
-pub fit_none : (ys : List Float) → Fit noReducer ys
+pub fit_none : (ys : List Float) → Fit no_reducer ys
 fit_none ys = record { size = omega arith; is-sound = none-sound; few = omega arith; entries = omega arith; below = λ i. lit≤ tt }
 
 pub fit-stored : (n : ℕ) (ns : List ℕ) (r : KronReducer) (ys : List Float) → StoredRun n ns r ys → Fit r ys
@@ -159,42 +159,42 @@ fit-stored n ns r ys h =
     let small' = le_trans h.small most-limit in
     let m = h.names in
     let room : length s.active ≤ n = active-room n ns s small' m.many m.distinct h.regular in
-    let rec : r ≡ recordOf n ns s.active = ap (λ (x : ReducerState). x.rec) h.stored_is in
+    let rec : r ≡ record_of n ns s.active = ap (λ (x : ReducerState). x.rec) h.stored_is in
     let len : length ys ≡ 2 * (n * n) = ap (λ (x : ReducerState). length x.slice) h.stored_is ∙ length-stored n ns s small' m.many m.distinct h.regular in
     rw rec
     (record {
       size = h.small;
-      is-sound = sound-recordOf n ns s.active (le_trans room small') h.regular.rises h.regular.below m.many m.distinct;
+      is-sound = sound-record_of n ns s.active (le_trans room small') h.regular.rises h.regular.below m.many m.distinct;
       few = le_trans room h.small;
       entries = let sq : length s.active * length s.active ≤ n * n = mul-le-mul room room in omega (arith, sq, len);
-      below = small-map (padded ns) (small-append ns (replicate (limit - length ns) 0) m.small (small-zeros (limit - length ns))) (activeOf (recordOf n ns s.active));
+      below = small-map (padded ns) (small-append ns (replicate (limit - length ns) 0) m.small (small-zeros (limit - length ns))) (active_of (record_of n ns s.active));
     })
 
 -- ---- a drop that is refused: 11, 12 or 20, since the record is sound and the entries are finite
 
 abbrev pub DropTold : End → Type 0
 DropTold Kept = Unit {0}
-DropTold (RefusedDrop f k) = (f ≡ notActive) ⊎ ((f ≡ smallEntry) ⊎ (f ≡ computedNotFinite))
+DropTold (RefusedDrop f k) = (f ≡ not_active) ⊎ ((f ≡ small_entry) ⊎ (f ≡ computed_not_finite))
 DropTold (BadLine p) = Unit {0}
 
-numberOr : Outcome → ℕ
-numberOr Done = 0
-numberOr (Refused f) = f
+number_or : Outcome → ℕ
+number_or Done = 0
+number_or (Refused f) = f
 
-told-number : (x f : ℕ) → Refused f ≡ outcome x → FromState x → (f ≡ notActive) ⊎ ((f ≡ smallEntry) ⊎ (f ≡ computedNotFinite))
-unfolding outcome numberOr
+told-number : (x f : ℕ) → Refused f ≡ outcome x → FromState x → (f ≡ not_active) ⊎ ((f ≡ small_entry) ⊎ (f ≡ computed_not_finite))
+unfolding outcome number_or
 told-number zero f e c = absurd (let z : ◌≡◌ {A = ℕ} 0 1 = cc in omega arith)
 told-number (suc x) f e (inl z) = absurd (omega arith)
-told-number (suc x) f e (inr c) = let same : f ≡ suc x = ap numberOr e in rw same c
+told-number (suc x) f e (inr c) = let same : f ≡ suc x = ap number_or e in rw same c
 
-drop-told : (n : ℕ) (ns : List ℕ) (r : KronReducer) (ys : List Float) (k f : ℕ) → StoredRun n ns r ys → (afterBus r ys k).out.answer ≡ Refused f → DropTold (RefusedDrop f k)
-unfolding afterBus
+drop-told : (n : ℕ) (ns : List ℕ) (r : KronReducer) (ys : List Float) (k f : ℕ) → StoredRun n ns r ys → (after_bus r ys k).out.answer ≡ Refused f → DropTold (RefusedDrop f k)
+unfolding after_bus
 drop-told n ns r ys k f h e =
     let s = h.state in
-    let met : removalsRefusal r ys (k ∷ []) ≡ stoppedBy s (rowsIn ns (k ∷ [])) =
-    ap (λ (x : ReducerState). removalsRefusal x.rec x.slice (k ∷ [])) h.stored_is
+    let met : removals_refusal r ys (k ∷ []) ≡ stopped_by s (rows_in ns (k ∷ [])) =
+    ap (λ (x : ReducerState). removals_refusal x.rec x.slice (k ∷ [])) h.stored_is
     ∙ refusal-stored n ns s (within n ns r ys k h) h.names.many h.names.distinct h.regular h.fine (k ∷ []) (lit≤ tt) in
-    told-number (stoppedBy s (rowsIn ns (k ∷ []))) f (sym e ∙ ap outcome met) (stop-cases s (rowsIn ns (k ∷ [])))
+    told-number (stopped_by s (rows_in ns (k ∷ []))) f (sym e ∙ ap outcome met) (stop-cases s (rows_in ns (k ∷ [])))
 
 -- ---- every run
 
@@ -202,7 +202,7 @@ pub record FitRun (R : Run) : Type 0 where
   pub fit : Fit R.reading.rec R.numbers
   pub told : DropTold R.reading.end
 
-none-run : (p : ℕ) (ys : List Float) → FitRun (ended (BadLine p) noReducer ys)
+none-run : (p : ℕ) (ys : List Float) → FitRun (ended (BadLine p) no_reducer ys)
 none-run p ys = record { fit = fit_none ys; told = tt }
 
 -- what follows the lines that are read
@@ -217,30 +217,30 @@ finish-fit n ns p r ys (l ∷ ls) h = record { fit = fit-stored n ns r ys h; tol
 pub drops-fit : (n : ℕ) (ns : List ℕ) → FitOnward n ns (drops finish)
 unfolding drops
 drops-fit n ns p r ys [] h = finish-fit n ns p r ys [] h
-drops-fit n ns p r ys (l ∷ ls) h = number (dropOf l) (λ r' ys' h'. drops-fit n ns (p + 1) r' ys' ls h')
+drops-fit n ns p r ys (l ∷ ls) h = number (drop_of l) (λ r' ys' h'. drops-fit n ns (p + 1) r' ys' ls h')
   where
-    ending : (o : Outcome) (k : ℕ) (r' : KronReducer) (ys' : List Float) → (afterBus r ys k).out.answer ≡ o → StoredRun n ns r' ys'
+    ending : (o : Outcome) (k : ℕ) (r' : KronReducer) (ys' : List Float) → (after_bus r ys k).out.answer ≡ o → StoredRun n ns r' ys'
         → ((r'' : KronReducer) (ys'' : List Float) → StoredRun n ns r'' ys'' → FitRun (drops finish (p + 1) r'' ys'' ls))
-        → FitRun (onOutcome o k r' ys' (λ r'' ys''. drops finish (p + 1) r'' ys'' ls))
+        → FitRun (on_outcome o k r' ys' (λ r'' ys''. drops finish (p + 1) r'' ys'' ls))
     ending Done k r' ys' e h' f = f r' ys' h'
     ending (Refused x) k r' ys' e h' f = record { fit = fit-stored n ns r' ys' h'; told = drop-told n ns r ys k x h e }
 
     number : (w : Number) → ((r'' : KronReducer) (ys'' : List Float) → StoredRun n ns r'' ys'' → FitRun (drops finish (p + 1) r'' ys'' ls))
-        → FitRun (onNumber w (λ k. afterDrop k (afterBus r ys k) (λ r' ys'. drops finish (p + 1) r' ys' ls)) (finish p r ys (l ∷ ls)))
+        → FitRun (on_number w (λ k. after_drop k (after_bus r ys k) (λ r' ys'. drops finish (p + 1) r' ys' ls)) (finish p r ys (l ∷ ls)))
     number (Is k) f =
-        ending (afterBus r ys k).out.answer k (afterBus r ys k).out.rec (afterBus r ys k).slice refl (stored-bus n ns r ys k h) f
+        ending (after_bus r ys k).out.answer k (after_bus r ys k).out.rec (after_bus r ys k).slice refl (stored-bus n ns r ys k h) f
     number Not f = finish-fit n ns p r ys (l ∷ ls) h
 
-pub entries_fit : (n : ℕ) (ns : List ℕ) (k p : ℕ) (ys : List Float) (ls : List Bytes) → n ≤ most → Names n ns → length ys + 2 * k ≡ 2 * (n * n) → T (allFinite ys)
+pub entries_fit : (n : ℕ) (ns : List ℕ) (k p : ℕ) (ys : List Float) (ls : List Bytes) → n ≤ most → Names n ns → length ys + 2 * k ≡ 2 * (n * n) → T (all_finite ys)
     → FitRun (entries (drops finish) n ns k p ys ls)
 unfolding entries
-entries_fit n ns zero p ys ls h m e g = drops-fit n ns p (afterNew (reducerInputOf n ys ns)).rec ys ls (stored-new n ns ys h m (omega arith) g)
+entries_fit n ns zero p ys ls h m e g = drops-fit n ns p (after_new (reducer_input_of n ys ns)).rec ys ls (stored-new n ns ys h m (omega arith) g)
 entries_fit n ns (suc k) p ys [] h m e g = none-run p ys
 entries_fit n ns (suc k) p ys (l ∷ ls) h m e g = found (entry_of l) refl (λ zs f i. entries_fit n ns k (p + 1) zs ls h m f i)
   where
-    found : (w : Entry) → entry_of l ≡ w → ((zs : List Float) → length zs + 2 * k ≡ 2 * (n * n) → T (allFinite zs) → FitRun (entries (drops finish) n ns k (p + 1) zs ls))
-        → FitRun (on_entry w (λ a b. entries (drops finish) n ns k (p + 1) (ys ++ (ofWord a ∷ ofWord b ∷ [])) ls) (ended (BadLine p) noReducer ys))
-    found (Words a b) q f = f (ys ++ (ofWord a ∷ ofWord b ∷ [])) (omega (arith, length-append ys (ofWord a ∷ ofWord b ∷ []))) (finite-more ys l a b g q)
+    found : (w : Entry) → entry_of l ≡ w → ((zs : List Float) → length zs + 2 * k ≡ 2 * (n * n) → T (all_finite zs) → FitRun (entries (drops finish) n ns k (p + 1) zs ls))
+        → FitRun (on_entry w (λ a b. entries (drops finish) n ns k (p + 1) (ys ++ (of_word a ∷ of_word b ∷ [])) ls) (ended (BadLine p) no_reducer ys))
+    found (Words a b) q f = f (ys ++ (of_word a ∷ of_word b ∷ [])) (omega (arith, length-append ys (of_word a ∷ of_word b ∷ []))) (finite-more ys l a b g q)
     found NoEntry q f = none-run p ys
 
 pub named-fit : (n k j p : ℕ) (ns : List ℕ) (ls : List Bytes) → n ≤ most → Names j ns → j + k ≡ n → FitRun (named (drops finish) n k p ns ls)
@@ -250,12 +250,12 @@ named-fit n (suc k) j p ns [] h m e = none-run p []
 named-fit n (suc k) j p ns (l ∷ ls) h m e = number (number_of l) refl (λ ms g. named-fit n k (j + 1) (p + 1) ms ls h g (omega arith))
   where
     fresh-one : (b : ℕ) → b < 2 ^ 32 → (t : Bool) → mem b ns ≡ t → ((ms : List ℕ) → Names (j + 1) ms → FitRun (named (drops finish) n k (p + 1) ms ls))
-        → FitRun (cond t (badAt p) (named (drops finish) n k (p + 1) (ns ++ (b ∷ [])) ls))
+        → FitRun (cond t (bad_at p) (named (drops finish) n k (p + 1) (ns ++ (b ∷ [])) ls))
     fresh-one b l true q f = none-run p []
     fresh-one b l false q f = f (ns ++ (b ∷ [])) (names_more j ns b m l q)
 
     number : (w : Number) → number_of l ≡ w → ((ms : List ℕ) → Names (j + 1) ms → FitRun (named (drops finish) n k (p + 1) ms ls))
-        → FitRun (onNumber w (λ b. cond (mem b ns) (badAt p) (named (drops finish) n k (p + 1) (ns ++ (b ∷ [])) ls)) (badAt p))
+        → FitRun (on_number w (λ b. cond (mem b ns) (bad_at p) (named (drops finish) n k (p + 1) (ns ++ (b ∷ [])) ls)) (bad_at p))
     number (Is b) q f = fresh-one b (decimal-below l b q) (mem b ns) refl f
     number Not q f = none-run p []
 
@@ -263,18 +263,18 @@ pub run-fit : (input : Bytes) → FitRun (run_of input)
 unfolding run_of first
 run-fit input = go (lines input)
   where
-    size : (n : ℕ) (b : Bool) → (T b → n ≤ most) → (ls : List Bytes) → FitRun (cond b (named (drops finish) n n 2 [] ls) (badAt 1))
+    size : (n : ℕ) (b : Bool) → (T b → n ≤ most) → (ls : List Bytes) → FitRun (cond b (named (drops finish) n n 2 [] ls) (bad_at 1))
     size n true f ls = named-fit n n 0 2 [] ls (f tt) names-none (omega arith)
     size n false f ls = none-run 1 []
 
-    number : (w : Number) (ls : List Bytes) → FitRun (onNumber w (λ n. cond (leb n most) (named (drops finish) n n 2 [] ls) (badAt 1)) (badAt 1))
+    number : (w : Number) (ls : List Bytes) → FitRun (on_number w (λ n. cond (leb n most) (named (drops finish) n n 2 [] ls) (bad_at 1)) (bad_at 1))
     number (Is n) ls = size n (leb n most) (leb→le n most) ls
     number Not ls = none-run 1 []
 
     go : (ls : List Bytes) → FitRun (first (drops finish) ls)
     go [] = none-run 1 []
-    go (l ∷ ls) = number (busesOf l) ls
+    go (l ∷ ls) = number (buses_of l) ls
 
 -- a drop is refused by 11, 12 or 20 alone: the record's refusals, and 19, never come
-pub drops-told : (input : Bytes) (f k : ℕ) → (run_of input).reading.end ≡ RefusedDrop f k → (f ≡ notActive) ⊎ ((f ≡ smallEntry) ⊎ (f ≡ computedNotFinite))
+pub drops-told : (input : Bytes) (f k : ℕ) → (run_of input).reading.end ≡ RefusedDrop f k → (f ≡ not_active) ⊎ ((f ≡ small_entry) ⊎ (f ≡ computed_not_finite))
 drops-told input f k e = subst DropTold e (run-fit input).told

@@ -5,9 +5,9 @@ use Rattle.text_numbers.specs.declared.Number.{Number}
 use Rattle.text_numbers.specs.declared.Number.TheVariants.{Is, Not}
 use Rattle.reduce_text.specs.declared.text.Entry.{Entry}
 use Rattle.reduce_text.specs.declared.text.Entry.TheVariants.{Words, NoEntry}
-use Rattle.text_numbers.specs.Bytes.{Bytes, lineFeed, space}
-use Rattle.text_numbers.specs.Words.{decimalOf, hexOf}
-use Rattle.reduce_text.specs.Lines.{inFront, lines, span, starts_with, numberAfter, finiteWord, both, entry_of}
+use Rattle.text_numbers.specs.Bytes.{Bytes, line_feed, space}
+use Rattle.text_numbers.specs.Words.{decimal_of, hex_of}
+use Rattle.reduce_text.specs.Lines.{in_front, lines, span, starts_with, number_after, finite_word, both, entry_of}
 
 -- ---- the span of a line
 
@@ -15,11 +15,11 @@ module _ (s : Bytes) (i : ℕ) (h : i < length s) where
   span-at : span (drop i s) ≡ span (get_or s i 0 ∷ drop (suc i) s)
   span-at = ap span (drop-cons s i 0 h)
 
-  pub span-stop : get_or s i 0 ≡ lineFeed → span (drop i s) ≡ 0
+  pub span-stop : get_or s i 0 ≡ line_feed → span (drop i s) ≡ 0
   unfolding span
   span-stop e = span-at ∙ simp (eq-eqb _ _ e)
 
-  pub span_more : (get_or s i 0 ≡ lineFeed → ⊥) → span (drop i s) ≡ suc (span (drop (i + 1) s))
+  pub span_more : (get_or s i 0 ≡ line_feed → ⊥) → span (drop i s) ≡ suc (span (drop (i + 1) s))
   unfolding span
   span_more n = span-at ∙ rw add-one (simp (ne_eqb _ _ n))
 
@@ -30,7 +30,7 @@ span-end s i h = ap span (drop_of_length-le s h)
 pub span-le : (bs : Bytes) → span bs ≤ length bs
 unfolding span
 span-le [] = omega arith
-span-le (b ∷ bs) = go (eqb b lineFeed) (span-le bs)
+span-le (b ∷ bs) = go (eqb b line_feed) (span-le bs)
   where
     go : (t : Bool) → span bs ≤ length bs → cond t 0 (suc (span bs)) ≤ suc (length bs)
     go true h = omega arith
@@ -47,18 +47,18 @@ ends-inside s at end e h = omega (arith, span-behind s at)
 
 pub lines-first : (b : ℕ) (bs : Bytes) → lines (b ∷ bs) ≡ take (span (b ∷ bs)) (b ∷ bs) ∷ lines (drop (suc (span (b ∷ bs))) (b ∷ bs))
 unfolding lines span
-lines-first b [] = go (eqb b lineFeed)
+lines-first b [] = go (eqb b line_feed)
   where
     go : (t : Bool) → cond t ([] ∷ []) ((b ∷ []) ∷ []) ≡ take (cond t 0 1) (b ∷ []) ∷ lines (drop (suc (cond t 0 1)) (b ∷ []))
     go true = refl
     go false = refl
-lines-first b (c ∷ cs) = go (eqb b lineFeed) (lines-first c cs)
+lines-first b (c ∷ cs) = go (eqb b line_feed) (lines-first c cs)
   where
     go : (t : Bool) → lines (c ∷ cs) ≡ take (span (c ∷ cs)) (c ∷ cs) ∷ lines (drop (suc (span (c ∷ cs))) (c ∷ cs))
-        → cond t ([] ∷ lines (c ∷ cs)) (inFront b (lines (c ∷ cs)))
+        → cond t ([] ∷ lines (c ∷ cs)) (in_front b (lines (c ∷ cs)))
         ≡ take (cond t 0 (suc (span (c ∷ cs)))) (b ∷ (c ∷ cs)) ∷ lines (drop (suc (cond t 0 (suc (span (c ∷ cs))))) (b ∷ (c ∷ cs)))
     go true e = refl
-    go false e = ap (inFront b) e
+    go false e = ap (in_front b) e
 
 -- ---- a keyword
 
@@ -92,12 +92,12 @@ starts-length (k ∷ ks) (b ∷ bs) e = go (eqb k b) (starts-length ks bs) e
     go true f h = let m : length ks ≤ length bs = f h in omega arith
     go false f h = absurd (false≢true h)
 
-pub number-no : (key line : Bytes) → starts_with key line ≡ false → numberAfter key line ≡ Not
-unfolding numberAfter
+pub number-no : (key line : Bytes) → starts_with key line ≡ false → number_after key line ≡ Not
+unfolding number_after
 number-no key line e = rw e
 
-pub number-yes : (key line : Bytes) → starts_with key line ≡ true → numberAfter key line ≡ decimalOf (drop (length key) line)
-unfolding numberAfter
+pub number-yes : (key line : Bytes) → starts_with key line ≡ true → number_after key line ≡ decimal_of (drop (length key) line)
+unfolding number_after
 number-yes key line e = rw e
 
 -- ---- an entry line
@@ -110,31 +110,31 @@ pub entry-space : (l : Bytes) → length l ≡ 33 → (get_or l 16 0 ≡ space �
 unfolding entry_of
 entry-space l e n = simp (eq-eqb _ _ e, ne_eqb _ _ n)
 
-pub entry-both : (l : Bytes) → length l ≡ 33 → get_or l 16 0 ≡ space → entry_of l ≡ both (hexOf (take 16 l)) (hexOf (drop 17 l))
+pub entry-both : (l : Bytes) → length l ≡ 33 → get_or l 16 0 ≡ space → entry_of l ≡ both (hex_of (take 16 l)) (hex_of (drop 17 l))
 unfolding entry_of
 entry-both l e s = simp (eq-eqb _ _ e, eq-eqb _ _ s)
 
 -- ---- two words
 
-pub both_first : (a b : ℕ) → finiteWord a ≡ false → both (Is a) (Is b) ≡ NoEntry
+pub both_first : (a b : ℕ) → finite_word a ≡ false → both (Is a) (Is b) ≡ NoEntry
 both_first a b e = rw e
 
-pub both-second : (a b : ℕ) → finiteWord a ≡ true → finiteWord b ≡ false → both (Is a) (Is b) ≡ NoEntry
+pub both-second : (a b : ℕ) → finite_word a ≡ true → finite_word b ≡ false → both (Is a) (Is b) ≡ NoEntry
 both-second a b e f = rw (e, f)
 
-pub both-finite : (a b : ℕ) → finiteWord a ≡ true → finiteWord b ≡ true → both (Is a) (Is b) ≡ Words a b
+pub both-finite : (a b : ℕ) → finite_word a ≡ true → finite_word b ≡ true → both (Is a) (Is b) ≡ Words a b
 both-finite a b e f = rw (e, f)
 
 -- an entry that is read has finite numbers
 FiniteWords : Entry → Type 0
-FiniteWords (Words a b) = T (finiteWord a) × T (finiteWord b)
+FiniteWords (Words a b) = T (finite_word a) × T (finite_word b)
 FiniteWords NoEntry = Unit {0}
 
 words-finite : (v w : Number) → FiniteWords (both v w)
 unfolding FiniteWords
-words-finite (Is a) (Is b) = go (finiteWord a) (finiteWord b) (λ (t : T (finiteWord a)). t) (λ (t : T (finiteWord b)). t)
+words-finite (Is a) (Is b) = go (finite_word a) (finite_word b) (λ (t : T (finite_word a)). t) (λ (t : T (finite_word b)). t)
   where
-    go : (x y : Bool) → (T x → T (finiteWord a)) → (T y → T (finiteWord b)) → FiniteWords (cond (x && y) (Words a b) NoEntry)
+    go : (x y : Bool) → (T x → T (finite_word a)) → (T y → T (finite_word b)) → FiniteWords (cond (x && y) (Words a b) NoEntry)
     go true true f g = (f tt, g tt)
     go true false f g = tt
     go false y f g = tt
@@ -145,10 +145,10 @@ line-finite : (l : Bytes) → FiniteWords (entry_of l)
 unfolding entry_of FiniteWords
 line-finite l = go (eqb (length l) 33 && eqb (get_or l 16 0) space)
   where
-    go : (t : Bool) → FiniteWords (cond t (both (hexOf (take 16 l)) (hexOf (drop 17 l))) NoEntry)
-    go true = words-finite (hexOf (take 16 l)) (hexOf (drop 17 l))
+    go : (t : Bool) → FiniteWords (cond t (both (hex_of (take 16 l)) (hex_of (drop 17 l))) NoEntry)
+    go true = words-finite (hex_of (take 16 l)) (hex_of (drop 17 l))
     go false = tt
 
-pub entry-finite : (l : Bytes) (a b : ℕ) → entry_of l ≡ Words a b → T (finiteWord a) × T (finiteWord b)
+pub entry-finite : (l : Bytes) (a b : ℕ) → entry_of l ≡ Words a b → T (finite_word a) × T (finite_word b)
 unfolding FiniteWords
 entry-finite l a b e = subst FiniteWords e (line-finite l)

@@ -4,10 +4,10 @@ use Rattle.text_numbers.specs.declared.Number.{Number}
 use Rattle.text_numbers.specs.declared.Number.TheVariants.{Is, Not}
 use Rattle.text_numbers.specs.Bytes.{Bytes}
 use Rattle.text_numbers.proofs.WordSizes.{not_is, decimal-size, decimal-below}
-use Rattle.reduce_text.specs.Lines.{starts_with, numberAfter, number_of}
+use Rattle.reduce_text.specs.Lines.{starts_with, number_after, number_of}
 use Rattle.reduce_text.proofs.LineLaws.{starts-length, number-no, number-yes}
 
-pub number_size : (key l : Bytes) (k j : ℕ) → numberAfter key l ≡ Is k → k < 10 ^ j → 1 ≤ j → length l ≤ length key + j
+pub number_size : (key l : Bytes) (k j : ℕ) → number_after key l ≡ Is k → k < 10 ^ j → 1 ≤ j → length l ≤ length key + j
 number_size key l k j e h o = go (starts_with key l) refl
   where
     go : (t : Bool) → starts_with key l ≡ t → length l ≤ length key + j
@@ -15,17 +15,17 @@ number_size key l k j e h o = go (starts_with key l) refl
         omega (arith, decimal-size (drop (length key) l) k j (sym (number-yes key l p) ∙ e) h o, length-drop (length key) l, starts-length key l p)
     go false p = absurd (not_is (sym (number-no key l p) ∙ e))
 
-pub number-below : (key l : Bytes) (k : ℕ) → numberAfter key l ≡ Is k → k < 2 ^ 32
+pub number-below : (key l : Bytes) (k : ℕ) → number_after key l ≡ Is k → k < 2 ^ 32
 number-below key l k e = go (starts_with key l) refl
   where
     go : (t : Bool) → starts_with key l ≡ t → k < 2 ^ 32
     go true p = decimal-below (drop (length key) l) k (sym (number-yes key l p) ∙ e)
     go false p = absurd (not_is (sym (number-no key l p) ∙ e))
 
-pub number-long : (key l : Bytes) → length key ≤ 6 → 34 ≤ length l → numberAfter key l ≡ Not
-number-long key l a b = go (numberAfter key l) refl
+pub number-long : (key l : Bytes) → length key ≤ 6 → 34 ≤ length l → number_after key l ≡ Not
+number-long key l a b = go (number_after key l) refl
   where
-    go : (w : Number) → numberAfter key l ≡ w → w ≡ Not
+    go : (w : Number) → number_after key l ≡ w → w ≡ Not
     go (Is k) e =
         let s : length l ≤ length key + 10 = number_size key l k 10 e (le_trans (number-below key l k e) (lit≤ tt)) (lit≤ tt) in
         absurd (omega arith)

@@ -8,7 +8,7 @@ use Rattle.refusals.specs.declared.Outcome.TheVariants.{Done, Refused}
 use Rattle.lists.specs.Buses.{mem}
 use Rattle.kron_reduction.specs.declared.KronReducer.{KronReducer}
 use Rattle.kron_reduction.specs.declared.AfterRemoval.{AfterRemoval}
-use Rattle.kron_reduction.specs.Reducer.{reducerInputOf, afterNew, afterBus}
+use Rattle.kron_reduction.specs.Reducer.{reducer_input_of, after_new, after_bus}
 use Rattle.text_numbers.specs.declared.Number.{Number}
 use Rattle.text_numbers.specs.declared.Number.TheVariants.{Is, Not}
 use Rattle.reduce_text.specs.declared.text.Entry.TheVariants.{Words, NoEntry}
@@ -20,11 +20,11 @@ use Rattle.reduce_text.specs.declared.read.Start.{Start}
 use Rattle.reduce_text.specs.declared.read.Stop.{Stop}
 use Rattle.reduce_text.specs.declared.read.Stop.TheVariants.{Rest, Refusal}
 use Rattle.text_numbers.specs.Bytes.{Bytes}
-use Rattle.text_numbers.specs.Words.{decimalOf, spare}
+use Rattle.text_numbers.specs.Words.{decimal_of, spare}
 use Rattle.text_numbers.proofs.WordSizes.{not_is}
-use Rattle.reduce_text.specs.Lines.{lines, span, line_at, busesOf, number_of, dropOf, entry_of}
-use Rattle.reduce_text.specs.Reading.{most, Run, ended, noReducer, Onward, onNumber, onOutcome, ofWord, afterDrop, drops, finish, entries, badAt, named, first}
-use Rattle.reduce_text.specs.Inner.Steps.{noStart, behind, Begun, onStop, end_of, Ended, RanIn}
+use Rattle.reduce_text.specs.Lines.{lines, span, line_at, buses_of, number_of, drop_of, entry_of}
+use Rattle.reduce_text.specs.Reading.{most, Run, ended, no_reducer, Onward, on_number, on_outcome, of_word, after_drop, drops, finish, entries, bad_at, named, first}
+use Rattle.reduce_text.specs.Inner.Steps.{no_start, behind, Begun, on_stop, end_of, Ended, RanIn}
 use Rattle.reduce_text.proofs.LineLaws.{lines-first, span-le, span-behind, entry_length}
 
 -- a number of buses, and its square
@@ -69,7 +69,7 @@ unfolding entry_of line_at span
 entry-over s at h = ap (λ (d : Bytes). entry_of (take (span d) d)) (drop_of_length-le s h)
 
 pub number-over : (s : Bytes) (at : ℕ) → length s ≤ at → number_of (line_at s at) ≡ Not
-unfolding decimalOf spare line_at span
+unfolding decimal_of spare line_at span
 number-over s at h = ap (λ (d : Bytes). number_of (take (span d) d)) (drop_of_length-le s h)
 
 -- ---- drops
@@ -80,36 +80,36 @@ module _ (rest : Onward) (s : Bytes) (at p : ℕ) (r : KronReducer) (ys : List F
   drops-end h = ap (drops rest p r ys) (lines-over s at h) ∙ sym (ap (rest p r ys) (lines-over s at h))
 
   module _ (h : at < length s) where
-    pub drops-bad : dropOf (line_at s at) ≡ Not → drops rest p r ys (behind s at) ≡ rest p r ys (behind s at)
+    pub drops-bad : drop_of (line_at s at) ≡ Not → drops rest p r ys (behind s at) ≡ rest p r ys (behind s at)
     unfolding drops
     drops-bad e =
         ap (drops rest p r ys) (lines_at s at h) ∙ rw e (sym (ap (rest p r ys) (lines_at s at h)))
 
-    drops-bus : (k : ℕ) → dropOf (line_at s at) ≡ Is k
-        → drops rest p r ys (behind s at) ≡ afterDrop k (afterBus r ys k) (λ r' ys'. drops rest (p + 1) r' ys' (behind s (next s at)))
+    drops-bus : (k : ℕ) → drop_of (line_at s at) ≡ Is k
+        → drops rest p r ys (behind s at) ≡ after_drop k (after_bus r ys k) (λ r' ys'. drops rest (p + 1) r' ys' (behind s (next s at)))
     unfolding drops
     drops-bus k e =
         ap (drops rest p r ys) (lines_at s at h) ∙ rw e
 
     -- what the removal answered and left
-    module _ (k : ℕ) (e : dropOf (line_at s at) ≡ Is k) (o : AfterRemoval) (ys' : List Float) (eo : o ≡ (afterBus r ys k).out) (ey : ys' ≡ (afterBus r ys k).slice) where
-      taken-bus : drops rest p r ys (behind s at) ≡ onOutcome o.answer k o.rec ys' (λ r' ys''. drops rest (p + 1) r' ys'' (behind s (next s at)))
+    module _ (k : ℕ) (e : drop_of (line_at s at) ≡ Is k) (o : AfterRemoval) (ys' : List Float) (eo : o ≡ (after_bus r ys k).out) (ey : ys' ≡ (after_bus r ys k).slice) where
+      taken-bus : drops rest p r ys (behind s at) ≡ on_outcome o.answer k o.rec ys' (λ r' ys''. drops rest (p + 1) r' ys'' (behind s (next s at)))
       taken-bus =
           drops-bus k e
-          ∙ ap (λ (t : AfterRemoval). onOutcome t.answer k t.rec (afterBus r ys k).slice (λ r' ys''. drops rest (p + 1) r' ys'' (behind s (next s at)))) (sym eo)
-          ∙ ap (λ (zs : List Float). onOutcome o.answer k o.rec zs (λ r' ys''. drops rest (p + 1) r' ys'' (behind s (next s at)))) (sym ey)
+          ∙ ap (λ (t : AfterRemoval). on_outcome t.answer k t.rec (after_bus r ys k).slice (λ r' ys''. drops rest (p + 1) r' ys'' (behind s (next s at)))) (sym eo)
+          ∙ ap (λ (zs : List Float). on_outcome o.answer k o.rec zs (λ r' ys''. drops rest (p + 1) r' ys'' (behind s (next s at)))) (sym ey)
 
       pub drops-refused : (f : ℕ) → o.answer ≡ Refused f → drops rest p r ys (behind s at) ≡ ended (RefusedDrop f k) o.rec ys'
       drops-refused f d =
-          taken-bus ∙ ap (λ (a : Outcome). onOutcome a k o.rec ys' (λ r' ys''. drops rest (p + 1) r' ys'' (behind s (next s at)))) d
+          taken-bus ∙ ap (λ (a : Outcome). on_outcome a k o.rec ys' (λ r' ys''. drops rest (p + 1) r' ys'' (behind s (next s at)))) d
 
       pub drops-done : o.answer ≡ Done → drops rest p r ys (behind s at) ≡ drops rest (p + 1) o.rec ys' (behind s (next s at))
       drops-done d =
-          taken-bus ∙ ap (λ (a : Outcome). onOutcome a k o.rec ys' (λ r' ys''. drops rest (p + 1) r' ys'' (behind s (next s at)))) d
+          taken-bus ∙ ap (λ (a : Outcome). on_outcome a k o.rec ys' (λ r' ys''. drops rest (p + 1) r' ys'' (behind s (next s at)))) d
 
 -- where the drops stopped the run ends
 pub stopped : (s : Bytes) (o : Stop) (r : KronReducer) (ys : List Float)
-    → onStop o (λ at p. finish p r ys (behind s at)) (λ f k. ended (RefusedDrop f k) r ys) ≡ ended (end_of (length s) o) r ys
+    → on_stop o (λ at p. finish p r ys (behind s at)) (λ f k. ended (RefusedDrop f k) r ys) ≡ ended (end_of (length s) o) r ys
 unfolding finish
 stopped s (Rest at p) r ys = go (dec_lt at (length s))
   where
@@ -120,11 +120,11 @@ stopped s (Refusal f k) r ys = refl
 
 -- ---- numbers
 
-pub named-bad : (go : Onward) (s : Bytes) (at n k p : ℕ) (ns : List ℕ) → number_of (line_at s at) ≡ Not → named go n (suc k) p ns (behind s at) ≡ badAt p
+pub named-bad : (go : Onward) (s : Bytes) (at n k p : ℕ) (ns : List ℕ) → number_of (line_at s at) ≡ Not → named go n (suc k) p ns (behind s at) ≡ bad_at p
 unfolding named
 named-bad go s at n k p ns e = cases (dec_lt at (length s))
   where
-    cases : Dec (at < length s) → named go n (suc k) p ns (behind s at) ≡ badAt p
+    cases : Dec (at < length s) → named go n (suc k) p ns (behind s at) ≡ bad_at p
     cases (yes h) =
         ap (named go n (suc k) p ns) (lines_at s at h) ∙ rw e
     cases (no h) = ap (named go n (suc k) p ns) (lines-over s at (omega arith))
@@ -138,12 +138,12 @@ module _ (s : Bytes) (at b : ℕ) (e : number_of (line_at s at) ≡ Is b) where
       go (no n) = absurd (not_is (sym (number-over s at (omega arith)) ∙ e))
 
   named-number : (go : Onward) (n k p : ℕ) (ns : List ℕ)
-      → named go n (suc k) p ns (behind s at) ≡ cond (mem b ns) (badAt p) (named go n k (p + 1) (ns ++ (b ∷ [])) (behind s (next s at)))
+      → named go n (suc k) p ns (behind s at) ≡ cond (mem b ns) (bad_at p) (named go n k (p + 1) (ns ++ (b ∷ [])) (behind s (next s at)))
   unfolding named
   named-number go n k p ns =
       ap (named go n (suc k) p ns) (lines_at s at number_at) ∙ rw e
 
-  pub named-twice : (go : Onward) (n k p : ℕ) (ns : List ℕ) → mem b ns ≡ true → named go n (suc k) p ns (behind s at) ≡ badAt p
+  pub named-twice : (go : Onward) (n k p : ℕ) (ns : List ℕ) → mem b ns ≡ true → named go n (suc k) p ns (behind s at) ≡ bad_at p
   named-twice go n k p ns m = named-number go n k p ns ∙ rw m
 
   pub named_more : (go : Onward) (n k p : ℕ) (ns : List ℕ) → mem b ns ≡ false → named go n (suc k) p ns (behind s at) ≡ named go n k (p + 1) (ns ++ (b ∷ [])) (behind s (next s at))
@@ -173,11 +173,11 @@ entry-inside s at a b e = go (dec_lt at (length s))
     go (yes h) = h
     go (no n) = absurd (not-words (sym (entry-over s at (omega arith)) ∙ e))
 
-pub entries-bad : (go : Onward) (ns : List ℕ) (s : Bytes) (at n k p : ℕ) (ys : List Float) → entry_of (line_at s at) ≡ NoEntry → entries go n ns (suc k) p ys (behind s at) ≡ ended (BadLine p) noReducer ys
+pub entries-bad : (go : Onward) (ns : List ℕ) (s : Bytes) (at n k p : ℕ) (ys : List Float) → entry_of (line_at s at) ≡ NoEntry → entries go n ns (suc k) p ys (behind s at) ≡ ended (BadLine p) no_reducer ys
 unfolding entries
 entries-bad go ns s at n k p ys e = cases (dec_lt at (length s))
   where
-    cases : Dec (at < length s) → entries go n ns (suc k) p ys (behind s at) ≡ ended (BadLine p) noReducer ys
+    cases : Dec (at < length s) → entries go n ns (suc k) p ys (behind s at) ≡ ended (BadLine p) no_reducer ys
     cases (yes h) =
         ap (entries go n ns (suc k) p ys) (lines_at s at h) ∙ rw e
     cases (no h) = ap (entries go n ns (suc k) p ys) (lines-over s at (omega arith))
@@ -193,13 +193,13 @@ module _ (s : Bytes) (at a b : ℕ) (e : entry_of (line_at s at) ≡ Words a b) 
   entry-fits = omega (arith, entry-span, span-behind s at, entry-inside s at a b e)
 
   pub entries-more : (go : Onward) (ns : List ℕ) (n k p : ℕ) (ys : List Float)
-      → entries go n ns (suc k) p ys (behind s at) ≡ entries go n ns k (p + 1) (ys ++ (ofWord a ∷ ofWord b ∷ [])) (behind s (at + 34))
+      → entries go n ns (suc k) p ys (behind s at) ≡ entries go n ns k (p + 1) (ys ++ (of_word a ∷ of_word b ∷ [])) (behind s (at + 34))
   unfolding entries
   entries-more go ns n k p ys =
       let f : next s at ≡ at + 34 = omega (arith, entry-span) in
       ap (entries go n ns (suc k) p ys) (lines_at s at (entry-inside s at a b e))
       ∙ rw e
-      (ap (λ (j : ℕ). entries go n ns k (p + 1) (ys ++ (ofWord a ∷ ofWord b ∷ [])) (behind s j)) f)
+      (ap (λ (j : ℕ). entries go n ns k (p + 1) (ys ++ (of_word a ∷ of_word b ∷ [])) (behind s j)) f)
 
 -- ---- the numbers at the front of the matrix
 
@@ -231,37 +231,37 @@ at_front k xs zs h e =
     sym (take-append-drop k xs)
     ∙ ap (λ (l : List Float). take k xs ++ l) (e ∙ ap (λ (j : ℕ). drop j zs) (sym (length-take-le k xs h)))
 
-pub entries_none : (go : Onward) (ns : List ℕ) (n p : ℕ) (ys : List Float) (ls : List Bytes) → entries go n ns 0 p ys ls ≡ go p (afterNew (reducerInputOf n ys ns)).rec ys ls
+pub entries_none : (go : Onward) (ns : List ℕ) (n p : ℕ) (ys : List Float) (ls : List Bytes) → entries go n ns 0 p ys ls ≡ go p (after_new (reducer_input_of n ys ns)).rec ys ls
 unfolding entries
 entries_none go ns n p ys ls = refl
 
 -- ---- the first line
 
 -- no reducer is made of the run
-pub unbegun : {R : Onward → Run} {before : List Float} {input : Bytes} {o : Start} (p : ℕ) → o ≡ noStart (Bad p) → ((go : Onward) → R go ≡ badAt p)
+pub unbegun : {R : Onward → Run} {before : List Float} {input : Bytes} {o : Start} (p : ℕ) → o ≡ no_start (Bad p) → ((go : Onward) → R go ≡ bad_at p)
     → Begun R before input o before
 unbegun p e f = rw e (record { ys = []; leaves = refl; few = omega arith; full = tt; goes = f })
 
 pub begun-as : {R R' : Onward → Run} {before left : List Float} {input : Bytes} {o : Start} → ((go : Onward) → R go ≡ R' go) → Begun R' before input o left → Begun R before input o left
 begun-as f w = record { ys = w.ys; leaves = w.leaves; few = w.few; full = w.full; goes = λ go. f go ∙ w.goes go }
 
-pub first-none : (s : Bytes) → length s ≡ 0 → (go : Onward) → first go (lines s) ≡ badAt 1
+pub first-none : (s : Bytes) → length s ≡ 0 → (go : Onward) → first go (lines s) ≡ bad_at 1
 unfolding first lines
 first-none [] e go = refl
 first-none (b ∷ bs) e go = absurd (omega arith)
 
 module _ (s : Bytes) (h : 0 < length s) (go : Onward) where
-  first-number : (w : Number) → busesOf (line_at s 0) ≡ w → first go (lines s) ≡ onNumber w (λ n. cond (leb n most) (named go n n 2 [] (behind s (next s 0))) (badAt 1)) (badAt 1)
+  first-number : (w : Number) → buses_of (line_at s 0) ≡ w → first go (lines s) ≡ on_number w (λ n. cond (leb n most) (named go n n 2 [] (behind s (next s 0))) (bad_at 1)) (bad_at 1)
   unfolding first
   first-number w e = ap (first go) (lines_at s 0 h) ∙ rw e
 
-  pub first-bad : busesOf (line_at s 0) ≡ Not → first go (lines s) ≡ badAt 1
+  pub first-bad : buses_of (line_at s 0) ≡ Not → first go (lines s) ≡ bad_at 1
   first-bad e = first-number Not e
 
-  pub first-over : (n : ℕ) → busesOf (line_at s 0) ≡ Is n → most < n → first go (lines s) ≡ badAt 1
+  pub first-over : (n : ℕ) → buses_of (line_at s 0) ≡ Is n → most < n → first go (lines s) ≡ bad_at 1
   first-over n e m = first-number (Is n) e ∙ simp (lt-leb n most m)
 
-  pub first-go : (n : ℕ) → busesOf (line_at s 0) ≡ Is n → n ≤ most → first go (lines s) ≡ named go n n 2 [] (behind s (next s 0))
+  pub first-go : (n : ℕ) → buses_of (line_at s 0) ≡ Is n → n ≤ most → first go (lines s) ≡ named go n n 2 [] (behind s (next s 0))
   first-go n e m = first-number (Is n) e ∙ simp (le-leb n most m)
 
 -- ---- the end

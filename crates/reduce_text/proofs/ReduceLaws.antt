@@ -1,7 +1,7 @@
 -- Laws of the whole program: slices of a wrong length, and what reading, clearing and printing come to.
 use Rattle.prelude.proofs.Prelude.{◌≡◌, ap, ◌∙◌, List, ◌++◌, ℕ, ◌+◌, ◌-◌, ◌≤◌, arith, length, drop, replicate, Float, zero-add, le_trans, length-append, eq-eqb, ne_eqb}
 use Rattle.complex.specs.{zeros}
-use Rattle.refusals.specs.Refusals.{wrongLength}
+use Rattle.refusals.specs.Refusals.{wrong_length}
 use Rattle.lists.proofs.Fronts.{drop-replicate}
 use Rattle.reduce_text.specs.declared.Answer.TheVariants.{Written, Refused}
 use Rattle.reduce_text.specs.declared.read.Reading.{Reading}
@@ -10,30 +10,30 @@ use Rattle.text_numbers.specs.Inner.Writing.{written}
 use Rattle.reduce_text.specs.Reading.{run_of}
 use Rattle.reduce_text.specs.Inner.Steps.{RanIn}
 use Rattle.reduce_text.specs.Printing.{Whole, text_of, text}
-use Rattle.reduce_text.specs.Reduce.{printed, matrixLength, outputLength, reduceRefusal, reduceAnswer, AfterReduce, afterReduce}
+use Rattle.reduce_text.specs.Reduce.{printed, matrix_length, output_length, reduce_refusal, reduce_answer, AfterReduce, after_reduce}
 use Rattle.reduce_text.proofs.Fit.{most-limit, run-fit}
 use Rattle.reduce_text.proofs.Room.{text-front, text-room}
 
 abbrev untouched : Bytes → List Float → AfterReduce
-untouched out ys = record { answer = Refused wrongLength; output = out; matrix = ys }
+untouched out ys = record { answer = Refused wrong_length; output = out; matrix = ys }
 
 module _ (input out : Bytes) (ys : List Float) where
-  pub after-output : (length out ≡ outputLength → ⊥) → afterReduce input out ys ≡ untouched out ys
-  unfolding afterReduce reduceRefusal reduceAnswer
+  pub after-output : (length out ≡ output_length → ⊥) → after_reduce input out ys ≡ untouched out ys
+  unfolding after_reduce reduce_refusal reduce_answer
   after-output n = simp (ne_eqb _ _ n)
 
-  pub after-matrix : length out ≡ outputLength → (length ys ≡ matrixLength → ⊥) → afterReduce input out ys ≡ untouched out ys
-  unfolding afterReduce reduceRefusal reduceAnswer
+  pub after-matrix : length out ≡ output_length → (length ys ≡ matrix_length → ⊥) → after_reduce input out ys ≡ untouched out ys
+  unfolding after_reduce reduce_refusal reduce_answer
   after-matrix e n = simp (eq-eqb _ _ e, ne_eqb _ _ n)
 
-  pub after_both : length out ≡ outputLength → length ys ≡ matrixLength
-      → afterReduce input out ys
+  pub after_both : length out ≡ output_length → length ys ≡ matrix_length
+      → after_reduce input out ys
       ≡ record {
         answer = Written (length (printed input));
-        output = printed input ++ replicate (outputLength - length (printed input)) 0;
-        matrix = zeros matrixLength;
+        output = printed input ++ replicate (output_length - length (printed input)) 0;
+        matrix = zeros matrix_length;
       }
-  unfolding afterReduce reduceRefusal reduceAnswer
+  unfolding after_reduce reduce_refusal reduce_answer
   after_both e f = simp (eq-eqb _ _ e, eq-eqb _ _ f)
 
 -- ---- what was read, in the slice that it was read into
@@ -55,7 +55,7 @@ module _ (input : Bytes) (before left : List Float) (o : Reading) (w : RanIn bef
       ∙ ap (text_of R.reading.end R.reading.rec) w.leaves
       ∙ text-front R.reading.end R.reading.rec R.numbers (drop (length R.numbers) before) (run-fit input).fit.entries
 
-pub printed-room : (input : Bytes) → length (printed input) ≤ outputLength
+pub printed-room : (input : Bytes) → length (printed input) ≤ output_length
 unfolding printed
 printed-room input = text-room (run_of input) (run-fit input)
 

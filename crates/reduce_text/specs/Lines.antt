@@ -7,25 +7,25 @@ use Rattle.text_numbers.specs.declared.Number.{Number}
 use Rattle.text_numbers.specs.declared.Number.TheVariants.{Is, Not}
 use Rattle.reduce_text.specs.declared.text.Entry.{Entry}
 use Rattle.reduce_text.specs.declared.text.Entry.TheVariants.{Words, NoEntry}
-use Rattle.text_numbers.specs.Bytes.{Bytes, ascii, lineFeed, space}
-use Rattle.text_numbers.specs.Words.{decimalOf, hexOf}
+use Rattle.text_numbers.specs.Bytes.{Bytes, ascii, line_feed, space}
+use Rattle.text_numbers.specs.Words.{decimal_of, hex_of}
 
 -- ---- lines
 
 -- a byte in front of the first line
-abbrev pub inFront : ℕ → List Bytes → List Bytes
-inFront b [] = (b ∷ []) ∷ []
-inFront b (l ∷ ls) = (b ∷ l) ∷ ls
+abbrev pub in_front : ℕ → List Bytes → List Bytes
+in_front b [] = (b ∷ []) ∷ []
+in_front b (l ∷ ls) = (b ∷ l) ∷ ls
 
 -- A line ends with a line feed. A last line without one counts; nothing behind the last line feed is no line.
 unfoldable pub lines : Bytes → List Bytes
 lines [] = []
-lines (b ∷ bs) = cond (eqb b lineFeed) ([] ∷ lines bs) (inFront b (lines bs))
+lines (b ∷ bs) = cond (eqb b line_feed) ([] ∷ lines bs) (in_front b (lines bs))
 
 -- how many bytes stand before the first line feed
 unfoldable pub span : Bytes → ℕ
 span [] = 0
-span (b ∷ bs) = cond (eqb b lineFeed) 0 (suc (span bs))
+span (b ∷ bs) = cond (eqb b line_feed) 0 (suc (span bs))
 
 -- the line that starts at an index
 unfoldable pub line_at : Bytes → ℕ → Bytes
@@ -40,32 +40,32 @@ starts_with (k ∷ ks) [] = false
 starts_with (k ∷ ks) (b ∷ bs) = eqb k b && starts_with ks bs
 
 -- the decimal number behind a keyword and its space
-unfoldable pub numberAfter : Bytes → Bytes → Number
-numberAfter key l = cond (starts_with key l) (decimalOf (drop (length key) l)) Not
+unfoldable pub number_after : Bytes → Bytes → Number
+number_after key l = cond (starts_with key l) (decimal_of (drop (length key) l)) Not
 
 -- `buses N`
-abbrev pub busesOf : Bytes → Number
-busesOf l = numberAfter (ascii "buses ") l
+abbrev pub buses_of : Bytes → Number
+buses_of l = number_after (ascii "buses ") l
 
 -- the number of a bus, and nothing else
 abbrev pub number_of : Bytes → Number
-number_of l = decimalOf l
+number_of l = decimal_of l
 
 -- `drop K`
-abbrev pub dropOf : Bytes → Number
-dropOf l = numberAfter (ascii "drop ") l
+abbrev pub drop_of : Bytes → Number
+drop_of l = number_after (ascii "drop ") l
 
 -- the 64 bits of a finite number: no infinity's and no NaN's
-abbrev pub finiteWord : ℕ → Bool
-finiteWord w = finite (of_bits binary64 w)
+abbrev pub finite_word : ℕ → Bool
+finite_word w = finite (of_bits binary64 w)
 
 -- two words of finite numbers, or none
 abbrev pub both : Number → Number → Entry
-both (Is a) (Is b) = cond (finiteWord a && finiteWord b) (Words a b) NoEntry
+both (Is a) (Is b) = cond (finite_word a && finite_word b) (Words a b) NoEntry
 both (Is a) Not = NoEntry
 both Not w = NoEntry
 
 -- two words of 16 hexadecimal digits, each a finite number's, with one space between them: 33 bytes
 unfoldable pub entry_of : Bytes → Entry
 entry_of l =
-    cond (eqb (length l) 33 && eqb (get_or l 16 0) space) (both (hexOf (take 16 l)) (hexOf (drop 17 l))) NoEntry
+    cond (eqb (length l) 33 && eqb (get_or l 16 0) space) (both (hex_of (take 16 l)) (hex_of (drop 17 l))) NoEntry

@@ -7,51 +7,51 @@ use Rattle.complex.specs.Entries.{entry}
 use Rattle.refusals.specs.Refusals.{limit}
 use Rattle.kron_reduction.specs.declared.KronReducer.{KronReducer}
 use Rattle.kron_reduction.specs.Reducer.{sound}
-use Rattle.kron_reduction.specs.Reading.{activeNumbers}
+use Rattle.kron_reduction.specs.Reading.{active_numbers}
 use Rattle.reduce_text.specs.declared.read.End.{End}
 use Rattle.reduce_text.specs.declared.read.End.TheVariants.{Kept, RefusedDrop, BadLine}
-use Rattle.text_numbers.specs.Bytes.{Bytes, ascii, lineFeed, space}
+use Rattle.text_numbers.specs.Bytes.{Bytes, ascii, line_feed, space}
 use Rattle.text_numbers.specs.Words.{decimal, hex}
 use Rattle.reduce_text.specs.Reading.{Run}
 
 -- the bits of an f64, of a NaN 7ff8000000000000
-abbrev pub toWord : Float → ℕ
-toWord x = to_bits binary64 x
+abbrev pub to_word : Float → ℕ
+to_word x = to_bits binary64 x
 
 -- a keyword with its space, and a number
-unfoldable pub numberLine : Bytes → ℕ → Bytes
-numberLine key n = key ++ decimal n ++ (lineFeed ∷ [])
+unfoldable pub number_line : Bytes → ℕ → Bytes
+number_line key n = key ++ decimal n ++ (line_feed ∷ [])
 
 -- the first n of the bus numbers
-unfoldable pub busLines : ℕ → List ℕ → Bytes
-busLines zero ks = []
-busLines (suc n) ks = busLines n ks ++ numberLine (ascii "bus ") (get_or ks n 0)
+unfoldable pub bus_lines : ℕ → List ℕ → Bytes
+bus_lines zero ks = []
+bus_lines (suc n) ks = bus_lines n ks ++ number_line (ascii "bus ") (get_or ks n 0)
 
-unfoldable pub entryLine : Complex → Bytes
-entryLine c = hex (toWord c.re) ++ (space ∷ []) ++ hex (toWord c.im) ++ (lineFeed ∷ [])
+unfoldable pub entry_line : Complex → Bytes
+entry_line c = hex (to_word c.re) ++ (space ∷ []) ++ hex (to_word c.im) ++ (line_feed ∷ [])
 
 -- the first n entries of the slice
-unfoldable pub entryLines : ℕ → List Float → Bytes
-entryLines zero ys = []
-entryLines (suc n) ys = entryLines n ys ++ entryLine (entry ys n)
+unfoldable pub entry_lines : ℕ → List Float → Bytes
+entry_lines zero ys = []
+entry_lines (suc n) ys = entry_lines n ys ++ entry_line (entry ys n)
 
 -- the kept count, the number of each kept bus in row order, each entry between them
-unfoldable pub keptText : KronReducer → List Float → Bytes
-keptText r ys =
-    numberLine (ascii "kept ") r.n_buses ++ busLines r.n_buses (activeNumbers r) ++ entryLines (r.n_buses * r.n_buses) ys
+unfoldable pub kept_text : KronReducer → List Float → Bytes
+kept_text r ys =
+    number_line (ascii "kept ") r.n_buses ++ bus_lines r.n_buses (active_numbers r) ++ entry_lines (r.n_buses * r.n_buses) ys
 
 -- the refusal's number and the bus
-unfoldable pub refusedText : ℕ → ℕ → Bytes
-refusedText f k = ascii "refused " ++ decimal f ++ numberLine (space ∷ []) k
+unfoldable pub refused_text : ℕ → ℕ → Bytes
+refused_text f k = ascii "refused " ++ decimal f ++ number_line (space ∷ []) k
 
 -- the line's place, from 1
-unfoldable pub badText : ℕ → Bytes
-badText p = numberLine (ascii "bad line ") p
+unfoldable pub bad_text : ℕ → Bytes
+bad_text p = number_line (ascii "bad line ") p
 
 unfoldable pub text_of : End → KronReducer → List Float → Bytes
-text_of Kept r ys = keptText r ys
-text_of (RefusedDrop f k) r ys = refusedText f k
-text_of (BadLine p) r ys = badText p
+text_of Kept r ys = kept_text r ys
+text_of (RefusedDrop f k) r ys = refused_text f k
+text_of (BadLine p) r ys = bad_text p
 
 -- a sound record, and the entries between its buses are there
 abbrev pub Whole : KronReducer → List Float → Type 0

@@ -1,7 +1,7 @@
 -- The program as a whole: from the bytes that it reads to the bytes that it writes, and what its slices hold.
 use Rattle.std.specs.Prelude.{ℕ, zero, suc, ◌+◌, ◌-◌, ◌*◌, not, ◌&&◌, cond, List, ◌++◌, eqb, length, replicate, Float}
 use Rattle.complex.specs.Matrices.{zeros}
-use Rattle.refusals.specs.Refusals.{wrongLength, refuse}
+use Rattle.refusals.specs.Refusals.{wrong_length, refuse}
 use Rattle.reduce_text.specs.declared.Answer.{Answer}
 use Rattle.reduce_text.specs.declared.Answer.TheVariants.{Written, Refused}
 use Rattle.text_numbers.specs.Bytes.{Bytes}
@@ -13,34 +13,34 @@ unfoldable pub printed : Bytes → Bytes
 printed input = text (run_of input)
 
 -- the most numbers of a matrix
-unfoldable pub matrixLength : ℕ
+unfoldable pub matrix_length : ℕ
 unfolding most
-matrixLength = 2 * (most * most)
+matrix_length = 2 * (most * most)
 
 -- the most bytes of an output: `kept 64`, each bus with ten digits, each entry
-unfoldable pub outputLength : ℕ
+unfoldable pub output_length : ℕ
 unfolding most
-outputLength = 8 + 15 * most + 34 * (most * most)
+output_length = 8 + 15 * most + 34 * (most * most)
 
 -- The most bytes of an input that can matter: the first line, the numbers, the entries, as many drops as there are buses, and one line more
 -- with a byte that makes it too long.
-unfoldable pub inputLength : ℕ
+unfoldable pub input_length : ℕ
 unfolding most
-inputLength = 9 + 11 * most + 34 * (most * most) + 16 * most + 34
+input_length = 9 + 11 * most + 34 * (most * most) + 16 * most + 34
 
 -- 2 or 0, by the lengths of the output and of the matrix slice. What is wrong in the input is printed.
-unfoldable pub reduceRefusal : ℕ → ℕ → ℕ
-reduceRefusal out ys = refuse (not (eqb out outputLength && eqb ys matrixLength)) wrongLength 0
+unfoldable pub reduce_refusal : ℕ → ℕ → ℕ
+reduce_refusal out ys = refuse (not (eqb out output_length && eqb ys matrix_length)) wrong_length 0
 
 -- the answer of a call with this refusal: how many bytes were written where there is none
-unfoldable pub reduceAnswer : ℕ → ℕ → Answer
-reduceAnswer zero n = Written n
-reduceAnswer (suc k) n = Refused (suc k)
+unfoldable pub reduce_answer : ℕ → ℕ → Answer
+reduce_answer zero n = Written n
+reduce_answer (suc k) n = Refused (suc k)
 
 -- the number of an answer: its refusal, 0 where there is none
-abbrev pub reduceNumber : Answer → ℕ
-reduceNumber (Written n) = 0
-reduceNumber (Refused k) = k
+abbrev pub reduce_number : Answer → ℕ
+reduce_number (Written n) = 0
+reduce_number (Refused k) = k
 
 pub record AfterReduce : Type 0 where
   pub answer : Answer
@@ -49,11 +49,11 @@ pub record AfterReduce : Type 0 where
 
 -- The bytes written stand at the output's front, 0 behind them. The matrix is a work slice, +0 afterwards. Where the call is refused, both
 -- are as they were.
-unfoldable pub afterReduce : Bytes → Bytes → List Float → AfterReduce
-afterReduce input out ys =
-    let f = reduceRefusal (length out) (length ys) in
+unfoldable pub after_reduce : Bytes → Bytes → List Float → AfterReduce
+after_reduce input out ys =
+    let f = reduce_refusal (length out) (length ys) in
     record {
-      answer = reduceAnswer f (length (printed input));
-      output = cond (eqb f 0) (printed input ++ replicate (outputLength - length (printed input)) 0) out;
-      matrix = cond (eqb f 0) (zeros matrixLength) ys;
+      answer = reduce_answer f (length (printed input));
+      output = cond (eqb f 0) (printed input ++ replicate (output_length - length (printed input)) 0) out;
+      matrix = cond (eqb f 0) (zeros matrix_length) ys;
     }

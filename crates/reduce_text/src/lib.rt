@@ -1,6 +1,6 @@
 // The text of the program `reduce`: from the bytes that it reads to the bytes that it writes.
 ghost use Rattle.std.specs.Prelude.{◌≡◌};
-ghost use Rattle.reduce_text.specs.Reduce.{reduceNumber, afterReduce};
+ghost use Rattle.reduce_text.specs.Reduce.{reduce_number, after_reduce};
 
 use print::print;
 use read::read;
@@ -30,7 +30,7 @@ pub enum Answer {
 
 // The refusal's number, 0 where there is none.
 pub fn number_of(answer: Answer) -> u32
-    ensures { result ≡ reduceNumber answer }
+    ensures { result ≡ reduce_number answer }
 {
     match answer {
         Answer::Written(_) => 0,
@@ -40,9 +40,9 @@ pub fn number_of(answer: Answer) -> u32
 
 // What `reduce` prints for this input, at the output's front, with 0 behind it. The matrix slice is +0 afterwards.
 pub fn reduce(input: &[u8], output: &mut [u8], matrix: &mut [f64]) -> Answer
-    ensures { (result ≡ (afterReduce input.now output.old matrix.old).answer)
-        × (output.new ≡ (afterReduce input.now output.old matrix.old).output)
-        × (matrix.new ≡ (afterReduce input.now output.old matrix.old).matrix) }
+    ensures { (result ≡ (after_reduce input.now output.old matrix.old).answer)
+        × (output.new ≡ (after_reduce input.now output.old matrix.old).output)
+        × (matrix.new ≡ (after_reduce input.now output.old matrix.old).matrix) }
 {
     if output.len() != OUTPUT {
         return Answer::Refused(WRONG_LENGTH);

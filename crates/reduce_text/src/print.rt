@@ -13,8 +13,8 @@ use text_numbers::print::{put, put_byte, put_decimal, put_hex};
 
 // The number between a keyword and a line feed.
 fn put_line(out: &mut [u8], at: usize, key: &[u8], n: u64) -> usize
-    requires { HasRoom out.old at (spec.numberLine key.now n) }
-    ensures { Wrote out.old at (spec.numberLine key.now n) result out.new }
+    requires { HasRoom out.old at (spec.number_line key.now n) }
+    ensures { Wrote out.old at (spec.number_line key.now n) result out.new }
 {
     let a = put(out, at, key);
     let b = put_decimal(out, a, n);
@@ -22,8 +22,8 @@ fn put_line(out: &mut [u8], at: usize, key: &[u8], n: u64) -> usize
 }
 
 fn put_refused(out: &mut [u8], number: u32, bus: u64) -> usize
-    requires { HasRoom out.old 0 (spec.refusedText number bus) }
-    ensures { Wrote out.old 0 (spec.refusedText number bus) result out.new }
+    requires { HasRoom out.old 0 (spec.refused_text number bus) }
+    ensures { Wrote out.old 0 (spec.refused_text number bus) result out.new }
 {
     let a = put(out, 0, b"refused ");
     let b = put_decimal(out, a, number as u64);
@@ -31,8 +31,8 @@ fn put_refused(out: &mut [u8], number: u32, bus: u64) -> usize
 }
 
 fn put_entry(out: &mut [u8], at: usize, c: Complex) -> usize
-    requires { HasRoom out.old at (spec.entryLine c) }
-    ensures { Wrote out.old at (spec.entryLine c) result out.new }
+    requires { HasRoom out.old at (spec.entry_line c) }
+    ensures { Wrote out.old at (spec.entry_line c) result out.new }
 {
     let re = to_word(c.re);
     let im = to_word(c.im);
@@ -43,8 +43,8 @@ fn put_entry(out: &mut [u8], at: usize, c: Complex) -> usize
 }
 
 fn put_buses(out: &mut [u8], at: usize, buses: &[u32], n: usize) -> usize
-    requires { (n ≤ length buses.now) × HasRoom out.old at (spec.busLines n buses.now) }
-    ensures { Wrote out.old at (spec.busLines n buses.now) result out.new }
+    requires { (n ≤ length buses.now) × HasRoom out.old at (spec.bus_lines n buses.now) }
+    ensures { Wrote out.old at (spec.bus_lines n buses.now) result out.new }
 {
     let mut i = 0;
     let mut p = at;
@@ -56,8 +56,8 @@ fn put_buses(out: &mut [u8], at: usize, buses: &[u32], n: usize) -> usize
 }
 
 fn put_entries(out: &mut [u8], at: usize, ys: &[f64], n: usize) -> usize
-    requires { (2 * n ≤ length ys.now) × HasRoom out.old at (spec.entryLines n ys.now) }
-    ensures { Wrote out.old at (spec.entryLines n ys.now) result out.new }
+    requires { (2 * n ≤ length ys.now) × HasRoom out.old at (spec.entry_lines n ys.now) }
+    ensures { Wrote out.old at (spec.entry_lines n ys.now) result out.new }
 {
     let mut i = 0;
     let mut p = at;
@@ -69,8 +69,8 @@ fn put_entries(out: &mut [u8], at: usize, ys: &[f64], n: usize) -> usize
 }
 
 fn put_kept(out: &mut [u8], rec: KronReducer, ys: &[f64]) -> usize
-    requires { spec.Whole rec ys.now × HasRoom out.old 0 (spec.keptText rec ys.now) }
-    ensures { Wrote out.old 0 (spec.keptText rec ys.now) result out.new }
+    requires { spec.Whole rec ys.now × HasRoom out.old 0 (spec.kept_text rec ys.now) }
+    ensures { Wrote out.old 0 (spec.kept_text rec ys.now) result out.new }
 {
     let n = rec.n_buses;
     let buses = active_numbers(rec);

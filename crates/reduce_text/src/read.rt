@@ -60,7 +60,7 @@ pub struct Dropped {
 
 // No reducer is made.
 fn unmade(next: Next) -> Start
-    ensures { result ≡ steps.noStart next }
+    ensures { result ≡ steps.no_start next }
 {
     Start {
         next: next,
@@ -77,7 +77,7 @@ fn unmade(next: Next) -> Start
 // The number behind a keyword in the line at `at`.
 fn number_at(key: &[u8], input: &[u8], at: usize) -> Number
     requires { at < length input.now }
-    ensures { result ≡ lines.numberAfter key.now (lines.line_at input.now at) }
+    ensures { result ≡ lines.number_after key.now (lines.line_at input.now at) }
 {
     let end = line_end(input, at);
     number_after(key, &input[at..end])
@@ -258,7 +258,7 @@ fn after_entries(
 ) -> Reading
     requires { (n ≤ spec.most) × (2 * (spec.most * spec.most) ≤ length matrix.old) }
     ensures { steps.Ended matrix.old (2 * (n * n))
-        (spec.drops spec.finish (steps.placeBehind n) rec (take (2 * (n * n)) matrix.old)
+        (spec.drops spec.finish (steps.place_behind n) rec (take (2 * (n * n)) matrix.old)
         (steps.behind input.now from)) result matrix.new }
 {
     let count = n * n;

@@ -47,7 +47,7 @@ fn starts_with(key: &[u8], line: &[u8]) -> bool
 
 // The number behind a keyword and its space.
 pub fn number_after(key: &[u8], line: &[u8]) -> Number
-    ensures { result ≡ spec.numberAfter key.now line.now }
+    ensures { result ≡ spec.number_after key.now line.now }
 {
     if !starts_with(key, line) {
         return Number::Not;

@@ -1,7 +1,7 @@
 -- What a call answers and leaves by its refusal's number, and what a chain that refuses nothing tells.
 use Rattle.prelude.proofs.Prelude.{◌≡◌, refl, sym, ap, Bool, true, false, not, ◌&&◌, cond, ℕ, zero, suc, arith, T, eqb, true≢false, eqb→eq, ne_eqb}
 use lib.Dec.{eqb-suc-zero}
-use Rattle.refusals.specs.Refusals.{refuse, outcome, counted, countedNumber}
+use Rattle.refusals.specs.Refusals.{refuse, outcome, counted, counted_number}
 use Rattle.refusals.specs.declared.Outcome.TheVariants.{Done, Refused}
 use Rattle.refusals.specs.declared.Counted.{Counted}
 use Rattle.refusals.specs.declared.Counted.TheVariants as counts
@@ -36,9 +36,9 @@ counted-refused rows (suc r) f e h = rw (← e)
 
 -- and what such an answer tells of the refusal f
 pub counted-refuses : (rows f r : ℕ) → counts.Refused r ≡ counted rows f → (f ≡ r) × (r ≡ 0 → ⊥)
-unfolding counted countedNumber
+unfolding counted counted_number
 counted-refuses rows zero r e = absurd (refused≢reduced e)
-counted-refuses rows (suc f) r e = let q : r ≡ suc f = ap countedNumber e in (sym q, λ (z : r ≡ 0). omega arith)
+counted-refuses rows (suc f) r e = let q : r ≡ suc f = ap counted_number e in (sym q, λ (z : r ≡ 0). omega arith)
 
 pub counted-reduces : (rows f n : ℕ) → counts.Reduced n ≡ counted rows f → (f ≡ 0) × (n ≡ rows)
 unfolding counted count_of

@@ -10,11 +10,11 @@
 --     allowed-met       an allowance is the number that stands for it
 use Rattle.prelude.proofs.Prelude.{◌≡◌, refl, sym, ap, ◌∙◌, Bool, true, false, ◌&&◌, not, cond, List, [], ◌∷◌, ◌++◌, ℕ, zero, suc, ◌+◌, ◌-◌, ◌≤◌, arith, T, eqb, Float, sub-zero, add-zero, ne_eqb, finite}
 use lib.Dec.{eqb-suc-zero}
-use Rattle.binary64.specs.Values.{allFinite}
+use Rattle.binary64.specs.Values.{all_finite}
 use Rattle.refusals.specs.declared.Allowance.{Allowance}
 use Rattle.refusals.specs.declared.Allowance.TheVariants.{Unlimited, Rows}
-use Rattle.refusals.specs.Refusals.{thenComputed}
-use Rattle.refusals.specs.Work.{Step, computes, reduces, entryTooSmall, pivotTooSmall, computing, numbersIn, reductions, meets, granted, workRefusal, thenWork, ◌noMoreThan◌, allowedRows}
+use Rattle.refusals.specs.Refusals.{then_computed}
+use Rattle.refusals.specs.Work.{Step, computes, reduces, entry_too_small, pivot_too_small, computing, numbers_in, reductions, meets, granted, work_refusal, then_work, ◌no_more_than◌, allowed_rows}
 use Rattle.refusals.proofs.Answering.{then-none}
 
 -- ---- what is met
@@ -30,8 +30,8 @@ larger m k h (computes x ∷ es) n = go (finite x) n (larger m k h es)
 larger zero k h (reduces ∷ es) n = absurd (n refl)
 larger (suc m) zero h (reduces ∷ es) n = absurd (omega arith)
 larger (suc m) (suc k) h (reduces ∷ es) n = larger m k (omega arith) es n
-larger m k h (entryTooSmall ∷ es) n = refl
-larger m k h (pivotTooSmall ∷ es) n = refl
+larger m k h (entry_too_small ∷ es) n = refl
+larger m k h (pivot_too_small ∷ es) n = refl
 
 pub meets-after : (m : ℕ) (es fs : List Step) → meets m es ≡ 0 → meets m (es ++ fs) ≡ meets (m - reductions es) fs
 unfolding meets reductions
@@ -46,8 +46,8 @@ meets-after zero (reduces ∷ es) fs h = absurd (omega arith)
 meets-after (suc m) (reduces ∷ es) fs h =
     let e : suc m - suc (reductions es) ≡ m - reductions es = omega arith in
     meets-after m es fs h ∙ ap (λ (k : ℕ). meets k fs) (sym e)
-meets-after m (entryTooSmall ∷ es) fs h = absurd (omega arith)
-meets-after m (pivotTooSmall ∷ es) fs h = absurd (omega arith)
+meets-after m (entry_too_small ∷ es) fs h = absurd (omega arith)
+meets-after m (pivot_too_small ∷ es) fs h = absurd (omega arith)
 
 pub meets-first : (m : ℕ) (es fs : List Step) → (meets m es ≡ 0 → ⊥) → meets m (es ++ fs) ≡ meets m es
 unfolding meets
@@ -59,63 +59,63 @@ meets-first m (computes x ∷ es) fs n = go (finite x) n (meets-first m es fs)
     go false some rest = refl
 meets-first zero (reduces ∷ es) fs n = refl
 meets-first (suc m) (reduces ∷ es) fs n = meets-first m es fs n
-meets-first m (entryTooSmall ∷ es) fs n = refl
-meets-first m (pivotTooSmall ∷ es) fs n = refl
+meets-first m (entry_too_small ∷ es) fs n = refl
+meets-first m (pivot_too_small ∷ es) fs n = refl
 
-pub meets-numbers : (m : ℕ) (xs : List Float) (es : List Step) → meets m (computing xs ++ es) ≡ cond (allFinite xs) (meets m es) 20
-unfolding meets computing allFinite
+pub meets-numbers : (m : ℕ) (xs : List Float) (es : List Step) → meets m (computing xs ++ es) ≡ cond (all_finite xs) (meets m es) 20
+unfolding meets computing all_finite
 meets-numbers m [] es = refl
 meets-numbers m (x ∷ xs) es = go (finite x) (meets-numbers m xs es)
   where
-    go : (b : Bool) → meets m (computing xs ++ es) ≡ cond (allFinite xs) (meets m es) 20 → cond b (meets m (computing xs ++ es)) 20 ≡ cond (b && allFinite xs) (meets m es) 20
+    go : (b : Bool) → meets m (computing xs ++ es) ≡ cond (all_finite xs) (meets m es) 20 → cond b (meets m (computing xs ++ es)) 20 ≡ cond (b && all_finite xs) (meets m es) 20
     go true rest = rest
     go false rest = refl
 
 -- numbers alone
-pub numbers-met : (m : ℕ) (xs : List Float) → meets m (computing xs) ≡ cond (allFinite xs) 0 20
-unfolding meets computing allFinite
+pub numbers-met : (m : ℕ) (xs : List Float) → meets m (computing xs) ≡ cond (all_finite xs) 0 20
+unfolding meets computing all_finite
 numbers-met m [] = refl
 numbers-met m (x ∷ xs) = go (finite x) (numbers-met m xs)
   where
-    go : (b : Bool) → meets m (computing xs) ≡ cond (allFinite xs) 0 20 → cond b (meets m (computing xs)) 20 ≡ cond (b && allFinite xs) 0 20
+    go : (b : Bool) → meets m (computing xs) ≡ cond (all_finite xs) 0 20 → cond b (meets m (computing xs)) 20 ≡ cond (b && all_finite xs) 0 20
     go true rest = rest
     go false rest = refl
 
 -- ---- finite numbers
 
-pub all-finite : (m : ℕ) (es : List Step) → meets m es ≡ 0 → T (allFinite (numbersIn es))
-unfolding meets numbersIn allFinite
+pub all-finite : (m : ℕ) (es : List Step) → meets m es ≡ 0 → T (all_finite (numbers_in es))
+unfolding meets numbers_in all_finite
 all-finite m [] h = tt
 all-finite m (computes x ∷ es) h = go (finite x) h (all-finite m es)
   where
-    go : (b : Bool) → cond b (meets m es) 20 ≡ 0 → (meets m es ≡ 0 → T (allFinite (numbersIn es))) → T (b && allFinite (numbersIn es))
+    go : (b : Bool) → cond b (meets m es) 20 ≡ 0 → (meets m es ≡ 0 → T (all_finite (numbers_in es))) → T (b && all_finite (numbers_in es))
     go true none rest = rest none
     go false none rest = absurd (omega arith)
 all-finite zero (reduces ∷ es) h = absurd (omega arith)
 all-finite (suc m) (reduces ∷ es) h = all-finite m es h
-all-finite m (entryTooSmall ∷ es) h = absurd (omega arith)
-all-finite m (pivotTooSmall ∷ es) h = absurd (omega arith)
+all-finite m (entry_too_small ∷ es) h = absurd (omega arith)
+all-finite m (pivot_too_small ∷ es) h = absurd (omega arith)
 
 -- the steps without the numbers
 unfoldable pub marks : List Step → List Step
 marks [] = []
 marks (computes x ∷ es) = marks es
 marks (reduces ∷ es) = reduces ∷ marks es
-marks (entryTooSmall ∷ es) = entryTooSmall ∷ marks es
-marks (pivotTooSmall ∷ es) = pivotTooSmall ∷ marks es
+marks (entry_too_small ∷ es) = entry_too_small ∷ marks es
+marks (pivot_too_small ∷ es) = pivot_too_small ∷ marks es
 
-pub finite-unlost : (m : ℕ) (es : List Step) → T (allFinite (numbersIn es)) → meets m es ≡ 20 → ⊥
-unfolding meets numbersIn allFinite
+pub finite-unlost : (m : ℕ) (es : List Step) → T (all_finite (numbers_in es)) → meets m es ≡ 20 → ⊥
+unfolding meets numbers_in all_finite
 finite-unlost m [] h e = omega arith
 finite-unlost m (computes x ∷ es) h e = go (finite x) h e (finite-unlost m es)
   where
-    go : (b : Bool) → T (b && allFinite (numbersIn es)) → cond b (meets m es) 20 ≡ 20 → (T (allFinite (numbersIn es)) → meets m es ≡ 20 → ⊥) → ⊥
+    go : (b : Bool) → T (b && all_finite (numbers_in es)) → cond b (meets m es) 20 ≡ 20 → (T (all_finite (numbers_in es)) → meets m es ≡ 20 → ⊥) → ⊥
     go true all same rest = rest all same
     go false all same rest = all
 finite-unlost zero (reduces ∷ es) h e = omega arith
 finite-unlost (suc m) (reduces ∷ es) h e = finite-unlost m es h e
-finite-unlost m (entryTooSmall ∷ es) h e = omega arith
-finite-unlost m (pivotTooSmall ∷ es) h e = omega arith
+finite-unlost m (entry_too_small ∷ es) h e = omega arith
+finite-unlost m (pivot_too_small ∷ es) h e = omega arith
 
 -- the same where the work without a limit does not meet 20: what comes behind its end is not computed
 pub unlost-meets : (m : ℕ) (es : List Step) → (meets (reductions es) es ≡ 20 → ⊥) → meets m es ≡ meets m (marks es)
@@ -129,10 +129,10 @@ unlost-meets m (computes x ∷ es) n = go (finite x) n (unlost-meets m es)
     go false other rest = absurd (other refl)
 unlost-meets zero (reduces ∷ es) n = refl
 unlost-meets (suc m) (reduces ∷ es) n = unlost-meets m es n
-unlost-meets m (entryTooSmall ∷ es) n = refl
-unlost-meets m (pivotTooSmall ∷ es) n = refl
+unlost-meets m (entry_too_small ∷ es) n = refl
+unlost-meets m (pivot_too_small ∷ es) n = refl
 
-pub finite-meets : (m : ℕ) (es : List Step) → T (allFinite (numbersIn es)) → meets m es ≡ meets m (marks es)
+pub finite-meets : (m : ℕ) (es : List Step) → T (all_finite (numbers_in es)) → meets m es ≡ meets m (marks es)
 finite-meets m es h = unlost-meets m es (finite-unlost (reductions es) es h)
 
 pub marks-both : (es fs : List Step) → marks (es ++ fs) ≡ marks es ++ marks fs
@@ -140,8 +140,8 @@ unfolding marks
 marks-both [] fs = refl
 marks-both (computes x ∷ es) fs = marks-both es fs
 marks-both (reduces ∷ es) fs = ap (λ (l : List Step). reduces ∷ l) (marks-both es fs)
-marks-both (entryTooSmall ∷ es) fs = ap (λ (l : List Step). entryTooSmall ∷ l) (marks-both es fs)
-marks-both (pivotTooSmall ∷ es) fs = ap (λ (l : List Step). pivotTooSmall ∷ l) (marks-both es fs)
+marks-both (entry_too_small ∷ es) fs = ap (λ (l : List Step). entry_too_small ∷ l) (marks-both es fs)
+marks-both (pivot_too_small ∷ es) fs = ap (λ (l : List Step). pivot_too_small ∷ l) (marks-both es fs)
 
 pub marks-numbers : (xs : List Float) (es : List Step) → marks (computing xs ++ es) ≡ marks es
 unfolding computing marks
@@ -159,8 +159,8 @@ unfolding reductions marks
 marks-count [] = refl
 marks-count (computes x ∷ es) = marks-count es
 marks-count (reduces ∷ es) = ap suc (marks-count es)
-marks-count (entryTooSmall ∷ es) = marks-count es
-marks-count (pivotTooSmall ∷ es) = marks-count es
+marks-count (entry_too_small ∷ es) = marks-count es
+marks-count (pivot_too_small ∷ es) = marks-count es
 
 -- ---- what is counted
 
@@ -169,8 +169,8 @@ unfolding reductions
 count-both [] fs = omega arith
 count-both (computes x ∷ es) fs = count-both es fs
 count-both (reduces ∷ es) fs = let e = count-both es fs in omega arith
-count-both (entryTooSmall ∷ es) fs = count-both es fs
-count-both (pivotTooSmall ∷ es) fs = count-both es fs
+count-both (entry_too_small ∷ es) fs = count-both es fs
+count-both (pivot_too_small ∷ es) fs = count-both es fs
 
 pub count-numbers : (xs : List Float) (es : List Step) → reductions (computing xs ++ es) ≡ reductions es
 unfolding computing reductions
@@ -184,21 +184,21 @@ none-counted (x ∷ xs) = none-counted xs
 
 -- ---- the numbers
 
-pub numbers-both : (es fs : List Step) → numbersIn (es ++ fs) ≡ numbersIn es ++ numbersIn fs
-unfolding numbersIn
+pub numbers-both : (es fs : List Step) → numbers_in (es ++ fs) ≡ numbers_in es ++ numbers_in fs
+unfolding numbers_in
 numbers-both [] fs = refl
 numbers-both (computes x ∷ es) fs = ap (λ (l : List Float). x ∷ l) (numbers-both es fs)
 numbers-both (reduces ∷ es) fs = numbers-both es fs
-numbers-both (entryTooSmall ∷ es) fs = numbers-both es fs
-numbers-both (pivotTooSmall ∷ es) fs = numbers-both es fs
+numbers-both (entry_too_small ∷ es) fs = numbers-both es fs
+numbers-both (pivot_too_small ∷ es) fs = numbers-both es fs
 
-pub numbers-alone : (xs : List Float) → numbersIn (computing xs) ≡ xs
-unfolding computing numbersIn
+pub numbers-alone : (xs : List Float) → numbers_in (computing xs) ≡ xs
+unfolding computing numbers_in
 numbers-alone [] = refl
 numbers-alone (x ∷ xs) = ap (λ (l : List Float). x ∷ l) (numbers-alone xs)
 
-pub numbers-back : (xs : List Float) (es : List Step) → numbersIn (computing xs ++ es) ≡ xs ++ numbersIn es
-unfolding computing numbersIn
+pub numbers-back : (xs : List Float) (es : List Step) → numbers_in (computing xs ++ es) ≡ xs ++ numbers_in es
+unfolding computing numbers_in
 numbers-back [] es = refl
 numbers-back (x ∷ xs) es = ap (λ (l : List Float). x ∷ l) (numbers-back xs es)
 
@@ -215,8 +215,8 @@ enough m (computes x ∷ es) h e = go (finite x) e (enough m es h)
     go false same rest = omega arith
 enough zero (reduces ∷ es) h e = omega arith
 enough (suc m) (reduces ∷ es) h e = enough m es (omega arith) e
-enough m (entryTooSmall ∷ es) h e = omega arith
-enough m (pivotTooSmall ∷ es) h e = omega arith
+enough m (entry_too_small ∷ es) h e = omega arith
+enough m (pivot_too_small ∷ es) h e = omega arith
 
 -- what meets nothing begins no more than are allowed
 pub meets-within : (m : ℕ) (es : List Step) → meets m es ≡ 0 → reductions es ≤ m
@@ -229,11 +229,11 @@ meets-within m (computes x ∷ es) h = go (finite x) h (meets-within m es)
     go false none rest = absurd (omega arith)
 meets-within zero (reduces ∷ es) h = absurd (omega arith)
 meets-within (suc m) (reduces ∷ es) h = let k = meets-within m es h in omega arith
-meets-within m (entryTooSmall ∷ es) h = absurd (omega arith)
-meets-within m (pivotTooSmall ∷ es) h = absurd (omega arith)
+meets-within m (entry_too_small ∷ es) h = absurd (omega arith)
+meets-within m (pivot_too_small ∷ es) h = absurd (omega arith)
 
-pub unlimited-met : (es : List Step) → workRefusal Unlimited es ≡ 18 → ⊥
-unfolding workRefusal
+pub unlimited-met : (es : List Step) → work_refusal Unlimited es ≡ 18 → ⊥
+unfolding work_refusal
 unlimited-met es = enough (reductions es) es (omega arith)
 
 -- what is met other than 18 is met without a limit
@@ -247,70 +247,70 @@ without-limit m (computes x ∷ es) n = go (finite x) n (without-limit m es)
     go false other rest = refl
 without-limit zero (reduces ∷ es) n = absurd (n refl)
 without-limit (suc m) (reduces ∷ es) n = without-limit m es n
-without-limit m (entryTooSmall ∷ es) n = refl
-without-limit m (pivotTooSmall ∷ es) n = refl
+without-limit m (entry_too_small ∷ es) n = refl
+without-limit m (pivot_too_small ∷ es) n = refl
 
-pub larger-work : (a b : Allowance) → a noMoreThan b → (es : List Step) → (workRefusal a es ≡ 18 → ⊥) → workRefusal b es ≡ workRefusal a es
-unfolding workRefusal ◌noMoreThan◌
+pub larger-work : (a b : Allowance) → a no_more_than b → (es : List Step) → (work_refusal a es ≡ 18 → ⊥) → work_refusal b es ≡ work_refusal a es
+unfolding work_refusal ◌no_more_than◌
 larger-work Unlimited Unlimited h es n = refl
 larger-work Unlimited (Rows k) h es n = absurd h
 larger-work (Rows m) (Rows k) h es n = larger m k h es n
 larger-work (Rows m) Unlimited h es n = without-limit m es n
 
 -- numbers behind work without a limit
-then-numbers-met : (m k : ℕ) (es : List Step) (xs : List Float) → meets m es ≡ k → meets m (es ++ computing xs) ≡ cond (eqb k 0) (cond (allFinite xs) 0 20) k
+then-numbers-met : (m k : ℕ) (es : List Step) (xs : List Float) → meets m es ≡ k → meets m (es ++ computing xs) ≡ cond (eqb k 0) (cond (all_finite xs) 0 20) k
 then-numbers-met m zero es xs e = meets-after m es (computing xs) e ∙ numbers-met (m - reductions es) xs
 then-numbers-met m (suc k) es xs e = rw (eqb-suc-zero k) (meets-first m es (computing xs) (λ (z : meets m es ≡ 0). omega (arith, z, e)) ∙ e)
 
 pub then-numbers : (es : List Step) (xs : List Float)
-    → workRefusal Unlimited (es ++ computing xs) ≡ cond (eqb (workRefusal Unlimited es) 0) (cond (allFinite xs) 0 20) (workRefusal Unlimited es)
-unfolding workRefusal granted
+    → work_refusal Unlimited (es ++ computing xs) ≡ cond (eqb (work_refusal Unlimited es) 0) (cond (all_finite xs) 0 20) (work_refusal Unlimited es)
+unfolding work_refusal granted
 then-numbers es xs =
     let same : reductions (es ++ computing xs) ≡ reductions es = count-both es (computing xs) ∙ ap (λ (k : ℕ). reductions es + k) (none-counted xs) ∙ add-zero (reductions es) in
     ap (λ (k : ℕ). meets k (es ++ computing xs)) same ∙ then-numbers-met (reductions es) (meets (reductions es) es) es xs refl
 
 -- from the count of the steps on an allowance is none
-pub from-count : (m : ℕ) (es : List Step) → reductions es ≤ m → workRefusal (Rows m) es ≡ workRefusal Unlimited es
-unfolding workRefusal
+pub from-count : (m : ℕ) (es : List Step) → reductions es ≤ m → work_refusal (Rows m) es ≡ work_refusal Unlimited es
+unfolding work_refusal
 from-count m es h = sym (without-limit m es (enough m es h))
 
-pub allowed-met : (a : Allowance) (es : List Step) → reductions es ≤ 0xffff_ffff_ffff_ffff → workRefusal a es ≡ meets (allowedRows a) es
-unfolding workRefusal allowedRows
+pub allowed-met : (a : Allowance) (es : List Step) → reductions es ≤ 0xffff_ffff_ffff_ffff → work_refusal a es ≡ meets (allowed_rows a) es
+unfolding work_refusal allowed_rows
 allowed-met Unlimited es h = without-limit 0xffff_ffff_ffff_ffff es (enough 0xffff_ffff_ffff_ffff es h)
 allowed-met (Rows m) es h = refl
 
 -- ---- the refusal of a call
 
 -- what is told from the input comes first, else what the work meets
-pub work-told : (told : ℕ) (a : Allowance) (es : List Step) → (told ≡ 0 → ⊥) → thenWork told a es ≡ told
-unfolding thenWork
+pub work-told : (told : ℕ) (a : Allowance) (es : List Step) → (told ≡ 0 → ⊥) → then_work told a es ≡ told
+unfolding then_work
 work-told told a es h = rw (ne_eqb told 0 h)
 
-pub work-met : (told : ℕ) (a : Allowance) (es : List Step) → told ≡ 0 → thenWork told a es ≡ workRefusal a es
-unfolding thenWork
+pub work-met : (told : ℕ) (a : Allowance) (es : List Step) → told ≡ 0 → then_work told a es ≡ work_refusal a es
+unfolding then_work
 work-met told a es h = rw h
 
 -- a larger allowance alters no refusal but 18
-pub larger-call : (told : ℕ) (a b : Allowance) → a noMoreThan b → (es : List Step) → (thenWork told a es ≡ 18 → ⊥) → thenWork told b es ≡ thenWork told a es
-unfolding thenWork
+pub larger-call : (told : ℕ) (a b : Allowance) → a no_more_than b → (es : List Step) → (then_work told a es ≡ 18 → ⊥) → then_work told b es ≡ then_work told a es
+unfolding then_work
 larger-call zero a b h es n = larger-work a b h es n
 larger-call (suc told) a b h es n = work-told (suc told) b es (λ (z : suc told ≡ 0). omega arith) ∙ sym (work-told (suc told) a es (λ (z : suc told ≡ 0). omega arith))
 
 -- without a limit there is no 18 but from the input
-pub unlimited-call : (told : ℕ) (es : List Step) → (told ≡ 18 → ⊥) → thenWork told Unlimited es ≡ 18 → ⊥
-unfolding thenWork
+pub unlimited-call : (told : ℕ) (es : List Step) → (told ≡ 18 → ⊥) → then_work told Unlimited es ≡ 18 → ⊥
+unfolding then_work
 unlimited-call zero es n h = unlimited-met es h
 unlimited-call (suc told) es n h = n (sym (work-told (suc told) Unlimited es (λ (z : suc told ≡ 0). omega arith)) ∙ h)
 
 -- accepted: neither the input nor the work is refused, and every number computed is finite
-pub work-accepted : (told : ℕ) (a : Allowance) (es : List Step) → thenWork told a es ≡ 0 → (told ≡ 0) × (workRefusal a es ≡ 0) × T (allFinite (numbersIn es))
-unfolding thenWork workRefusal
-work-accepted told a es h = let (none, met) = then-none told (workRefusal a es) h in (none, met, all-finite _ es met)
+pub work-accepted : (told : ℕ) (a : Allowance) (es : List Step) → then_work told a es ≡ 0 → (told ≡ 0) × (work_refusal a es ≡ 0) × T (all_finite (numbers_in es))
+unfolding then_work work_refusal
+work-accepted told a es h = let (none, met) = then-none told (work_refusal a es) h in (none, met, all-finite _ es met)
 
 -- of work that computes numbers and no more
-pub work-numbers : (told : ℕ) (xs : List Float) → thenWork told Unlimited (computing xs) ≡ thenComputed told xs
-unfolding thenWork workRefusal thenComputed
-work-numbers told xs = ap (λ (k : ℕ). cond (eqb told 0) k told) (numbers-met _ xs ∙ turned (allFinite xs))
+pub work-numbers : (told : ℕ) (xs : List Float) → then_work told Unlimited (computing xs) ≡ then_computed told xs
+unfolding then_work work_refusal then_computed
+work-numbers told xs = ap (λ (k : ℕ). cond (eqb told 0) k told) (numbers-met _ xs ∙ turned (all_finite xs))
   where
     turned : (b : Bool) → ◌≡◌ {A = ℕ} (cond b 0 20) (cond (not b) 20 0)
     turned true = refl

@@ -1,6 +1,6 @@
 -- The refusals by number, and the answers that carry them. 0 is no refusal.
 use Rattle.std.specs.Prelude.{ℕ, zero, suc, Bool, not, cond, List, eqb, Float}
-use Rattle.binary64.specs.Values.{allFinite}
+use Rattle.binary64.specs.Values.{all_finite}
 use Rattle.refusals.specs.declared.Outcome.{Outcome}
 use Rattle.refusals.specs.declared.Outcome.TheVariants.{Done, Refused}
 use Rattle.refusals.specs.declared.Counted.{Counted}
@@ -13,74 +13,74 @@ limit = 256
 -- ---- told from the input
 
 -- more buses or branches than the limit, or a list longer than it
-abbrev pub tooMany : ℕ
-tooMany = 1
+abbrev pub too_many : ℕ
+too_many = 1
 
 -- a matrix, output or work slice is not of its exact length, or a list of bus numbers not as long as the size
-abbrev pub wrongLength : ℕ
-wrongLength = 2
+abbrev pub wrong_length : ℕ
+wrong_length = 2
 
 -- branch lists differ in length, or injections or voltages don't match the external or REI list
-abbrev pub listsDiffer : ℕ
-listsDiffer = 3
+abbrev pub lists_differ : ℕ
+lists_differ = 3
 
 -- REI with no bus
-abbrev pub noBus : ℕ
-noBus = 4
+abbrev pub no_bus : ℕ
+no_bus = 4
 
 -- a solve or inverse of size 0, or a right side of another length
-abbrev pub emptySystem : ℕ
-emptySystem = 5
+abbrev pub empty_system : ℕ
+empty_system = 5
 
 -- a branch end not below the number of buses, or, of a branch in service, that the study's list of numbers lacks
-abbrev pub noSuchEnd : ℕ
-noSuchEnd = 6
+abbrev pub no_such_end : ℕ
+no_such_end = 6
 
 -- a Ward list names a bus that the study's list of numbers lacks
-abbrev pub noSuchBus : ℕ
-noSuchBus = 7
+abbrev pub no_such_bus : ℕ
+no_such_bus = 7
 
 -- a number stands twice in the list that a reducer, a Ward study or a bus matrix is made with, or a bus in the Ward lists together
-abbrev pub busTwice : ℕ
-busTwice = 8
+abbrev pub bus_twice : ℕ
+bus_twice = 8
 
 -- a record that no making or removal can have left, in its active rows or in its numbers
-abbrev pub badRecord : ℕ
-badRecord = 9
+abbrev pub bad_record : ℕ
+bad_record = 9
 
 -- a given number is not finite, told last
-abbrev pub givenNotFinite : ℕ
-givenNotFinite = 19
+abbrev pub given_not_finite : ℕ
+given_not_finite = 19
 
 -- ---- told from the state
 
 -- the bus is not active
-abbrev pub notActive : ℕ
-notActive = 11
+abbrev pub not_active : ℕ
+not_active = 11
 
 -- the bus's own entry is too small to divide by
-abbrev pub smallEntry : ℕ
-smallEntry = 12
+abbrev pub small_entry : ℕ
+small_entry = 12
 
 -- a chosen pivot is too small to divide by
 abbrev pub singular : ℕ
 singular = 13
 
 -- a branch in service has a series impedance too small to divide by
-abbrev pub smallImpedance : ℕ
-smallImpedance = 14
+abbrev pub small_impedance : ℕ
+small_impedance = 14
 
 -- a branch in service has a phase shift
-abbrev pub phaseShift : ℕ
-phaseShift = 15
+abbrev pub phase_shift : ℕ
+phase_shift = 15
 
 -- the next row reduction would exceed the allowance
-abbrev pub beyondAllowance : ℕ
-beyondAllowance = 18
+abbrev pub beyond_allowance : ℕ
+beyond_allowance = 18
 
 -- a computed number is not finite
-abbrev pub computedNotFinite : ℕ
-computedNotFinite = 20
+abbrev pub computed_not_finite : ℕ
+computed_not_finite = 20
 
 -- ---- the answers
 
@@ -93,14 +93,14 @@ abbrev pub instead : ℕ → ℕ → ℕ
 instead told next = cond (eqb told 0) next told
 
 -- the refusal of an input: the one told from lengths, lists and record, else 19 where a number given is not finite
-unfoldable pub thenGiven : ℕ → List Float → ℕ
-unfolding allFinite
-thenGiven told given = cond (eqb told 0) (refuse (not (allFinite given)) givenNotFinite 0) told
+unfoldable pub then_given : ℕ → List Float → ℕ
+unfolding all_finite
+then_given told given = cond (eqb told 0) (refuse (not (all_finite given)) given_not_finite 0) told
 
 -- the refusal of a call that computes these numbers and meets nothing else: the input's, else 20 where one is not finite
-unfoldable pub thenComputed : ℕ → List Float → ℕ
-unfolding allFinite
-thenComputed told computed = cond (eqb told 0) (refuse (not (allFinite computed)) computedNotFinite 0) told
+unfoldable pub then_computed : ℕ → List Float → ℕ
+unfolding all_finite
+then_computed told computed = cond (eqb told 0) (refuse (not (all_finite computed)) computed_not_finite 0) told
 
 -- the answer of a call with this refusal
 unfoldable pub outcome : ℕ → Outcome
@@ -118,6 +118,6 @@ counted rows zero = counts.Reduced rows
 counted rows (suc k) = counts.Refused (suc k)
 
 -- the number of such an answer
-unfoldable pub countedNumber : Counted → ℕ
-countedNumber (counts.Reduced rows) = 0
-countedNumber (counts.Refused k) = k
+unfoldable pub counted_number : Counted → ℕ
+counted_number (counts.Reduced rows) = 0
+counted_number (counts.Refused k) = k

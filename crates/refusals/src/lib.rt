@@ -74,7 +74,7 @@ pub enum Counted {
 
 // The refusal's number, 0 where there is none.
 pub fn counted_number(answer: Counted) -> u32
-    ensures { result ≡ spec.countedNumber answer }
+    ensures { result ≡ spec.counted_number answer }
 {
     match answer {
         Counted::Reduced(_) => 0,
@@ -84,7 +84,7 @@ pub fn counted_number(answer: Counted) -> u32
 
 // The allowance as a number of row reductions, the largest there is where it has no limit.
 pub fn allowed_rows(allowance: Allowance) -> usize
-    ensures { result ≡ work.allowedRows allowance }
+    ensures { result ≡ work.allowed_rows allowance }
 {
     match allowance {
         Allowance::Unlimited => 0xffff_ffff_ffff_ffff,

@@ -1,12 +1,12 @@
 -- The REI definitions computed by the checker on a study of three buses.
 use Rattle.prelude.proofs.Prelude.{◌≡◌, refl, List, [], ◌∷◌, ◌++◌, ℕ, ◌+◌, T, replicate, Float, nan, inf, false, binary64, of_int, of_bits, of_fields, neg, add, mul, div, sum, round, units, odd, lt, size, span, climb}
 use lib.Count.{count_trailing_zeros}
-use Rattle.complex.specs.{plus0, one, smallMagnitude, tieThreshold, cneg, divided_by, sqmag, entry, abs, magnitude, entry_at}
+use Rattle.complex.specs.{plus0, one, small_magnitude, tie_threshold, cneg, divided_by, sqmag, entry, abs, magnitude, entry_at}
 use Rattle.lists.specs.Buses.{up_to}
-use Rattle.binary64.specs.Values.{allFinite}
-use Rattle.binary64.specs.Root.{root, rootOf, radicand, half, wholeRoot, movedBack}
-use Rattle.refusals.specs.Refusals.{limit, thenGiven, thenComputed}
-use Rattle.rei_equivalent.specs.Rei.{ReiInput, total, partialSums, spoke, ofSpoke, spokeParts, ofSpokes, isTie, rowTies, upperTies, allTies, tieEnds, tieParts, tieRoom, reiBuses, reiSize, spokesOf, tiesOf, sized, reiLengthRefusal, reiShapeRefusal, ofRei, reiRefusal, equivalentOf, AfterRei}
+use Rattle.binary64.specs.Values.{all_finite}
+use Rattle.binary64.specs.Root.{root, root_of, radicand, half, whole_root, moved_back}
+use Rattle.refusals.specs.Refusals.{limit, then_given, then_computed}
+use Rattle.rei_equivalent.specs.Rei.{ReiInput, total, partial_sums, spoke, of_spoke, spoke_parts, of_spokes, is_tie, row_ties, upper_ties, all_ties, tie_ends, tie_parts, tie_room, rei_buses, rei_size, spokes_of, ties_of, sized, rei_length_refusal, rei_shape_refusal, of_rei, rei_refusal, equivalent_of, AfterRei}
 use Rattle.rei_equivalent.specs.declared.ReiAnswer.{ReiAnswer}
 use Rattle.rei_equivalent.specs.declared.ReiAnswer.TheVariants.{Done}
 use Rattle.rei_equivalent.proofs.ReiFinite.{rei-finite}
@@ -45,57 +45,57 @@ study =
       entries = matrix;
       p = minus-zero ∷ two ∷ one' ∷ [];
       q = minus-zero ∷ minus-zero ∷ minus-zero ∷ [];
-      busId = 17;
-      spokeBuses = replicate 3 8;
+      bus_id = 17;
+      spoke_buses = replicate 3 8;
       spokes = replicate 6 nan;
-      tieBuses = replicate 6 8;
+      tie_buses = replicate 6 8;
       ties = replicate 6 nan;
     }
 
-accepted : (reiRefusal study ≡ 0) × (reiBuses study ≡ 5 ∷ 9 ∷ 2 ∷ [])
-unfolding study matrix reiRefusal reiShapeRefusal reiLengthRefusal sized reiSize reiBuses tieRoom thenGiven thenComputed ofRei partialSums ofSpokes ofSpoke magnitude root rootOf radicand half wholeRoot movedBack sqmag entry_at entry up_to plus0 smallMagnitude lt add mul div of_int sum round units odd size span climb count_trailing_zeros of_bits of_fields
+accepted : (rei_refusal study ≡ 0) × (rei_buses study ≡ 5 ∷ 9 ∷ 2 ∷ [])
+unfolding study matrix rei_refusal rei_shape_refusal rei_length_refusal sized rei_size rei_buses tie_room then_given then_computed of_rei partial_sums of_spokes of_spoke magnitude root root_of radicand half whole_root moved_back sqmag entry_at entry up_to plus0 small_magnitude lt add mul div of_int sum round units odd size span climb count_trailing_zeros of_bits of_fields
 accepted = (refl, refl)
 
 -- the same by `ReiFinite.accepted`, whose premises it meets
-premises : (reiShapeRefusal study ≡ 0) × T (allFinite (study.entries ++ (study.p ++ study.q))) × T (allFinite (ofRei (reiSize study) study.entries study.p study.q))
-unfolding study matrix reiRefusal reiShapeRefusal reiLengthRefusal sized reiSize reiBuses tieRoom thenGiven thenComputed ofRei partialSums ofSpokes ofSpoke magnitude root rootOf radicand half wholeRoot movedBack sqmag entry_at entry up_to plus0 smallMagnitude lt add mul div of_int sum round units odd size span climb count_trailing_zeros of_bits of_fields
+premises : (rei_shape_refusal study ≡ 0) × T (all_finite (study.entries ++ (study.p ++ study.q))) × T (all_finite (of_rei (rei_size study) study.entries study.p study.q))
+unfolding study matrix rei_refusal rei_shape_refusal rei_length_refusal sized rei_size rei_buses tie_room then_given then_computed of_rei partial_sums of_spokes of_spoke magnitude root root_of radicand half whole_root moved_back sqmag entry_at entry up_to plus0 small_magnitude lt add mul div of_int sum round units odd size span climb count_trailing_zeros of_bits of_fields
 premises = (refl, tt, tt)
 
-by-law : (r : ReiAnswer) (buses ends : List ℕ) (spokes ties : List Float) → AfterRei study r buses spokes ends ties → r ≡ Done (equivalentOf study)
+by-law : (r : ReiAnswer) (buses ends : List ℕ) (spokes ties : List Float) → AfterRei study r buses spokes ends ties → r ≡ Done (equivalent_of study)
 by-law r buses ends spokes ties after =
     let (shape, given, computed) = premises in
     (rei-finite.accepted study r buses spokes ends ties after shape given computed).0
 
 -- the sum of a list of -0 is +0
-answer : equivalentOf study ≡ record { rei_bus_id = 17; rei_voltage_pu = one'; rei_p_mw = three; rei_q_mvar = zero'; n_ties = 2 }
-unfolding study matrix equivalentOf tiesOf allTies upperTies rowTies isTie total reiSize reiBuses entry_at entry up_to plus0 one tieThreshold abs lt add neg sum round units odd size span climb count_trailing_zeros of_bits of_fields cneg
+answer : equivalent_of study ≡ record { rei_bus_id = 17; rei_voltage_pu = one'; rei_p_mw = three; rei_q_mvar = zero'; n_ties = 2 }
+unfolding study matrix equivalent_of ties_of all_ties upper_ties row_ties is_tie total rei_size rei_buses entry_at entry up_to plus0 one tie_threshold abs lt add neg sum round units odd size span climb count_trailing_zeros of_bits of_fields cneg
 answer = refl
 
 -- a third of the diagonal; none where its magnitude is just 1e-12, or 0
-spokes : spokesOf study ≡ one' ∷ minus-two ∷ zero' ∷ zero' ∷ zero' ∷ zero' ∷ []
-unfolding study matrix spokesOf reiSize spokeParts spoke divided_by magnitude root rootOf radicand half wholeRoot movedBack sqmag entry_at entry up_to plus0 smallMagnitude lt add mul div of_int sum round units odd size span climb count_trailing_zeros of_bits of_fields
+spokes : spokes_of study ≡ one' ∷ minus-two ∷ zero' ∷ zero' ∷ zero' ∷ zero' ∷ []
+unfolding study matrix spokes_of rei_size spoke_parts spoke divided_by magnitude root root_of radicand half whole_root moved_back sqmag entry_at entry up_to plus0 small_magnitude lt add mul div of_int sum round units odd size span climb count_trailing_zeros of_bits of_fields
 spokes = refl
 
 -- each part negated, a zero too
-ties : (tieEnds (tiesOf study) ≡ 5 ∷ 9 ∷ 9 ∷ 2 ∷ []) × (tieParts (tiesOf study) ≡ one' ∷ minus-two ∷ minus-zero ∷ two ∷ [])
-unfolding study matrix tiesOf allTies upperTies rowTies isTie tieEnds tieParts reiSize reiBuses entry_at entry up_to tieThreshold abs lt neg of_bits of_fields size span climb odd count_trailing_zeros cneg
+ties : (tie_ends (ties_of study) ≡ 5 ∷ 9 ∷ 9 ∷ 2 ∷ []) × (tie_parts (ties_of study) ≡ one' ∷ minus-two ∷ minus-zero ∷ two ∷ [])
+unfolding study matrix ties_of all_ties upper_ties row_ties is_tie tie_ends tie_parts rei_size rei_buses entry_at entry up_to tie_threshold abs lt neg of_bits of_fields size span climb odd count_trailing_zeros cneg
 ties = (refl, refl)
 
 -- ---- refusals, by the number of buses, of P and of Q, and whether the lengths are right
 
 -- too many buses, or too many injections
-refused-many : (reiLengthRefusal (limit + 1) (limit + 1) (limit + 1) (sized (limit + 1) 0 0 0 0 0) ≡ 1)
-    × (reiLengthRefusal 1 (limit + 1) 1 (sized 1 2 1 2 0 0) ≡ 1)
-unfolding reiLengthRefusal
+refused-many : (rei_length_refusal (limit + 1) (limit + 1) (limit + 1) (sized (limit + 1) 0 0 0 0 0) ≡ 1)
+    × (rei_length_refusal 1 (limit + 1) 1 (sized 1 2 1 2 0 0) ≡ 1)
+unfolding rei_length_refusal
 refused-many = (refl, refl)
 
 -- a wrong length, unlike injections; no bus with a matrix is 2, with injections 3, and otherwise 4
-refused : (reiLengthRefusal 1 0 1 (sized 1 2 1 2 0 1) ≡ 2)
-    × (reiLengthRefusal 1 0 1 (sized 1 2 1 2 0 0) ≡ 3)
-    × (reiLengthRefusal 0 0 0 (sized 0 2 0 0 0 0) ≡ 2)
-    × (reiLengthRefusal 0 1 1 (sized 0 0 0 0 0 0) ≡ 3)
-    × (reiLengthRefusal 0 0 0 (sized 0 0 0 0 0 0) ≡ 4)
-unfolding reiLengthRefusal sized tieRoom
+refused : (rei_length_refusal 1 0 1 (sized 1 2 1 2 0 1) ≡ 2)
+    × (rei_length_refusal 1 0 1 (sized 1 2 1 2 0 0) ≡ 3)
+    × (rei_length_refusal 0 0 0 (sized 0 2 0 0 0 0) ≡ 2)
+    × (rei_length_refusal 0 1 1 (sized 0 0 0 0 0 0) ≡ 3)
+    × (rei_length_refusal 0 0 0 (sized 0 0 0 0 0 0) ≡ 4)
+unfolding rei_length_refusal sized tie_room
 refused = (refl, refl, refl, refl, refl)
 
 -- ---- numbers that are not finite
@@ -109,19 +109,19 @@ alone y p q =
       entries = y ∷ zero' ∷ [];
       p = p;
       q = q;
-      busId = 17;
-      spokeBuses = replicate 1 8;
+      bus_id = 17;
+      spoke_buses = replicate 1 8;
       spokes = replicate 2 nan;
-      tieBuses = [];
+      tie_buses = [];
       ties = [];
     }
 
 -- an entry, P or Q given; after unlike injections
-given-refused : (reiRefusal (alone nan (one' ∷ []) (one' ∷ [])) ≡ 19)
-    × (reiRefusal (alone one' (inf false ∷ []) (one' ∷ [])) ≡ 19)
-    × (reiRefusal (alone one' (one' ∷ []) (nan ∷ [])) ≡ 19)
-    × (reiRefusal (alone nan (one' ∷ one' ∷ []) (one' ∷ [])) ≡ 3)
-unfolding alone reiRefusal reiShapeRefusal reiLengthRefusal sized reiSize tieRoom thenGiven thenComputed of_bits of_fields odd count_trailing_zeros
+given-refused : (rei_refusal (alone nan (one' ∷ []) (one' ∷ [])) ≡ 19)
+    × (rei_refusal (alone one' (inf false ∷ []) (one' ∷ [])) ≡ 19)
+    × (rei_refusal (alone one' (one' ∷ []) (nan ∷ [])) ≡ 19)
+    × (rei_refusal (alone nan (one' ∷ one' ∷ []) (one' ∷ [])) ≡ 3)
+unfolding alone rei_refusal rei_shape_refusal rei_length_refusal sized rei_size tie_room then_given then_computed of_bits of_fields odd count_trailing_zeros
 given-refused = (refl, refl, refl, refl)
 
 -- 2 ^ 512, whose square is not finite though it is given, and 2 ^ 511
@@ -131,14 +131,14 @@ square-overflows = of_bits binary64 0x5ff0000000000000
 abbrev square-fits : Float
 square-fits = of_bits binary64 0x5fe0000000000000
 
-computed-refused : (reiRefusal (alone square-overflows (one' ∷ []) (one' ∷ [])) ≡ 20)
-    × (reiRefusal (alone square-fits (one' ∷ []) (one' ∷ [])) ≡ 0)
-unfolding alone reiRefusal reiShapeRefusal reiLengthRefusal sized reiSize tieRoom thenGiven thenComputed ofRei partialSums ofSpokes ofSpoke magnitude root rootOf radicand half wholeRoot movedBack sqmag entry_at entry up_to plus0 smallMagnitude lt add mul div of_int sum round units odd size span climb count_trailing_zeros of_bits of_fields
+computed-refused : (rei_refusal (alone square-overflows (one' ∷ []) (one' ∷ [])) ≡ 20)
+    × (rei_refusal (alone square-fits (one' ∷ []) (one' ∷ [])) ≡ 0)
+unfolding alone rei_refusal rei_shape_refusal rei_length_refusal sized rei_size tie_room then_given then_computed of_rei partial_sums of_spokes of_spoke magnitude root root_of radicand half whole_root moved_back sqmag entry_at entry up_to plus0 small_magnitude lt add mul div of_int sum round units odd size span climb count_trailing_zeros of_bits of_fields
 computed-refused = (refl, refl)
 
 -- a sum of P that is not finite on the way or at its end, and one of Q
-sums-refused : (thenComputed 0 (ofRei 0 [] (largest ∷ largest ∷ []) []) ≡ 20)
-    × (thenComputed 0 (ofRei 0 [] [] (largest ∷ largest ∷ [])) ≡ 20)
-    × (thenComputed 0 (ofRei 0 [] (largest ∷ []) (largest ∷ [])) ≡ 0)
-unfolding thenComputed ofRei partialSums ofSpokes up_to plus0 add sum round units odd size span climb count_trailing_zeros of_bits of_fields
+sums-refused : (then_computed 0 (of_rei 0 [] (largest ∷ largest ∷ []) []) ≡ 20)
+    × (then_computed 0 (of_rei 0 [] [] (largest ∷ largest ∷ [])) ≡ 20)
+    × (then_computed 0 (of_rei 0 [] (largest ∷ []) (largest ∷ [])) ≡ 0)
+unfolding then_computed of_rei partial_sums of_spokes up_to plus0 add sum round units odd size span climb count_trailing_zeros of_bits of_fields
 sums-refused = (refl, refl, refl)

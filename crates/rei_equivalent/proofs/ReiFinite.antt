@@ -1,38 +1,38 @@
 -- What an accepted call of `compute` answers and writes is finite: sums and spokes are computed, ties are given entries with their signs turned.
 -- And nothing finite is refused.
 use Rattle.prelude.proofs.Prelude.{◌≡◌, refl, sym, subst, Bool, true, false, cond, List, [], ◌∷◌, ◌++◌, ℕ, zero, suc, ◌+◌, ◌*◌, ◌<◌, arith, T, ltb, ltb→lt, length, get_or, Float, nan, inf, fin, neg, of_bits, lt, and_l, and_r, finite, is_true}
-use Rattle.binary64.specs.Values.{allFinite}
-use Rattle.complex.specs.{Complex, Matrix, plus0, one, smallMagnitude, magnitude, cneg, czero, divided_by, entry, entry_at, zeros, ◌⊘◌}
-use Rattle.complex.specs.Leaves.{ofMagnitude}
+use Rattle.binary64.specs.Values.{all_finite}
+use Rattle.complex.specs.{Complex, Matrix, plus0, one, small_magnitude, magnitude, cneg, czero, divided_by, entry, entry_at, zeros, ◌⊘◌}
+use Rattle.complex.specs.Leaves.{of_magnitude}
 use Rattle.complex.proofs.Finite.{none, all_more, all_join, all_left, all_right, all-at, first_of, rest_of}
 use Rattle.complex.proofs.Sticky.{Finite}
 use Rattle.complex.proofs.Matrices.{entry-within}
 use Rattle.lists.specs.Buses.{up_to, all_below}
-use Rattle.lists.proofs.Buses.{all-below-upTo}
+use Rattle.lists.proofs.Buses.{all-below-up_to}
 use Rattle.refusals.proofs.Numbers.{given-none, computed-none, given-all, computed-all}
 use Rattle.rei_equivalent.specs.declared.ReiEquivalent.{ReiEquivalent}
 use Rattle.rei_equivalent.specs.declared.ReiAnswer.{ReiAnswer}
 use Rattle.rei_equivalent.specs.declared.ReiAnswer.TheVariants.{Done}
-use Rattle.rei_equivalent.specs.Rei.{ReiInput, ReiFinite, Tie, total, partialSums, spoke, ofSpoke, spokeParts, ofSpokes, isTie, rowTies, upperTies, tieParts, allTies, tiesOf, spokesOf, unused, reiBuses, reiSize, reiShapeRefusal, ofRei, reiRefusal, equivalentOf, reiAnswer, reiNumber, numbersOf}
+use Rattle.rei_equivalent.specs.Rei.{ReiInput, ReiFinite, Tie, total, partial_sums, spoke, of_spoke, spoke_parts, of_spokes, is_tie, row_ties, upper_ties, tie_parts, all_ties, ties_of, spokes_of, unused, rei_buses, rei_size, rei_shape_refusal, of_rei, rei_refusal, equivalent_of, rei_answer, rei_number, numbers_of}
 use Rattle.rei_equivalent.proofs.ReiNumbers.{plus0-finite, sum_tells}
 use Rattle.rei_equivalent.proofs.ReiAnswers.{rei-accepted}
 
 -- ---- spokes
 
-spoke-finite : (n : Float) (y : Complex) → T (allFinite (ofSpoke n y)) → Finite (spoke n y)
-unfolding ofSpoke spoke divided_by
-spoke-finite n y h = go (lt smallMagnitude (magnitude y)) (all_right (ofMagnitude y) _ h)
+spoke-finite : (n : Float) (y : Complex) → T (all_finite (of_spoke n y)) → Finite (spoke n y)
+unfolding of_spoke spoke divided_by
+spoke-finite n y h = go (lt small_magnitude (magnitude y)) (all_right (of_magnitude y) _ h)
   where
-    go : (strong : Bool) → T (allFinite (cond strong (n ∷ y.re ⊘ n ∷ y.im ⊘ n ∷ []) [])) → Finite (cond strong (divided_by y n) czero)
+    go : (strong : Bool) → T (all_finite (cond strong (n ∷ y.re ⊘ n ∷ y.im ⊘ n ∷ []) [])) → Finite (cond strong (divided_by y n) czero)
     go true k = let shares = rest_of n _ k in (first_of (y.re ⊘ n) _ shares, first_of (y.im ⊘ n) [] (rest_of (y.re ⊘ n) _ shares))
     go false k = (plus0-finite, plus0-finite)
 
-spokes-finite : (n : Float) (Y : Matrix) (is : List ℕ) → T (allFinite (ofSpokes n Y is)) → T (allFinite (spokeParts n Y is))
-unfolding ofSpokes spokeParts
+spokes-finite : (n : Float) (Y : Matrix) (is : List ℕ) → T (all_finite (of_spokes n Y is)) → T (all_finite (spoke_parts n Y is))
+unfolding of_spokes spoke_parts
 spokes-finite n Y [] h = none
 spokes-finite n Y (i ∷ is) h =
-    let (re, im) = spoke-finite n (Y i i) (all_left (ofSpoke n (Y i i)) (ofSpokes n Y is) h) in
-    all_more _ _ re (all_more _ _ im (spokes-finite n Y is (all_right (ofSpoke n (Y i i)) (ofSpokes n Y is) h)))
+    let (re, im) = spoke-finite n (Y i i) (all_left (of_spoke n (Y i i)) (of_spokes n Y is) h) in
+    all_more _ _ re (all_more _ _ im (spokes-finite n Y is (all_right (of_spoke n (Y i i)) (of_spokes n Y is) h)))
 
 -- ---- ties
 
@@ -46,49 +46,49 @@ head-below : (n i : ℕ) (is : List ℕ) → T (all_below n (i ∷ is)) → (i <
 unfolding all_below
 head-below n i is h = (ltb→lt i n (and_l (ltb i n) (all_below n is) h), and_r (ltb i n) (all_below n is) h)
 
-parts_join : (ts us : List Tie) → T (allFinite (tieParts ts)) → T (allFinite (tieParts us)) → T (allFinite (tieParts (ts ++ us)))
-unfolding tieParts
+parts_join : (ts us : List Tie) → T (all_finite (tie_parts ts)) → T (all_finite (tie_parts us)) → T (all_finite (tie_parts (ts ++ us)))
+unfolding tie_parts
 parts_join [] us h k = k
 parts_join (t ∷ ts) us h k =
     let rest = rest_of t.admittance.re _ h in
     all_more _ _ (first_of t.admittance.re _ h) (all_more _ _ (first_of t.admittance.im _ rest) (parts_join ts us (rest_of t.admittance.im _ rest) k))
 
 row-finite : (n : ℕ) (buses : List ℕ) (ys : ℕ → Complex) (i : ℕ) (js : List ℕ) → T (all_below n js) → ((j : ℕ) → j < n → Finite (ys j))
-    → T (allFinite (tieParts (rowTies buses ys i js)))
-unfolding rowTies tieParts cneg
+    → T (all_finite (tie_parts (row_ties buses ys i js)))
+unfolding row_ties tie_parts cneg
 row-finite n buses ys i [] b h = none
 row-finite n buses ys i (j ∷ js) b h =
     let (l, bs) = head-below n j js b in
-    go (isTie (ys j)) (h j l) (row-finite n buses ys i js bs h)
+    go (is_tie (ys j)) (h j l) (row-finite n buses ys i js bs h)
   where
-    go : (tie : Bool) → Finite (ys j) → T (allFinite (tieParts (rowTies buses ys i js)))
-        → T (allFinite (tieParts (cond tie (record { first = get_or buses i 0; second = get_or buses j 0; admittance = cneg (ys j) } ∷ rowTies buses ys i js) (rowTies buses ys i js))))
+    go : (tie : Bool) → Finite (ys j) → T (all_finite (tie_parts (row_ties buses ys i js)))
+        → T (all_finite (tie_parts (cond tie (record { first = get_or buses i 0; second = get_or buses j 0; admittance = cneg (ys j) } ∷ row_ties buses ys i js) (row_ties buses ys i js))))
     go true (re, im) rest = all_more _ _ (neg-finite (ys j).re re) (all_more _ _ (neg-finite (ys j).im im) rest)
     go false f rest = rest
 
 upper-finite : (n : ℕ) (buses : List ℕ) (Y : Matrix) (is : List ℕ) → T (all_below n is) → ((i j : ℕ) → i < n → j < n → Finite (Y i j))
-    → T (allFinite (tieParts (upperTies buses Y is)))
-unfolding upperTies tieParts
+    → T (all_finite (tie_parts (upper_ties buses Y is)))
+unfolding upper_ties tie_parts
 upper-finite n buses Y [] b h = none
 upper-finite n buses Y (i ∷ is) b h =
     let (l, bs) = head-below n i is b in
-    parts_join (rowTies buses (Y i) i is) (upperTies buses Y is) (row-finite n buses (Y i) i is bs (λ j k. h i j l k)) (upper-finite n buses Y is bs h)
+    parts_join (row_ties buses (Y i) i is) (upper_ties buses Y is) (row-finite n buses (Y i) i is bs (λ j k. h i j l k)) (upper-finite n buses Y is bs h)
 
-entries-finite : (n : ℕ) (ys : List Float) → length ys ≡ 2 * (n * n) → T (allFinite ys) → (i j : ℕ) → i < n → j < n → Finite (entry_at n ys i j)
+entries-finite : (n : ℕ) (ys : List Float) → length ys ≡ 2 * (n * n) → T (all_finite ys) → (i j : ℕ) → i < n → j < n → Finite (entry_at n ys i j)
 unfolding entry_at entry
 entries-finite n ys size h i j l k =
     let within = entry-within n n i j l k in
     (all-at ys (2 * (i * n + j)) (omega arith) h, all-at ys (2 * (i * n + j) + 1) (omega arith) h)
 
-zeros-finite : (k : ℕ) → T (allFinite (zeros k))
+zeros-finite : (k : ℕ) → T (all_finite (zeros k))
 unfolding zeros
 zeros-finite zero = none
 zeros-finite (suc k) = all_more plus0 _ plus0-finite (zeros-finite k)
 
 -- ---- the call
 
-accepted : (f : ℕ) (e : ReiEquivalent) → reiNumber (reiAnswer f e) ≡ 0 → f ≡ 0
-unfolding reiAnswer
+accepted : (f : ℕ) (e : ReiEquivalent) → rei_number (rei_answer f e) ≡ 0 → f ≡ 0
+unfolding rei_answer
 accepted zero e h = refl
 accepted (suc f) e h = h
 
@@ -96,55 +96,55 @@ one-finite : T (finite one)
 unfolding one of_bits
 one-finite = tt
 
-module _ (g : ReiInput) (z : reiRefusal g ≡ 0) where
-  told : ((reiShapeRefusal g ≡ 0) × T (allFinite (g.entries ++ (g.p ++ g.q)))) × T (allFinite (ofRei (reiSize g) g.entries g.p g.q))
-  unfolding reiRefusal
+module _ (g : ReiInput) (z : rei_refusal g ≡ 0) where
+  told : ((rei_shape_refusal g ≡ 0) × T (all_finite (g.entries ++ (g.p ++ g.q)))) × T (all_finite (of_rei (rei_size g) g.entries g.p g.q))
+  unfolding rei_refusal
   told = let (t, computed) = computed-none _ _ z in (given-none _ _ t, computed)
 
   sums : T (finite (total g.p)) × T (finite (total g.q))
-  unfolding ofRei
+  unfolding of_rei
   sums =
-      let after = all_right (partialSums plus0 g.p) _ told.1 in
-      (subst T (sym (sum_tells g.p)) (all_left (partialSums plus0 g.p) _ told.1), subst T (sym (sum_tells g.q)) (all_left (partialSums plus0 g.q) _ after))
+      let after = all_right (partial_sums plus0 g.p) _ told.1 in
+      (subst T (sym (sum_tells g.p)) (all_left (partial_sums plus0 g.p) _ told.1), subst T (sym (sum_tells g.q)) (all_left (partial_sums plus0 g.q) _ after))
 
-  answer-finite : T (allFinite (numbersOf (reiAnswer (reiRefusal g) (equivalentOf g))))
-  unfolding numbersOf reiAnswer equivalentOf
+  answer-finite : T (all_finite (numbers_of (rei_answer (rei_refusal g) (equivalent_of g))))
+  unfolding numbers_of rei_answer equivalent_of
   answer-finite = rw z (all_more one _ one-finite (all_more (total g.p) _ sums.0 (all_more (total g.q) [] sums.1 none)))
 
-  spokes-are : T (allFinite (spokesOf g))
-  unfolding spokesOf ofRei
-  spokes-are = spokes-finite _ _ (up_to (reiSize g)) (all_right (partialSums plus0 g.q) _ (all_right (partialSums plus0 g.p) _ told.1))
+  spokes-are : T (all_finite (spokes_of g))
+  unfolding spokes_of of_rei
+  spokes-are = spokes-finite _ _ (up_to (rei_size g)) (all_right (partial_sums plus0 g.q) _ (all_right (partial_sums plus0 g.p) _ told.1))
 
-  ties-are : T (allFinite (tieParts (tiesOf g) ++ zeros (unused g)))
-  unfolding tiesOf allTies reiShapeRefusal
+  ties-are : T (all_finite (tie_parts (ties_of g) ++ zeros (unused g)))
+  unfolding ties_of all_ties rei_shape_refusal
   ties-are =
       let lengths = rei-accepted 0 _ _ _ _ _ _ _ _ (sym told.0.0) refl in
-      all_join (tieParts (tiesOf g)) (zeros (unused g))
-      (upper-finite (reiSize g) (reiBuses g) (entry_at (reiSize g) g.entries) (up_to (reiSize g)) (all-below-upTo (reiSize g))
-      (entries-finite (reiSize g) g.entries lengths.1 (all_left g.entries _ told.0.1)))
+      all_join (tie_parts (ties_of g)) (zeros (unused g))
+      (upper-finite (rei_size g) (rei_buses g) (entry_at (rei_size g) g.entries) (up_to (rei_size g)) (all-below-up_to (rei_size g))
+      (entries-finite (rei_size g) g.entries lengths.1 (all_left g.entries _ told.0.1)))
       (zeros-finite (unused g))
 
-not-refused : (g : ReiInput) → reiShapeRefusal g ≡ 0 → T (allFinite (g.entries ++ (g.p ++ g.q))) → T (allFinite (ofRei (reiSize g) g.entries g.p g.q)) → reiRefusal g ≡ 0
-unfolding reiRefusal
+not-refused : (g : ReiInput) → rei_shape_refusal g ≡ 0 → T (all_finite (g.entries ++ (g.p ++ g.q))) → T (all_finite (of_rei (rei_size g) g.entries g.p g.q)) → rei_refusal g ≡ 0
+unfolding rei_refusal
 not-refused g shape given computed =
     let numbers = g.entries ++ (g.p ++ g.q) in
-    let told = given-all 0 (reiShapeRefusal g) numbers (sym shape) refl (is_true (allFinite numbers) given) in
-    sym (computed-all 0 _ (ofRei (reiSize g) g.entries g.p g.q) told refl (is_true (allFinite (ofRei (reiSize g) g.entries g.p g.q)) computed))
+    let told = given-all 0 (rei_shape_refusal g) numbers (sym shape) refl (is_true (all_finite numbers) given) in
+    sym (computed-all 0 _ (of_rei (rei_size g) g.entries g.p g.q) told refl (is_true (all_finite (of_rei (rei_size g) g.entries g.p g.q)) computed))
 
-answered : (f : ℕ) (e : ReiEquivalent) (r : ReiAnswer) → f ≡ 0 → r ≡ reiAnswer f e → r ≡ Done e
-unfolding reiAnswer
+answered : (f : ℕ) (e : ReiEquivalent) (r : ReiAnswer) → f ≡ 0 → r ≡ rei_answer f e → r ≡ Done e
+unfolding rei_answer
 answered f e r z a = rw z at a
 
 pub rei-finite : ReiFinite
 rei-finite =
     record {
       outputs-finite = λ g r buses spokes ends ties after h.
-          let z = accepted (reiRefusal g) (equivalentOf g) (subst (λ (a : ReiAnswer). reiNumber a ≡ 0) after.answer h) in (
-            subst (λ (a : ReiAnswer). T (allFinite (numbersOf a))) (sym after.answer) (answer-finite g z),
-            subst (λ (xs : List Float). T (allFinite xs)) (sym (rw z at after.spokesAre)) (spokes-are g z),
-            subst (λ (xs : List Float). T (allFinite xs)) (sym (rw z at after.tiesAre)) (ties-are g z),
+          let z = accepted (rei_refusal g) (equivalent_of g) (subst (λ (a : ReiAnswer). rei_number a ≡ 0) after.answer h) in (
+            subst (λ (a : ReiAnswer). T (all_finite (numbers_of a))) (sym after.answer) (answer-finite g z),
+            subst (λ (xs : List Float). T (all_finite xs)) (sym (rw z at after.spokes_are)) (spokes-are g z),
+            subst (λ (xs : List Float). T (all_finite xs)) (sym (rw z at after.ties_are)) (ties-are g z),
           );
       accepted = λ g r buses spokes ends ties after shape given computed.
           let z = not-refused g shape given computed in
-          (answered (reiRefusal g) (equivalentOf g) r z after.answer, rw z at after.spokeBusesAre, rw z at after.spokesAre, rw z at after.tieBusesAre, rw z at after.tiesAre);
+          (answered (rei_refusal g) (equivalent_of g) r z after.answer, rw z at after.spoke_buses_are, rw z at after.spokes_are, rw z at after.tie_buses_are, rw z at after.ties_are);
     }

@@ -5,9 +5,9 @@ use lib.Seq.{drop_at, length-sets, sets-eq}
 use Rattle.complex.specs.{Complex, entry, put, Matrix, entry_at, cneg}
 use Rattle.complex.proofs.Matrices.{entry-part}
 use Rattle.lists.specs.Buses.{up_to}
-use Rattle.lists.proofs.Order.{length-upTo, getD-upTo}
-use Rattle.lists.proofs.Stores.{upTo-here, upTo-end}
-use Rattle.rei_equivalent.specs.Rei.{Tie, spoke, spokeParts, isTie, rowTies, upperTies, tieEnds, tieParts, tieRoom, allTies}
+use Rattle.lists.proofs.Order.{length-up_to, get_or-up_to}
+use Rattle.lists.proofs.Stores.{up_to-here, up_to-end}
+use Rattle.rei_equivalent.specs.Rei.{Tie, spoke, spoke_parts, is_tie, row_ties, upper_ties, tie_ends, tie_parts, tie_room, all_ties}
 
 -- ---- stores
 
@@ -46,14 +46,14 @@ module _ {ℓ} {A : Type ℓ} where
 -- ---- spokes
 
 pub spoke-step : (c : Float) (Y : Matrix) (n i : ℕ) (l : List Float) → i < n
-    → sets (put l i (spoke c (Y i i))) (2 * (i + 1)) (spokeParts c Y (drop (i + 1) (up_to n))) ≡ sets l (2 * i) (spokeParts c Y (drop i (up_to n)))
-unfolding spokeParts put
-spoke-step c Y n i l h = rw (upTo-here n i h) (sets-two l i (spoke c (Y i i)).re (spoke c (Y i i)).im (spokeParts c Y (drop (i + 1) (up_to n))))
+    → sets (put l i (spoke c (Y i i))) (2 * (i + 1)) (spoke_parts c Y (drop (i + 1) (up_to n))) ≡ sets l (2 * i) (spoke_parts c Y (drop i (up_to n)))
+unfolding spoke_parts put
+spoke-step c Y n i l h = rw (up_to-here n i h) (sets-two l i (spoke c (Y i i)).re (spoke c (Y i i)).im (spoke_parts c Y (drop (i + 1) (up_to n))))
 
-pub length-spokeParts : (c : Float) (Y : Matrix) (is : List ℕ) → length (spokeParts c Y is) ≡ 2 * length is
-unfolding spokeParts
-length-spokeParts c Y [] = refl
-length-spokeParts c Y (i ∷ is) = let e = length-spokeParts c Y is in omega arith
+pub length-spoke_parts : (c : Float) (Y : Matrix) (is : List ℕ) → length (spoke_parts c Y is) ≡ 2 * length is
+unfolding spoke_parts
+length-spoke_parts c Y [] = refl
+length-spoke_parts c Y (i ∷ is) = let e = length-spoke_parts c Y is in omega arith
 
 -- ---- ties
 
@@ -62,12 +62,12 @@ pub record Flat {A : Type 0} (F : List Tie → List A) (f g : Tie → A) : Type 
   pub none : F [] ≡ []
   pub more : (t : Tie) (ts : List Tie) → F (t ∷ ts) ≡ f t ∷ g t ∷ F ts
 
-pub ends-flat : Flat tieEnds (λ t. t.first) (λ t. t.second)
-unfolding tieEnds
+pub ends-flat : Flat tie_ends (λ t. t.first) (λ t. t.second)
+unfolding tie_ends
 ends-flat = record { none = refl; more = λ t ts. refl }
 
-pub parts-flat : Flat tieParts (λ t. t.admittance.re) (λ t. t.admittance.im)
-unfolding tieParts
+pub parts-flat : Flat tie_parts (λ t. t.admittance.re) (λ t. t.admittance.im)
+unfolding tie_parts
 parts-flat = record { none = refl; more = λ t ts. refl }
 
 module _ {A : Type 0} {F : List Tie → List A} {f g : Tie → A} (flat : Flat F f g) where
@@ -96,66 +96,66 @@ count-one false t r k = refl
 
 -- one row, from bus j on
 module _ (buses : List ℕ) (ys : ℕ → Complex) (i n : ℕ) where
-  abbrev pub tieTo : ℕ → Tie
-  tieTo j = record { first = get_or buses i 0; second = get_or buses j 0; admittance = cneg (ys j) }
+  abbrev pub tie_to : ℕ → Tie
+  tie_to j = record { first = get_or buses i 0; second = get_or buses j 0; admittance = cneg (ys j) }
 
-  abbrev pub leftInRow : ℕ → List Tie
-  leftInRow j = rowTies buses ys i (drop j (up_to n))
+  abbrev pub left_in_row : ℕ → List Tie
+  left_in_row j = row_ties buses ys i (drop j (up_to n))
 
-  pub row_step : (j : ℕ) → j < n → leftInRow j ≡ cond (isTie (ys j)) (tieTo j ∷ leftInRow (j + 1)) (leftInRow (j + 1))
-  unfolding rowTies
-  row_step j h = rw (upTo-here n j h)
+  pub row_step : (j : ℕ) → j < n → left_in_row j ≡ cond (is_tie (ys j)) (tie_to j ∷ left_in_row (j + 1)) (left_in_row (j + 1))
+  unfolding row_ties
+  row_step j h = rw (up_to-here n j h)
 
-  pub row_done : (j : ℕ) → n ≤ j → leftInRow j ≡ []
-  unfolding rowTies
-  row_done j h = rw (upTo-end n j h)
+  pub row_done : (j : ℕ) → n ≤ j → left_in_row j ≡ []
+  unfolding row_ties
+  row_done j h = rw (up_to-end n j h)
 
 pub one_more : (b : Bool) (k : ℕ) → cond b (k + 1) k ≤ k + 1
 one_more true k = omega arith
 one_more false k = omega arith
 
 -- at most one for each bus
-pub few-ties : (buses : List ℕ) (ys : ℕ → Complex) (i : ℕ) (js : List ℕ) → length (rowTies buses ys i js) ≤ length js
-unfolding rowTies
+pub few-ties : (buses : List ℕ) (ys : ℕ → Complex) (i : ℕ) (js : List ℕ) → length (row_ties buses ys i js) ≤ length js
+unfolding row_ties
 few-ties buses ys i [] = omega arith
 few-ties buses ys i (j ∷ js) =
     let h = few-ties buses ys i js in
-    let e = count-one (isTie (ys j)) (tieTo buses ys i 0 j) (rowTies buses ys i js) 0 in
-    omega (arith, one_more (isTie (ys j)) 0)
+    let e = count-one (is_tie (ys j)) (tie_to buses ys i 0 j) (row_ties buses ys i js) 0 in
+    omega (arith, one_more (is_tie (ys j)) 0)
 
 -- the same entries make the same ties
-rowTies-same : (buses : List ℕ) (ys zs : ℕ → Complex) (i : ℕ) (js : List ℕ) → ((k : ℕ) → k < length js → ys (get_or js k 0) ≡ zs (get_or js k 0))
-    → rowTies buses ys i js ≡ rowTies buses zs i js
-unfolding rowTies
-rowTies-same buses ys zs i [] h = refl
-rowTies-same buses ys zs i (j ∷ js) h =
-    rw (h 0 (omega arith), rowTies-same buses ys zs i js (λ k l. h (suc k) (omega arith)))
+row_ties-same : (buses : List ℕ) (ys zs : ℕ → Complex) (i : ℕ) (js : List ℕ) → ((k : ℕ) → k < length js → ys (get_or js k 0) ≡ zs (get_or js k 0))
+    → row_ties buses ys i js ≡ row_ties buses zs i js
+unfolding row_ties
+row_ties-same buses ys zs i [] h = refl
+row_ties-same buses ys zs i (j ∷ js) h =
+    rw (h 0 (omega arith), row_ties-same buses ys zs i js (λ k l. h (suc k) (omega arith)))
 
 -- a row as a part of the matrix
 pub row-part : (buses : List ℕ) (n w a i k : ℕ) (y : List Float) → w ≡ 2 * n → a ≡ 2 * (i * n)
-    → rowTies buses (entry (take w (drop a y))) i (drop k (up_to n)) ≡ rowTies buses (entry_at n y i) i (drop k (up_to n))
+    → row_ties buses (entry (take w (drop a y))) i (drop k (up_to n)) ≡ row_ties buses (entry_at n y i) i (drop k (up_to n))
 row-part buses n w a i k y e f =
-    rowTies-same buses (entry (take w (drop a y))) (entry_at n y i) i (drop k (up_to n)) λ (q : ℕ) (h : q < length (drop k (up_to n))).
+    row_ties-same buses (entry (take w (drop a y))) (entry_at n y i) i (drop k (up_to n)) λ (q : ℕ) (h : q < length (drop k (up_to n))).
     let z = length-drop k (up_to n) in
-    let u = length-upTo n in
+    let u = length-up_to n in
     let b : k + q < n = omega arith in
-    rw (get_or-drop k (up_to n) q 0, getD-upTo n (k + q) 0 b, e, f) (entry-part n y i (k + q) b)
+    rw (get_or-drop k (up_to n) q 0, get_or-up_to n (k + q) 0 b, e, f) (entry-part n y i (k + q) b)
 
 -- all rows, from bus i on
 module _ (buses : List ℕ) (Y : Matrix) (n : ℕ) where
-  abbrev pub leftInAll : ℕ → List Tie
-  leftInAll i = upperTies buses Y (drop i (up_to n))
+  abbrev pub left_in_all : ℕ → List Tie
+  left_in_all i = upper_ties buses Y (drop i (up_to n))
 
-  abbrev pub ofRow : ℕ → List Tie
-  ofRow i = rowTies buses (Y i) i (drop (i + 1) (up_to n))
+  abbrev pub of_row : ℕ → List Tie
+  of_row i = row_ties buses (Y i) i (drop (i + 1) (up_to n))
 
-  pub all-step : (i : ℕ) → i < n → leftInAll i ≡ ofRow i ++ leftInAll (i + 1)
-  unfolding upperTies
-  all-step i h = rw (upTo-here n i h)
+  pub all-step : (i : ℕ) → i < n → left_in_all i ≡ of_row i ++ left_in_all (i + 1)
+  unfolding upper_ties
+  all-step i h = rw (up_to-here n i h)
 
-  pub all_done : (i : ℕ) → n ≤ i → leftInAll i ≡ []
-  unfolding upperTies
-  all_done i h = rw (upTo-end n i h)
+  pub all_done : (i : ℕ) → n ≤ i → left_in_all i ≡ []
+  unfolding upper_ties
+  all_done i h = rw (up_to-end n i h)
 
 -- ---- room
 
@@ -167,8 +167,8 @@ own_square zero = omega arith
 own_square (suc n) = le-mul_of_pos_right (suc n) (omega arith)
 
 -- one bus more has a tie with each of the others
-pub room-step : (q : ℕ) → tieRoom (suc q) ≡ 2 * q + tieRoom q
-unfolding tieRoom
+pub room-step : (q : ℕ) → tie_room (suc q) ≡ 2 * q + tie_room q
+unfolding tie_room
 room-step q =
     let a = suc-mul q (suc q) in
     let b = mul-suc q q in
@@ -176,16 +176,16 @@ room-step q =
     rw (room-is (suc q), room-is q) (omega arith)
 
 -- the ties of n buses fit their slices
-pub upper-fit : (buses : List ℕ) (Y : Matrix) (is : List ℕ) → 2 * length (upperTies buses Y is) ≤ tieRoom (length is)
-unfolding upperTies
+pub upper-fit : (buses : List ℕ) (Y : Matrix) (is : List ℕ) → 2 * length (upper_ties buses Y is) ≤ tie_room (length is)
+unfolding upper_ties
 upper-fit buses Y [] = omega arith
 upper-fit buses Y (i ∷ is) =
     let a = upper-fit buses Y is in
     let b = few-ties buses (Y i) i is in
     let c = room-step (length is) in
-    let d = length-append (rowTies buses (Y i) i is) (upperTies buses Y is) in
+    let d = length-append (row_ties buses (Y i) i is) (upper_ties buses Y is) in
     omega arith
 
-pub ties-fit : (n : ℕ) (ys : List Float) (buses : List ℕ) → 2 * length (allTies n ys buses) ≤ tieRoom n
-unfolding allTies
-ties-fit n ys buses = rw length-upTo at (upper-fit buses (entry_at n ys) (up_to n))
+pub ties-fit : (n : ℕ) (ys : List Float) (buses : List ℕ) → 2 * length (all_ties n ys buses) ≤ tie_room n
+unfolding all_ties
+ties-fit n ys buses = rw length-up_to at (upper-fit buses (entry_at n ys) (up_to n))

@@ -17,7 +17,7 @@ pub fn refusal(
     tie_buses: usize,
     ties: usize,
 ) -> u32
-    ensures { result ≡ spec.reiLengthRefusal n p q (spec.sized n y spoke_buses spokes tie_buses ties) }
+    ensures { result ≡ spec.rei_length_refusal n p q (spec.sized n y spoke_buses spokes tie_buses ties) }
 {
     if over(n, p, q, 0) {
         return TOO_MANY;

@@ -34,7 +34,7 @@ pub enum ReiAnswer {
 
 // The refusal's number, 0 where there is none.
 pub fn number_of(answer: ReiAnswer) -> u32
-    ensures { result ≡ spec.reiNumber answer }
+    ensures { result ≡ spec.rei_number answer }
 {
     match answer {
         ReiAnswer::Done(_) => 0,
@@ -63,10 +63,10 @@ pub fn compute(
           entries = y_sub.now;
           p = p_inj.now;
           q = q_inj.now;
-          busId = next_bus_id;
-          spokeBuses = spoke_buses.old;
+          bus_id = next_bus_id;
+          spoke_buses = spoke_buses.old;
           spokes = spokes.old;
-          tieBuses = tie_buses.old;
+          tie_buses = tie_buses.old;
           ties = ties.old;
         })
         result spoke_buses.new spokes.new tie_buses.new ties.new }

@@ -3,7 +3,7 @@ ghost use Rattle.std.specs.Prelude.{◌≡◌, ◌&&◌, ◌++◌, ◌<◌, ◌�
 ghost use Rattle.std.specs.Float.{binary64};
 ghost use Rattle.std.specs.Float.Ieee.{of_int};
 ghost use Rattle.std.specs.Float.Ieee.Scale as scale;
-ghost use Rattle.binary64.specs.Values.{allFinite};
+ghost use Rattle.binary64.specs.Values.{all_finite};
 ghost use Rattle.complex.specs.Matrices as matrices;
 ghost use Rattle.lists.specs.Buses.{up_to};
 ghost use Rattle.refusals.specs.Refusals as refusals;
@@ -14,7 +14,7 @@ use binary64::finite::{all_finite, finite};
 
 // Whether the matrix and the injections are finite.
 pub fn given_finite(y: &[f64], p: &[f64], q: &[f64]) -> bool
-    ensures { result ≡ allFinite (y.now ++ (p.now ++ q.now)) }
+    ensures { result ≡ all_finite (y.now ++ (p.now ++ q.now)) }
 {
     if !all_finite(y) {
         return false;
@@ -31,7 +31,7 @@ pub fn computed_finite(p: f64, q: f64, n: usize, y: &[f64]) -> bool
         × (n ≤ refusals.limit)
         × (length y.now ≡ 2 * (n * n)) }
     ensures { result ≡ (scale.finite p && (scale.finite q
-        && allFinite (spec.ofSpokes (of_int binary64 (pos n)) (matrices.entry_at n y.now) (up_to n)))) }
+        && all_finite (spec.of_spokes (of_int binary64 (pos n)) (matrices.entry_at n y.now) (up_to n)))) }
 {
     if !finite(p) {
         return false;

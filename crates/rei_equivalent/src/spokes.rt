@@ -2,11 +2,11 @@
 ghost use Rattle.std.specs.Prelude.{◌≡◌, ◌<◌, ◌≤◌, ◌*◌, length, pos};
 ghost use Rattle.std.specs.Float.{binary64};
 ghost use Rattle.std.specs.Float.Ieee.{lt, of_int};
-ghost use Rattle.binary64.specs.Values.{allFinite};
+ghost use Rattle.binary64.specs.Values.{all_finite};
 ghost use Rattle.complex.specs.Matrices as matrices;
 ghost use Rattle.lists.specs.Buses.{up_to};
 ghost use Rattle.complex.specs.Magnitude as magnitudes;
-ghost use Rattle.complex.specs.Constants.{smallMagnitude};
+ghost use Rattle.complex.specs.Constants.{small_magnitude};
 ghost use Rattle.refusals.specs.Refusals as refusals;
 ghost use Rattle.rei_equivalent.specs.Rei as spec;
 
@@ -21,7 +21,7 @@ pub fn spoke_all(n: usize, y: &[f64], spokes: &mut [f64])
     requires { (n ≤ refusals.limit)
         × (length y.now ≡ 2 * (n * n))
         × (length spokes.old ≡ 2 * n) }
-    ensures { spokes.new ≡ spec.spokeParts (of_int binary64 (pos n)) (matrices.entry_at n y.now) (up_to n) }
+    ensures { spokes.new ≡ spec.spoke_parts (of_int binary64 (pos n)) (matrices.entry_at n y.now) (up_to n) }
 {
     let count = n as f64;
     let mut i = 0;
@@ -46,7 +46,7 @@ fn spoke(n: f64, y: Complex) -> Complex
 // Whether the magnitude is above SMALL_MAGNITUDE. Of a square above 2^-78 no root is taken: it is not below 2^-39, which is above
 // SMALL_MAGNITUDE.
 fn has_spoke(y: Complex) -> bool
-    ensures { result ≡ lt smallMagnitude (magnitudes.magnitude y) }
+    ensures { result ≡ lt small_magnitude (magnitudes.magnitude y) }
 {
     if sqmag(y) > 3.308722450212111e-24 {
         return true;
@@ -59,7 +59,7 @@ pub fn spokes_finite(n: usize, y: &[f64]) -> bool
     requires { (0 < n)
         × (n ≤ refusals.limit)
         × (length y.now ≡ 2 * (n * n)) }
-    ensures { result ≡ allFinite (spec.ofSpokes (of_int binary64 (pos n)) (matrices.entry_at n y.now) (up_to n)) }
+    ensures { result ≡ all_finite (spec.of_spokes (of_int binary64 (pos n)) (matrices.entry_at n y.now) (up_to n)) }
 {
     let mut i = 0;
     let mut d = 0;
@@ -78,7 +78,7 @@ pub fn spokes_finite(n: usize, y: &[f64]) -> bool
 fn spoke_finite(n: usize, y: Complex) -> bool
     requires { (0 < n)
         × (n ≤ refusals.limit) }
-    ensures { result ≡ allFinite (spec.ofSpoke (of_int binary64 (pos n)) y) }
+    ensures { result ≡ all_finite (spec.of_spoke (of_int binary64 (pos n)) y) }
 {
     finite(sqmag(y))
 }

@@ -19,8 +19,8 @@ pub fn tie_all(n: usize, y: &[f64], buses: &[usize], ends: &mut [usize], ties: &
     requires n_le_limit { (n ≤ refusals.limit)
         × (length y.now ≡ 2 * (n * n))
         × (length buses.now ≡ n) }
-    requires ends_len { (length ends.old ≡ spec.tieRoom n)
-        × (length ties.old ≡ spec.tieRoom n) }
+    requires ends_len { (length ends.old ≡ spec.tie_room n)
+        × (length ties.old ≡ spec.tie_room n) }
     ensures { writing.TiesWritten n y.now buses.now result ends.new ties.new }
 {
     let count = tie_rows(n, y, buses, ends, ties);
@@ -36,9 +36,9 @@ fn tie_rows(n: usize, y: &[f64], buses: &[usize], ends: &mut [usize], ties: &mut
     requires n_le_limit { (n ≤ refusals.limit)
         × (length y.now ≡ 2 * (n * n))
         × (length buses.now ≡ n) }
-    requires ends_len { (length ends.old ≡ spec.tieRoom n)
-        × (length ties.old ≡ spec.tieRoom n) }
-    ensures { writing.RowWritten (spec.allTies n y.now buses.now) 0
+    requires ends_len { (length ends.old ≡ spec.tie_room n)
+        × (length ties.old ≡ spec.tie_room n) }
+    ensures { writing.RowWritten (spec.all_ties n y.now buses.now) 0
         ends.old ties.old result ends.new ties.new }
 {
     let w = 2 * n;
@@ -69,7 +69,7 @@ fn tie_row(
         × (length buses.now ≡ n) }
     requires i_in_bounds { (2 * (from + (n - (i + 1))) ≤ length ends.old)
         × (length ties.old ≡ length ends.old) }
-    ensures { writing.RowWritten (spec.rowTies buses.now (entries.entry row.now) i (drop (i + 1) (up_to n))) from
+    ensures { writing.RowWritten (spec.row_ties buses.now (entries.entry row.now) i (drop (i + 1) (up_to n))) from
         ends.old ties.old result ends.new ties.new }
 {
     let bus = buses[i];
@@ -93,9 +93,9 @@ fn tie_one(
 ) -> usize
     requires { (2 * count + 1 < length ends.old)
         × (length ties.old ≡ length ends.old) }
-    ensures value { result ≡ cond (spec.isTie y) (count + 1) count }
-    ensures ends_after { ends.new ≡ cond (spec.isTie y) (set (set ends.old (2 * count) first) (2 * count + 1) second) ends.old }
-    ensures ties_after { ties.new ≡ cond (spec.isTie y) (entries.put ties.old count (arithmetic.cneg y)) ties.old }
+    ensures value { result ≡ cond (spec.is_tie y) (count + 1) count }
+    ensures ends_after { ends.new ≡ cond (spec.is_tie y) (set (set ends.old (2 * count) first) (2 * count + 1) second) ends.old }
+    ensures ties_after { ties.new ≡ cond (spec.is_tie y) (entries.put ties.old count (arithmetic.cneg y)) ties.old }
 {
     if !is_tie(y) {
         return count;
@@ -108,7 +108,7 @@ fn tie_one(
 
 // Whether a part is above TIE_THRESHOLD, in per unit, in absolute value.
 fn is_tie(y: Complex) -> bool
-    ensures { result ≡ spec.isTie y }
+    ensures { result ≡ spec.is_tie y }
 {
     if abs(y.re) > TIE_THRESHOLD {
         return true;

@@ -1,14 +1,14 @@
 -- Refusals told from the input: what an accepted call has.
 use Rattle.prelude.proofs.Prelude.{◌≡◌, not, ◌&&◌, ◌||◌, List, ◌++◌, ℕ, ◌+◌, ◌*◌, ◌≤◌, arith, T, eqb, ltb, length, Float, ltb-false, and_i, and_l, and_r}
 use native.Mathlib.Nat.{mul-add}
-use Rattle.binary64.specs.Values.{allFinite}
+use Rattle.binary64.specs.Values.{all_finite}
 use Rattle.complex.proofs.Finite.{all_join, all_left, all_right}
 use Rattle.complex.proofs.Sticky.{same_test}
 use Rattle.refusals.specs.Refusals.{limit}
 use Rattle.refusals.proofs.Answering.{passed, accepting}
 use Rattle.refusals.proofs.Numbers.{given-none}
 use Rattle.lists.proofs.Buses.{neither}
-use Rattle.solver.specs.Calls.{solveShapeRefusal, solveRefusal, inverseShapeRefusal, inverseRefusal}
+use Rattle.solver.specs.Calls.{solve_shape_refusal, solve_refusal, inverse_shape_refusal, inverse_refusal}
 
 pub record SolveAccepted (n a b x work : ℕ) : Type 0 where
   pub size : n ≤ limit
@@ -17,8 +17,8 @@ pub record SolveAccepted (n a b x work : ℕ) : Type 0 where
   pub solution : x ≡ 2 * n
   pub room : work ≡ 2 * (n * (n + 1))
 
-pub solve-shaped : (n a b x work : ℕ) → solveShapeRefusal n a b x work ≡ 0 → SolveAccepted n a b x work
-unfolding solveShapeRefusal
+pub solve-shaped : (n a b x work : ℕ) → solve_shape_refusal n a b x work ≡ 0 → SolveAccepted n a b x work
+unfolding solve_shape_refusal
 solve-shaped n a b x work e =
     let (few, e2) = passed (ltb limit n) 0 _ e in
     let (lengths, e5) = passed (not (eqb a (2 * (n * n)) && (eqb x (2 * n) && eqb work (2 * (n * (n + 1)))))) 1 _ e2 in
@@ -32,8 +32,8 @@ pub record InverseAccepted (n mat inverse work : ℕ) : Type 0 where
   pub out : inverse ≡ 2 * (n * n)
   pub room : work ≡ 2 * (n * (n + n))
 
-pub inverse-shaped : (n mat inverse work : ℕ) → inverseShapeRefusal n mat inverse work ≡ 0 → InverseAccepted n mat inverse work
-unfolding inverseShapeRefusal
+pub inverse-shaped : (n mat inverse work : ℕ) → inverse_shape_refusal n mat inverse work ≡ 0 → InverseAccepted n mat inverse work
+unfolding inverse_shape_refusal
 inverse-shaped n mat inverse work e =
     let (few, e2) = passed (ltb limit n) 0 _ e in
     let (lengths, _) = passed (not (eqb mat (2 * (n * n)) && (eqb inverse (2 * (n * n)) && eqb work (4 * (n * n))))) 1 _ e2 in
@@ -44,24 +44,24 @@ inverse-shaped n mat inverse work e =
 
 -- ---- and its numbers are finite
 
-pub both-given : (xs ys : List Float) → allFinite (xs ++ ys) ≡ (allFinite xs && allFinite ys)
+pub both-given : (xs ys : List Float) → all_finite (xs ++ ys) ≡ (all_finite xs && all_finite ys)
 both-given xs ys =
-    same_test _ _ (λ (h : T (allFinite (xs ++ ys))). and_i (allFinite xs) (allFinite ys) (all_left xs ys h) (all_right xs ys h))
-    (λ (h : T (allFinite xs && allFinite ys)). all_join xs ys (and_l (allFinite xs) (allFinite ys) h) (and_r (allFinite xs) (allFinite ys) h))
+    same_test _ _ (λ (h : T (all_finite (xs ++ ys))). and_i (all_finite xs) (all_finite ys) (all_left xs ys h) (all_right xs ys h))
+    (λ (h : T (all_finite xs && all_finite ys)). all_join xs ys (and_l (all_finite xs) (all_finite ys) h) (and_r (all_finite xs) (all_finite ys) h))
 
 pub record SolveGiven (n : ℕ) (a b : List Float) (x work : ℕ) : Type 0 where
   pub shape : SolveAccepted n (length a) (length b) x work
-  pub system-finite : T (allFinite a)
-  pub right-finite : T (allFinite b)
+  pub system-finite : T (all_finite a)
+  pub right-finite : T (all_finite b)
 
-pub solve-accepted : (n : ℕ) (a b : List Float) (x work : ℕ) → solveRefusal n a b x work ≡ 0 → SolveGiven n a b x work
-unfolding solveRefusal
+pub solve-accepted : (n : ℕ) (a b : List Float) (x work : ℕ) → solve_refusal n a b x work ≡ 0 → SolveGiven n a b x work
+unfolding solve_refusal
 solve-accepted n a b x work e =
-    let (none, all) = given-none (solveShapeRefusal n (length a) (length b) x work) (a ++ b) e in
+    let (none, all) = given-none (solve_shape_refusal n (length a) (length b) x work) (a ++ b) e in
     record { shape = solve-shaped n (length a) (length b) x work none; system-finite = all_left a b all; right-finite = all_right a b all }
 
-pub inverse-accepted : (n : ℕ) (mat : List Float) (inverse work : ℕ) → inverseRefusal n mat inverse work ≡ 0 → InverseAccepted n (length mat) inverse work × T (allFinite mat)
-unfolding inverseRefusal
+pub inverse-accepted : (n : ℕ) (mat : List Float) (inverse work : ℕ) → inverse_refusal n mat inverse work ≡ 0 → InverseAccepted n (length mat) inverse work × T (all_finite mat)
+unfolding inverse_refusal
 inverse-accepted n mat inverse work e =
-    let (none, all) = given-none (inverseShapeRefusal n (length mat) inverse work) mat e in
+    let (none, all) = given-none (inverse_shape_refusal n (length mat) inverse work) mat e in
     (inverse-shaped n (length mat) inverse work none, all)

@@ -6,7 +6,7 @@ use Rattle.complex.specs.{Complex, unit, entry, put, Matrix, entry_at}
 use Rattle.lists.proofs.Parts.{back}
 use Rattle.complex.proofs.Entries.{entry-take, entry-drop, entry-back-before, entry-back-in, entry-back-after, entry-put-same, entry-put-other}
 use Rattle.complex.proofs.Matrices.{row_within, entry-within}
-use Rattle.solver.specs.Inner.Work.{Lies, with_row, placed, rightSides, withIdentity}
+use Rattle.solver.specs.Inner.Work.{Lies, with_row, placed, right_sides, with_identity}
 
 apart : (a b : ℕ) → (a ≡ b → ⊥) → (a < b) ⊎ (b < a)
 apart zero zero m = absurd (m refl)
@@ -23,8 +23,8 @@ module _ {n w at m i a e : ℕ} (lies : Lies n w at m i a e) (xs : List Float) w
   block-long : length xs ≡ 2 * (n * w) → length (take (e - a) (drop a xs)) ≡ 2 * m
   block-long full = length-take-le (e - a) (drop a xs) (rw length-drop (omega arith)) ∙ count
 
-  pub block_read : (j : ℕ) → j < m → entry (take (e - a) (drop a xs)) j ≡ rightSides at (entry_at w xs) i j
-  unfolding rightSides entry_at
+  pub block_read : (j : ℕ) → j < m → entry (take (e - a) (drop a xs)) j ≡ right_sides at (entry_at w xs) i j
+  unfolding right_sides entry_at
   block_read j h =
       rw (count, lies.begins) (entry-take m (drop (2 * (i * w + at)) xs) j h ∙ entry-drop (i * w + at) xs j ∙ ap (entry xs) (add_assoc (i * w) at j))
 
@@ -123,6 +123,6 @@ one-put n w i q ys v hi hq full r j hj = pick (eqb r i) refl
     pick true t = ap (λ (k : ℕ). entry (put ys (i * w + q) v) (k * w + j)) (eqb-true r i t) ∙ own (eqb j q) refl
     pick false t = entry-put-other ys (i * w + q) v (r * w + j) (far (apart r i (eqb-false r i t)))
 
-pub diagonal-same : (at i w : ℕ) (v : Complex) (A C : Matrix) → v ≡ unit → ((q : ℕ) → q < w → A i q ≡ C i q) → (q : ℕ) → q < w → cond (eqb q (at + i)) v (A i q) ≡ withIdentity at C i q
-unfolding withIdentity
+pub diagonal-same : (at i w : ℕ) (v : Complex) (A C : Matrix) → v ≡ unit → ((q : ℕ) → q < w → A i q ≡ C i q) → (q : ℕ) → q < w → cond (eqb q (at + i)) v (A i q) ≡ with_identity at C i q
+unfolding with_identity
 diagonal-same at i w v A C e h q k = ap (λ (x : Complex). cond (eqb q (at + i)) v x) (h q k) ∙ ap (λ (x : Complex). cond (eqb q (at + i)) x (C i q)) e

@@ -1,8 +1,8 @@
 -- Small systems computed from the definitions that the contracts cite: equal and incomparable pivots, a singular one, allowances around the count,
 -- numbers that are not finite, inverses, wrong lengths, and calls that meet the premises of the theorems.
 use Rattle.prelude.proofs.Prelude.{◌≡◌, refl, sym, ap, ◌∙◌, true, false, not, true≢false, List, [], ◌∷◌, ◌++◌, ℕ, ◌-◌, ◌*◌, ◌≤◌, arith, lit≤, T, eqb, length, replicate, Float, nan, inf, binary64, lt, add, sub, mul, div, of_bits}
-use Rattle.binary64.specs.Values.{allFinite}
-use Rattle.complex.specs.{Matrix, plus0, one, divisionLimit, csub, cmul, sqmag, cdiv, complexInv, abs, entry, entry_at, row, rows, grid, zeros}
+use Rattle.binary64.specs.Values.{all_finite}
+use Rattle.complex.specs.{Matrix, plus0, one, division_limit, csub, cmul, sqmag, cdiv, complex_inv, abs, entry, entry_at, row, rows, grid, zeros}
 use Rattle.lists.specs.Buses.{up_to}
 use Rattle.refusals.specs.declared.Allowance.{Allowance}
 use Rattle.refusals.specs.declared.Allowance.TheVariants.{Unlimited, Rows}
@@ -10,14 +10,14 @@ use Rattle.refusals.specs.declared.Outcome.{Outcome}
 use Rattle.refusals.specs.declared.Outcome.TheVariants as outcomes
 use Rattle.refusals.specs.declared.Counted.{Counted}
 use Rattle.refusals.specs.declared.Counted.TheVariants.{Reduced, Refused}
-use Rattle.refusals.specs.Refusals.{thenGiven, outcome, counted, countedNumber, wrongLength, emptySystem, givenNotFinite, singular, beyondAllowance, computedNotFinite}
-use Rattle.refusals.specs.Work.{computing, numbersIn, reductions, meets, granted, workRefusal, thenWork, ◌noMoreThan◌}
-use Rattle.solver.specs.GaussJordan.{stays, heldAfter, pivotRow, swapped, scaled, reduced, pivoted, cleared, gaussJordanFrom, gaussJordan, pairsIn, pairsFrom, pairs, augmented, solution, singularSystem}
-use Rattle.solver.specs.Solving.{operations, isSingular, skipped, unitColumn}
-use Rattle.solver.specs.Steps.{workings, ofSearch, ofScaling, ofReducing, stepsOfRow, stepsOfRows, stepsFrom, stepsOfRun, stepsOfSolve, stepsOfInverse}
+use Rattle.refusals.specs.Refusals.{then_given, outcome, counted, counted_number, wrong_length, empty_system, given_not_finite, singular, beyond_allowance, computed_not_finite}
+use Rattle.refusals.specs.Work.{computing, numbers_in, reductions, meets, granted, work_refusal, then_work, ◌no_more_than◌}
+use Rattle.solver.specs.GaussJordan.{stays, held_after, pivot_row, swapped, scaled, reduced, pivoted, cleared, gauss_jordan_from, gauss_jordan, pairs_in, pairs_from, pairs, augmented, solution, singular_system}
+use Rattle.solver.specs.Solving.{operations, is_singular, skipped, unit_column}
+use Rattle.solver.specs.Steps.{workings, of_search, of_scaling, of_reducing, steps_of_row, steps_of_rows, steps_from, steps_of_run, steps_of_solve, steps_of_inverse}
 use Rattle.solver.proofs.Allowances.{solve-allowances}
 use Rattle.solver.proofs.FiniteAnswers.{accepted-answers}
-use Rattle.solver.specs.Calls.{AfterElimination, solveShapeRefusal, solveRefusal, inverseShapeRefusal, inverseRefusal, afterSolve, afterInverse, afterElimination}
+use Rattle.solver.specs.Calls.{AfterElimination, solve_shape_refusal, solve_refusal, inverse_shape_refusal, inverse_refusal, after_solve, after_inverse, after_elimination}
 
 -- +0, 1, -1, 2, 3, 4, 5 and 0.5
 abbrev o : Float
@@ -46,7 +46,7 @@ half = of_bits binary64 0x3fe0000000000000
 
 -- to open this is to open all that the cases compute with
 opened : Unit {0}
-unfolding allFinite thenGiven computing reductions meets granted workRefusal thenWork counted ofSearch ofScaling ofReducing stepsOfRow stepsOfRows stepsFrom stepsOfRun stepsOfSolve stepsOfInverse plus0 one divisionLimit csub cmul sqmag cdiv complexInv abs entry up_to entry_at row rows grid zeros outcome stays heldAfter pivotRow swapped scaled reduced pivoted cleared gaussJordanFrom gaussJordan pairsIn pairsFrom pairs augmented solution singularSystem skipped unitColumn solveShapeRefusal solveRefusal inverseShapeRefusal inverseRefusal afterSolve afterInverse afterElimination lt add sub mul div of_bits
+unfolding all_finite then_given computing reductions meets granted work_refusal then_work counted of_search of_scaling of_reducing steps_of_row steps_of_rows steps_from steps_of_run steps_of_solve steps_of_inverse plus0 one division_limit csub cmul sqmag cdiv complex_inv abs entry up_to entry_at row rows grid zeros outcome stays held_after pivot_row swapped scaled reduced pivoted cleared gauss_jordan_from gauss_jordan pairs_in pairs_from pairs augmented solution singular_system skipped unit_column solve_shape_refusal solve_refusal inverse_shape_refusal inverse_refusal after_solve after_inverse after_elimination lt add sub mul div of_bits
 opened = tt
 
 -- 1, 1 / 1, 4 with right side 0, 1: the first column's pivots are equal, and the upper row is taken. The lower one would give the first answer as bfd5555555555554.
@@ -54,7 +54,7 @@ abbrev tie : List Float
 tie = p1 ∷ o ∷ p1 ∷ o ∷ p1 ∷ o ∷ p4 ∷ o ∷ []
 
 abbrev tied : Allowance → AfterElimination Counted
-tied allowance = afterSolve 2 tie (o ∷ o ∷ p1 ∷ o ∷ []) allowance (replicate 4 m1) (replicate 12 m1)
+tied allowance = after_solve 2 tie (o ∷ o ∷ p1 ∷ o ∷ []) allowance (replicate 4 m1) (replicate 12 m1)
 
 upper-row : tied Unlimited ≡ record { answer = Reduced 2; output = of_bits binary64 0xbfd5555555555555 ∷ o ∷ of_bits binary64 0x3fd5555555555555 ∷ o ∷ []; work = zeros 12 }
 unfolding opened
@@ -65,7 +65,7 @@ exact : tied (Rows 2) ≡ tied Unlimited
 unfolding opened
 exact = refl
 
-one-too-few : tied (Rows 1) ≡ record { answer = Refused beyondAllowance; output = replicate 4 m1; work = zeros 12 }
+one-too-few : tied (Rows 1) ≡ record { answer = Refused beyond_allowance; output = replicate 4 m1; work = zeros 12 }
 unfolding opened
 one-too-few = refl
 
@@ -73,35 +73,35 @@ one-too-few = refl
 abbrev lost : List Float
 lost = nan ∷ o ∷ o ∷ o ∷ o ∷ o ∷ p1 ∷ o ∷ []
 
-nan-held : pivotRow operations 2 (entry_at 2 lost) 0 ≡ 0
+nan-held : pivot_row operations 2 (entry_at 2 lost) 0 ≡ 0
 unfolding opened
 nan-held = refl
 
-nan-given : afterSolve 2 lost (p1 ∷ o ∷ p1 ∷ o ∷ []) (Rows 1) (replicate 4 m1) (replicate 12 m1) ≡ record { answer = Refused givenNotFinite; output = replicate 4 m1; work = replicate 12 m1 }
+nan-given : after_solve 2 lost (p1 ∷ o ∷ p1 ∷ o ∷ []) (Rows 1) (replicate 4 m1) (replicate 12 m1) ≡ record { answer = Refused given_not_finite; output = replicate 4 m1; work = replicate 12 m1 }
 unfolding opened
 nan-given = refl
 
-infinite-right : (afterSolve 2 tie (o ∷ o ∷ p1 ∷ inf true ∷ []) (Rows 1) (replicate 4 m1) (replicate 12 m1)).answer ≡ Refused givenNotFinite
+infinite-right : (after_solve 2 tie (o ∷ o ∷ p1 ∷ inf true ∷ []) (Rows 1) (replicate 4 m1) (replicate 12 m1)).answer ≡ Refused given_not_finite
 unfolding opened
 infinite-right = refl
 
-nan-without-room : (afterSolve 2 lost (p1 ∷ o ∷ p1 ∷ o ∷ []) (Rows 1) (replicate 4 m1) (replicate 11 m1)).answer ≡ Refused wrongLength
+nan-without-room : (after_solve 2 lost (p1 ∷ o ∷ p1 ∷ o ∷ []) (Rows 1) (replicate 4 m1) (replicate 11 m1)).answer ≡ Refused wrong_length
 unfolding opened
 nan-without-room = refl
 
-nan-without-side : (afterSolve 2 lost (p1 ∷ o ∷ p1 ∷ []) (Rows 1) (replicate 4 m1) (replicate 12 m1)).answer ≡ Refused emptySystem
+nan-without-side : (after_solve 2 lost (p1 ∷ o ∷ p1 ∷ []) (Rows 1) (replicate 4 m1) (replicate 12 m1)).answer ≡ Refused empty_system
 unfolding opened
 nan-without-side = refl
 
 -- 2, 0 / 0, 4: every factor is skipped, and an allowance of 0 is enough
-none-reduced : afterSolve 2 (p2 ∷ o ∷ o ∷ o ∷ o ∷ o ∷ p4 ∷ o ∷ []) (p1 ∷ o ∷ p2 ∷ o ∷ []) (Rows 0) (replicate 4 m1) (replicate 12 m1)
+none-reduced : after_solve 2 (p2 ∷ o ∷ o ∷ o ∷ o ∷ o ∷ p4 ∷ o ∷ []) (p1 ∷ o ∷ p2 ∷ o ∷ []) (Rows 0) (replicate 4 m1) (replicate 12 m1)
     ≡ record { answer = Reduced 0; output = half ∷ o ∷ half ∷ o ∷ []; work = zeros 12 }
 unfolding opened
 none-reduced = refl
 
 -- 1, 1 / 1, 1 is singular: the output is as it was, the work slice is cleared
 abbrev flat : Allowance → AfterElimination Counted
-flat allowance = afterSolve 2 (p1 ∷ o ∷ p1 ∷ o ∷ p1 ∷ o ∷ p1 ∷ o ∷ []) (p2 ∷ o ∷ o ∷ o ∷ []) allowance (replicate 4 m1) (m1 ∷ o ∷ o ∷ o ∷ o ∷ o ∷ o ∷ o ∷ o ∷ o ∷ o ∷ p1 ∷ [])
+flat allowance = after_solve 2 (p1 ∷ o ∷ p1 ∷ o ∷ p1 ∷ o ∷ p1 ∷ o ∷ []) (p2 ∷ o ∷ o ∷ o ∷ []) allowance (replicate 4 m1) (m1 ∷ o ∷ o ∷ o ∷ o ∷ o ∷ o ∷ o ∷ o ∷ o ∷ o ∷ p1 ∷ [])
 
 singular-pair : flat Unlimited ≡ record { answer = Refused singular; output = replicate 4 m1; work = zeros 12 }
 unfolding opened
@@ -112,19 +112,19 @@ pivot-first : flat (Rows 1) ≡ flat Unlimited
 unfolding opened
 pivot-first = refl
 
-reduction-first : flat (Rows 0) ≡ record { answer = Refused beyondAllowance; output = replicate 4 m1; work = zeros 12 }
+reduction-first : flat (Rows 0) ≡ record { answer = Refused beyond_allowance; output = replicate 4 m1; work = zeros 12 }
 unfolding opened
 reduction-first = refl
 
 -- -1, 4 / 1, 0 with right side 2, -1: of the equal pivots the upper row is taken, and both rows are reduced. The lower one's zero would be skipped.
 abbrev skew : Allowance → AfterElimination Counted
-skew allowance = afterSolve 2 (m1 ∷ o ∷ p4 ∷ o ∷ p1 ∷ o ∷ o ∷ o ∷ []) (p2 ∷ o ∷ m1 ∷ o ∷ []) allowance (replicate 4 m1) (replicate 12 m1)
+skew allowance = after_solve 2 (m1 ∷ o ∷ p4 ∷ o ∷ p1 ∷ o ∷ o ∷ o ∷ []) (p2 ∷ o ∷ m1 ∷ o ∷ []) allowance (replicate 4 m1) (replicate 12 m1)
 
 two-reduced : (skew (Rows 2)).answer ≡ Reduced 2
 unfolding opened
 two-reduced = refl
 
-second-exceeds : (skew (Rows 1)).answer ≡ Refused beyondAllowance
+second-exceeds : (skew (Rows 1)).answer ≡ Refused beyond_allowance
 unfolding opened
 second-exceeds = refl
 
@@ -137,13 +137,13 @@ abbrev p7 : Float
 p7 = of_bits binary64 0x401c000000000000
 
 abbrev slight : Allowance → AfterElimination Counted
-slight allowance = afterSolve 2 (p7 ∷ o ∷ faint ∷ o ∷ p7 ∷ o ∷ o ∷ o ∷ []) (p4 ∷ o ∷ faint ∷ o ∷ []) allowance (replicate 4 m1) (replicate 12 m1)
+slight allowance = after_solve 2 (p7 ∷ o ∷ faint ∷ o ∷ p7 ∷ o ∷ o ∷ o ∷ []) (p4 ∷ o ∷ faint ∷ o ∷ []) allowance (replicate 4 m1) (replicate 12 m1)
 
 slight-pivot : (slight (Rows 1)).answer ≡ Refused singular
 unfolding opened
 slight-pivot = refl
 
-slight-exceeds : (slight (Rows 0)).answer ≡ Refused beyondAllowance
+slight-exceeds : (slight (Rows 0)).answer ≡ Refused beyond_allowance
 unfolding opened
 slight-exceeds = refl
 
@@ -168,9 +168,9 @@ most = of_bits binary64 0x7fefffffffffffff
 -- 2^-400, 0 / 0, 0 is singular in its second column. With right side 2^700, 0 the first row, scaled by 2^400, overflows before: 20, and the work slice
 -- is cleared; with 1, 0 it does not.
 abbrev steep : Float → AfterElimination Counted
-steep x = afterSolve 2 (tiny ∷ o ∷ o ∷ o ∷ o ∷ o ∷ o ∷ o ∷ []) (x ∷ o ∷ o ∷ o ∷ []) Unlimited (replicate 4 m1) (replicate 12 m1)
+steep x = after_solve 2 (tiny ∷ o ∷ o ∷ o ∷ o ∷ o ∷ o ∷ o ∷ []) (x ∷ o ∷ o ∷ o ∷ []) Unlimited (replicate 4 m1) (replicate 12 m1)
 
-overflow-first : steep p700 ≡ record { answer = Refused computedNotFinite; output = replicate 4 m1; work = zeros 12 }
+overflow-first : steep p700 ≡ record { answer = Refused computed_not_finite; output = replicate 4 m1; work = zeros 12 }
 unfolding opened
 overflow-first = refl
 
@@ -179,30 +179,30 @@ unfolding opened
 pivot-too-small-first = refl
 
 -- So by counts and pivots alone 20 is not seen: without its premise the theorem on what is met first would tell 13 here.
-not-by-counts : (workRefusal (Rows 2) (stepsOfSolve 2 (entry_at 2 (tiny ∷ o ∷ o ∷ o ∷ o ∷ o ∷ o ∷ o ∷ [])) (entry (p700 ∷ o ∷ o ∷ o ∷ []))) ≡ computedNotFinite)
-    × (isSingular 2 (entry_at 2 (tiny ∷ o ∷ o ∷ o ∷ o ∷ o ∷ o ∷ o ∷ [])) ≡ true) × (pairs operations 2 (entry_at 2 (tiny ∷ o ∷ o ∷ o ∷ o ∷ o ∷ o ∷ o ∷ [])) ≡ 0)
+not-by-counts : (work_refusal (Rows 2) (steps_of_solve 2 (entry_at 2 (tiny ∷ o ∷ o ∷ o ∷ o ∷ o ∷ o ∷ o ∷ [])) (entry (p700 ∷ o ∷ o ∷ o ∷ []))) ≡ computed_not_finite)
+    × (is_singular 2 (entry_at 2 (tiny ∷ o ∷ o ∷ o ∷ o ∷ o ∷ o ∷ o ∷ [])) ≡ true) × (pairs operations 2 (entry_at 2 (tiny ∷ o ∷ o ∷ o ∷ o ∷ o ∷ o ∷ o ∷ [])) ≡ 0)
 unfolding opened
 not-by-counts = (refl, refl, refl)
 
 -- 1, 2^600 / 2^500, 1: the second column's weights overflow. The row reduction before is 18 where it is not allowed.
 abbrev broad : Allowance → AfterElimination Counted
-broad allowance = afterSolve 2 (p1 ∷ o ∷ p600 ∷ o ∷ p500 ∷ o ∷ p1 ∷ o ∷ []) (p1 ∷ o ∷ p1 ∷ o ∷ []) allowance (replicate 4 m1) (replicate 12 m1)
+broad allowance = after_solve 2 (p1 ∷ o ∷ p600 ∷ o ∷ p500 ∷ o ∷ p1 ∷ o ∷ []) (p1 ∷ o ∷ p1 ∷ o ∷ []) allowance (replicate 4 m1) (replicate 12 m1)
 
-reduction-before : (broad (Rows 0)).answer ≡ Refused beyondAllowance
+reduction-before : (broad (Rows 0)).answer ≡ Refused beyond_allowance
 unfolding opened
 reduction-before = refl
 
-weight-after : broad (Rows 1) ≡ record { answer = Refused computedNotFinite; output = replicate 4 m1; work = zeros 12 }
+weight-after : broad (Rows 1) ≡ record { answer = Refused computed_not_finite; output = replicate 4 m1; work = zeros 12 }
 unfolding opened
 weight-after = refl
 
 -- t, 3 / t, 0 with right side the largest number, 2^-400, t = 1e-150: with the upper row taken the right side, scaled by 1e150, overflows
-taken-overflows : (afterSolve 2 (faint ∷ o ∷ p3 ∷ o ∷ faint ∷ o ∷ o ∷ o ∷ []) (most ∷ o ∷ tiny ∷ o ∷ []) Unlimited (replicate 4 m1) (replicate 12 m1)).answer ≡ Refused computedNotFinite
+taken-overflows : (after_solve 2 (faint ∷ o ∷ p3 ∷ o ∷ faint ∷ o ∷ o ∷ o ∷ []) (most ∷ o ∷ tiny ∷ o ∷ []) Unlimited (replicate 4 m1) (replicate 12 m1)).answer ≡ Refused computed_not_finite
 unfolding opened
 taken-overflows = refl
 
 -- (t, 4), (largest, 1) / (t, 4), (largest, 3) with right side 0, 5: with the upper row taken nothing does
-taken-finite : (afterSolve 2 (faint ∷ p4 ∷ most ∷ p1 ∷ faint ∷ p4 ∷ most ∷ p3 ∷ []) (o ∷ o ∷ p5 ∷ o ∷ []) Unlimited (replicate 4 m1) (replicate 12 m1)).answer ≡ Reduced 2
+taken-finite : (after_solve 2 (faint ∷ p4 ∷ most ∷ p1 ∷ faint ∷ p4 ∷ most ∷ p3 ∷ []) (o ∷ o ∷ p5 ∷ o ∷ []) Unlimited (replicate 4 m1) (replicate 12 m1)).answer ≡ Reduced 2
 unfolding opened
 taken-finite = refl
 
@@ -215,33 +215,33 @@ p49 = of_bits binary64 0x4048800000000000
 abbrev share : Float
 share = of_bits binary64 0x6514e5e0a72f0539
 
-abbrev leftOver : List Float
-leftOver = p49 ∷ o ∷ p600 ∷ o ∷ p1 ∷ o ∷ share ∷ faint ∷ []
+abbrev left_over : List Float
+left_over = p49 ∷ o ∷ p600 ∷ o ∷ p1 ∷ o ∷ share ∷ faint ∷ []
 
 abbrev kept : Allowance → AfterElimination Counted
-kept allowance = afterSolve 2 leftOver (replicate 4 o) allowance (replicate 4 m1) (replicate 12 m1)
+kept allowance = after_solve 2 left_over (replicate 4 o) allowance (replicate 4 m1) (replicate 12 m1)
 
 its-share : share ≡ mul binary64 p600 (div binary64 p1 p49)
 unfolding opened
 its-share = refl
 
 -- both row reductions come before: the second begins, and then meets 20
-first-exceeds : ((kept (Rows 0)).answer ≡ Refused beyondAllowance) × ((kept (Rows 1)).answer ≡ Refused beyondAllowance)
+first-exceeds : ((kept (Rows 0)).answer ≡ Refused beyond_allowance) × ((kept (Rows 1)).answer ≡ Refused beyond_allowance)
 unfolding opened
 first-exceeds = (refl, refl)
 
-left-overflows : kept Unlimited ≡ record { answer = Refused computedNotFinite; output = replicate 4 m1; work = zeros 12 }
+left-overflows : kept Unlimited ≡ record { answer = Refused computed_not_finite; output = replicate 4 m1; work = zeros 12 }
 unfolding opened
 left-overflows = refl
 
 from-two-on : (m : ℕ) → 2 ≤ m → kept (Rows m) ≡ kept Unlimited
-from-two-on m h = solve-allowances.from-bound 2 leftOver _ m _ _ h
+from-two-on m h = solve-allowances.from-bound 2 left_over _ m _ _ h
 
 -- in the second row reduction, that of the first row, which has three columns, the first is lost and the others are not
-abbrev atSecond : Matrix
-atSecond = scaled operations 1 (pivoted operations 2 1 (cleared operations 0 (pivoted operations 2 0 (augmented operations 2 (entry_at 2 leftOver) (λ (r k : ℕ). entry (replicate 4 o) r)))))
+abbrev at_second : Matrix
+at_second = scaled operations 1 (pivoted operations 2 1 (cleared operations 0 (pivoted operations 2 0 (augmented operations 2 (entry_at 2 left_over) (λ (r k : ℕ). entry (replicate 4 o) r)))))
 
-left_alone : (allFinite (ofReducing operations workings atSecond 1 0 (0 ∷ [])) ≡ false) × (allFinite (ofReducing operations workings atSecond 1 0 (1 ∷ 2 ∷ [])) ≡ true)
+left_alone : (all_finite (of_reducing operations workings at_second 1 0 (0 ∷ [])) ≡ false) × (all_finite (of_reducing operations workings at_second 1 0 (1 ∷ 2 ∷ [])) ≡ true)
 unfolding opened
 left_alone = (refl, refl)
 
@@ -249,14 +249,14 @@ left_alone = (refl, refl)
 
 -- the inverse of one number, by its bits
 abbrev inverted : Float → AfterElimination Outcome
-inverted x = afterInverse 1 (x ∷ o ∷ []) (m1 ∷ m1 ∷ []) (replicate 4 m1)
+inverted x = after_inverse 1 (x ∷ o ∷ []) (m1 ∷ m1 ∷ []) (replicate 4 m1)
 
 inverse-2 : inverted p2 ≡ record { answer = outcomes.Done; output = half ∷ o ∷ []; work = zeros 4 }
 unfolding opened
 inverse-2 = refl
 
 -- the square of 2^512 overflows, that of 2^511 does not
-square-overflows : inverted (of_bits binary64 0x5ff0000000000000) ≡ record { answer = outcomes.Refused computedNotFinite; output = m1 ∷ m1 ∷ []; work = zeros 4 }
+square-overflows : inverted (of_bits binary64 0x5ff0000000000000) ≡ record { answer = outcomes.Refused computed_not_finite; output = m1 ∷ m1 ∷ []; work = zeros 4 }
 unfolding opened
 square-overflows = refl
 
@@ -273,41 +273,41 @@ square-large-enough : (inverted (of_bits binary64 0x20d0000000000000)).answer �
 unfolding opened
 square-large-enough = refl
 
-inverse-of-infinity : inverted (inf false) ≡ record { answer = outcomes.Refused givenNotFinite; output = m1 ∷ m1 ∷ []; work = replicate 4 m1 }
+inverse-of-infinity : inverted (inf false) ≡ record { answer = outcomes.Refused given_not_finite; output = m1 ∷ m1 ∷ []; work = replicate 4 m1 }
 unfolding opened
 inverse-of-infinity = refl
 
 -- a wrong length is told before an empty system, and both leave everything; the allowance is not looked at
-wrong-length : afterInverse 0 (p1 ∷ []) (p2 ∷ []) (m1 ∷ []) ≡ record { answer = outcomes.Refused wrongLength; output = p2 ∷ []; work = m1 ∷ [] }
+wrong-length : after_inverse 0 (p1 ∷ []) (p2 ∷ []) (m1 ∷ []) ≡ record { answer = outcomes.Refused wrong_length; output = p2 ∷ []; work = m1 ∷ [] }
 unfolding opened
 wrong-length = refl
 
-no-system : afterSolve 0 [] (p1 ∷ []) (Rows 0) [] [] ≡ record { answer = Refused emptySystem; output = []; work = [] }
+no-system : after_solve 0 [] (p1 ∷ []) (Rows 0) [] [] ≡ record { answer = Refused empty_system; output = []; work = [] }
 unfolding opened
 no-system = refl
 
 -- ---- the theorems on allowances at the edges of their premises
 
-not_beyond : (a : Counted) → eqb (countedNumber a) beyondAllowance ≡ false → a ≡ Refused beyondAllowance → ⊥
-unfolding countedNumber
-not_beyond a t e = true≢false (sym (ap (λ (x : Counted). eqb (countedNumber x) beyondAllowance) e) ∙ t)
+not_beyond : (a : Counted) → eqb (counted_number a) beyond_allowance ≡ false → a ≡ Refused beyond_allowance → ⊥
+unfolding counted_number
+not_beyond a t e = true≢false (sym (ap (λ (x : Counted). eqb (counted_number x) beyond_allowance) e) ∙ t)
 
 -- what is carried out, what 13 ends and what the input refuses is the same with more allowed
-others : (eqb (countedNumber (tied (Rows 2)).answer) beyondAllowance ≡ false) × (eqb (countedNumber (flat (Rows 1)).answer) beyondAllowance ≡ false)
-    × (eqb (countedNumber (afterSolve 0 [] (p1 ∷ []) (Rows 0) [] []).answer) beyondAllowance ≡ false)
-unfolding opened countedNumber
+others : (eqb (counted_number (tied (Rows 2)).answer) beyond_allowance ≡ false) × (eqb (counted_number (flat (Rows 1)).answer) beyond_allowance ≡ false)
+    × (eqb (counted_number (after_solve 0 [] (p1 ∷ []) (Rows 0) [] []).answer) beyond_allowance ≡ false)
+unfolding opened counted_number
 others = (refl, refl, refl)
 
 still-done : tied Unlimited ≡ tied (Rows 2)
-unfolding ◌noMoreThan◌
+unfolding ◌no_more_than◌
 still-done = solve-allowances.larger 2 tie _ (Rows 2) Unlimited _ _ tt (not_beyond _ others.0)
 
 still-singular : flat (Rows 2) ≡ flat (Rows 1)
-unfolding ◌noMoreThan◌
+unfolding ◌no_more_than◌
 still-singular = solve-allowances.larger 2 _ _ (Rows 1) (Rows 2) _ _ (omega arith) (not_beyond _ others.1)
 
-still-refused : afterSolve 0 [] (p1 ∷ []) (Rows 1) [] [] ≡ afterSolve 0 [] (p1 ∷ []) (Rows 0) [] []
-unfolding ◌noMoreThan◌
+still-refused : after_solve 0 [] (p1 ∷ []) (Rows 1) [] [] ≡ after_solve 0 [] (p1 ∷ []) (Rows 0) [] []
+unfolding ◌no_more_than◌
 still-refused = solve-allowances.larger 0 [] _ (Rows 0) (Rows 1) [] [] (omega arith) (not_beyond _ others.2)
 
 -- the bound is reached, and enough
@@ -323,28 +323,28 @@ from-two = solve-allowances.from-bound 2 tie _ _ _ _ (omega arith)
 abbrev side : List Float
 side = o ∷ o ∷ p1 ∷ o ∷ []
 
-tied-shaped : solveShapeRefusal 2 (length tie) (length side) (length (replicate 4 m1)) (length (replicate 12 m1)) ≡ 0
+tied-shaped : solve_shape_refusal 2 (length tie) (length side) (length (replicate 4 m1)) (length (replicate 12 m1)) ≡ 0
 unfolding opened
 tied-shaped = refl
 
-tied-given : T (allFinite (tie ++ side))
+tied-given : T (all_finite (tie ++ side))
 unfolding opened
 tied-given = tt
 
-tied-computed : T (allFinite (numbersIn (stepsOfSolve 2 (entry_at 2 tie) (entry side))))
-unfolding opened numbersIn
+tied-computed : T (all_finite (numbers_in (steps_of_solve 2 (entry_at 2 tie) (entry side))))
+unfolding opened numbers_in
 tied-computed = tt
 
-tied-regular : T (not (isSingular 2 (entry_at 2 tie)))
+tied-regular : T (not (is_singular 2 (entry_at 2 tie)))
 unfolding opened
 tied-regular = tt
 
-tied-enough : Rows (reductions (stepsOfSolve 2 (entry_at 2 tie) (entry side))) noMoreThan Rows 2
-unfolding opened ◌noMoreThan◌
+tied-enough : Rows (reductions (steps_of_solve 2 (entry_at 2 tie) (entry side))) no_more_than Rows 2
+unfolding opened ◌no_more_than◌
 tied-enough = lit≤ tt
 
-accepts-tied : (tied (Rows 2)).answer ≡ Reduced (reductions (stepsOfSolve 2 (entry_at 2 tie) (entry side)))
-unfolding ◌noMoreThan◌
+accepts-tied : (tied (Rows 2)).answer ≡ Reduced (reductions (steps_of_solve 2 (entry_at 2 tie) (entry side)))
+unfolding ◌no_more_than◌
 accepts-tied =
     ap (λ (l : AfterElimination Counted). l.answer)
     (accepted-answers.accepted-solve 2 tie side (Rows 2) (replicate 4 m1) (replicate 12 m1)
@@ -353,19 +353,19 @@ accepts-tied =
 abbrev pair : List Float
 pair = p2 ∷ o ∷ []
 
-two_shaped : inverseShapeRefusal 1 (length pair) (length (m1 ∷ m1 ∷ [])) (length (replicate 4 m1)) ≡ 0
+two_shaped : inverse_shape_refusal 1 (length pair) (length (m1 ∷ m1 ∷ [])) (length (replicate 4 m1)) ≡ 0
 unfolding opened
 two_shaped = refl
 
-two-given : T (allFinite pair)
+two-given : T (all_finite pair)
 unfolding opened
 two-given = tt
 
-two-computed : T (allFinite (numbersIn (stepsOfInverse 1 (entry_at 1 pair))))
-unfolding opened numbersIn
+two-computed : T (all_finite (numbers_in (steps_of_inverse 1 (entry_at 1 pair))))
+unfolding opened numbers_in
 two-computed = tt
 
-two-regular : T (not (isSingular 1 (entry_at 1 pair)))
+two-regular : T (not (is_singular 1 (entry_at 1 pair)))
 unfolding opened
 two-regular = tt
 

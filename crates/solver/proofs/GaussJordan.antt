@@ -4,7 +4,7 @@
 --     singular-system  whether 13 comes depends on the system's columns alone
 --     column-alone     column c of many right sides is the solution for right side c alone
 use Rattle.prelude.proofs.Prelude.{◌≡◌, refl, sym, ap, ◌∙◌, subst, Bool, true, false, cond, ◌⊎◌, inl, inr, ℕ, zero, suc, ◌+◌, ◌-◌, ◌≤◌, ◌<◌, add-one, arith, eqb, ltb, eq-or-lt_of_le, sub-zero, lt-ltb, le-ltb}
-use Rattle.solver.specs.GaussJordan.{Operations, MatrixOf, Elimination, stays, heldAfter, pivotRow, swapped, scaled, reduced, pivoted, cleared, gaussJordanFrom, gaussJordan, augmented, solution, singularSystem}
+use Rattle.solver.specs.GaussJordan.{Operations, MatrixOf, Elimination, stays, held_after, pivot_row, swapped, scaled, reduced, pivoted, cleared, gauss_jordan_from, gauss_jordan, augmented, solution, singular_system}
 
 -- a Bool picks one of two numbers, both below n
 pub pick-below : (b : Bool) (x y n : ℕ) → x < n → y < n → cond b x y < n
@@ -23,37 +23,37 @@ pub record Alike {E : Type 0} (n w : ℕ) (g : ℕ → ℕ) (R S : Elimination E
 module _ {E : Type 0} (O : Operations E) where
   -- ---- the pivot's row is one of the rows
 
-  pub held_below : (A : MatrixOf E) (c n held next count : ℕ) → held < n → next + count ≤ n → heldAfter O A c held next count < n
-  unfolding heldAfter
+  pub held_below : (A : MatrixOf E) (c n held next count : ℕ) → held < n → next + count ≤ n → held_after O A c held next count < n
+  unfolding held_after
   held_below A c n held next zero h k = h
   held_below A c n held next (suc count) h k =
       held_below A c n (cond (stays (O.weight (A held c)) (O.weight (A next c))) held next) (suc next) count
       (pick-below (stays (O.weight (A held c)) (O.weight (A next c))) held next n h (omega arith)) (omega arith)
 
-  pub pivot-below : (n : ℕ) (A : MatrixOf E) (c : ℕ) → c < n → pivotRow O n A c < n
-  unfolding pivotRow
+  pub pivot-below : (n : ℕ) (A : MatrixOf E) (c : ℕ) → c < n → pivot_row O n A c < n
+  unfolding pivot_row
   pivot-below n A c h = held_below A c n c (suc c) (n - suc c) h (omega arith)
 
   -- ---- the search, a row at a time
 
-  pub held_first : (n : ℕ) (A : MatrixOf E) (c : ℕ) → heldAfter O A c c (c + 1) (n - (c + 1)) ≡ pivotRow O n A c
-  unfolding pivotRow
-  held_first n A c = ap (λ (x : ℕ). heldAfter O A c c x (n - x)) (add-one c)
+  pub held_first : (n : ℕ) (A : MatrixOf E) (c : ℕ) → held_after O A c c (c + 1) (n - (c + 1)) ≡ pivot_row O n A c
+  unfolding pivot_row
+  held_first n A c = ap (λ (x : ℕ). held_after O A c c x (n - x)) (add-one c)
 
   pub held_next : (A : MatrixOf E) (c n held next held' : ℕ) → next < n → held' ≡ cond (stays (O.weight (A held c)) (O.weight (A next c))) held next
-      → heldAfter O A c held' (next + 1) (n - (next + 1)) ≡ heldAfter O A c held next (n - next)
-  unfolding heldAfter
+      → held_after O A c held' (next + 1) (n - (next + 1)) ≡ held_after O A c held next (n - next)
+  unfolding held_after
   held_next A c n held next held' h e =
       let one : n - next ≡ suc (n - suc next) = omega arith in
-      ap (λ (x : ℕ). heldAfter O A c held' x (n - x)) (add-one next)
-      ∙ ap (λ (x : ℕ). heldAfter O A c x (suc next) (n - suc next)) e
-      ∙ sym (ap (heldAfter O A c held next) one)
+      ap (λ (x : ℕ). held_after O A c held' x (n - x)) (add-one next)
+      ∙ ap (λ (x : ℕ). held_after O A c x (suc next) (n - suc next)) e
+      ∙ sym (ap (held_after O A c held next) one)
 
-  pub held-last : (A : MatrixOf E) (c n held next : ℕ) → next ≡ n → held ≡ heldAfter O A c held next (n - next)
-  unfolding heldAfter
+  pub held-last : (A : MatrixOf E) (c n held next : ℕ) → next ≡ n → held ≡ held_after O A c held next (n - next)
+  unfolding held_after
   held-last A c n held next e =
       let none : n - next ≡ 0 = omega arith in
-      sym (ap (heldAfter O A c held next) none)
+      sym (ap (held_after O A c held next) none)
 
   pub kept-below : (A : MatrixOf E) (c n held next held' : ℕ) → held < n → next < n
       → held' ≡ cond (stays (O.weight (A held c)) (O.weight (A next c))) held next → held' < n
@@ -68,25 +68,25 @@ module _ {E : Type 0} (O : Operations E) where
     chosen-system A B s i j h k = s i j h (omega arith) ∙ ap (B i) (fixed j k)
 
     held-chosen : (A B : MatrixOf E) → Chosen n w g A B → (c held next count : ℕ) → c < n → held < n → next + count ≤ n
-        → heldAfter O A c held next count ≡ heldAfter O B c held next count
-    unfolding heldAfter
+        → held_after O A c held next count ≡ held_after O B c held next count
+    unfolding held_after
     held-chosen A B s c held next zero hc h k = refl
     held-chosen A B s c held next (suc count) hc h k =
         let a : A held c ≡ B held c = chosen-system A B s held c h hc in
         let b : A next c ≡ B next c = chosen-system A B s next c (omega arith) hc in
         let t : cond (stays (O.weight (A held c)) (O.weight (A next c))) held next ≡ cond (stays (O.weight (B held c)) (O.weight (B next c))) held next = cc in
-        ap (λ (x : ℕ). heldAfter O A c x (suc next) count) t
+        ap (λ (x : ℕ). held_after O A c x (suc next) count) t
         ∙ held-chosen A B s c (cond (stays (O.weight (B held c)) (O.weight (B next c))) held next) (suc next) count hc
         (pick-below (stays (O.weight (B held c)) (O.weight (B next c))) held next n h (omega arith)) (omega arith)
 
-    pivot-chosen : (A B : MatrixOf E) → Chosen n w g A B → (c : ℕ) → c < n → pivotRow O n A c ≡ pivotRow O n B c
-    unfolding pivotRow
+    pivot-chosen : (A B : MatrixOf E) → Chosen n w g A B → (c : ℕ) → c < n → pivot_row O n A c ≡ pivot_row O n B c
+    unfolding pivot_row
     pivot-chosen A B s c h = held-chosen A B s c c (suc c) (n - suc c) h h (omega arith)
 
     pub pivoted-chosen : (A B : MatrixOf E) → Chosen n w g A B → (c : ℕ) → c < n → Chosen n w g (pivoted O n c A) (pivoted O n c B)
     unfolding pivoted swapped
     pivoted-chosen A B s c h i j hi hj =
-        let p = pivotRow O n B c in
+        let p = pivot_row O n B c in
         ap (λ (x : ℕ). A (cond (eqb i c) x (cond (eqb i x) c i)) j) (pivot-chosen A B s c h)
         ∙ s (cond (eqb i c) p (cond (eqb i p) c i)) j
         (pick-below (eqb i c) p (cond (eqb i p) c i) n (pivot-below n B c h) (pick-below (eqb i p) c i n h hi)) hj
@@ -114,8 +114,8 @@ module _ {E : Type 0} (O : Operations E) where
     pick-alike true R R' S S' a b = a
     pick-alike false R R' S S' a b = b
 
-    pub run-from-chosen : (A B : MatrixOf E) → Chosen n w g A B → (count c : ℕ) → c + count ≤ n → Alike n w g (gaussJordanFrom O n count c A) (gaussJordanFrom O n count c B)
-    unfolding gaussJordanFrom
+    pub run-from-chosen : (A B : MatrixOf E) → Chosen n w g A B → (count c : ℕ) → c + count ≤ n → Alike n w g (gauss_jordan_from O n count c A) (gauss_jordan_from O n count c B)
+    unfolding gauss_jordan_from
     run-from-chosen A B s zero c h = record { singular = refl; left = s }
     run-from-chosen A B s (suc count) c h =
         let A' = pivoted O n c A in
@@ -124,26 +124,26 @@ module _ {E : Type 0} (O : Operations E) where
         let e : O.small (A' c c) ≡ O.small (B' c c) = ap (λ (x : E). O.small x) (chosen-system A' B' p c c (omega arith) (omega arith)) in
         subst
         (λ (t : Bool). Alike n w g
-        (cond t (record { singular = true; left = A' }) (gaussJordanFrom O n count (suc c) (cleared O c A')))
-        (cond (O.small (B' c c)) (record { singular = true; left = B' }) (gaussJordanFrom O n count (suc c) (cleared O c B'))))
+        (cond t (record { singular = true; left = A' }) (gauss_jordan_from O n count (suc c) (cleared O c A')))
+        (cond (O.small (B' c c)) (record { singular = true; left = B' }) (gauss_jordan_from O n count (suc c) (cleared O c B'))))
         (sym e)
         (pick-alike (O.small (B' c c))
-        (record { singular = true; left = A' }) (gaussJordanFrom O n count (suc c) (cleared O c A'))
-        (record { singular = true; left = B' }) (gaussJordanFrom O n count (suc c) (cleared O c B'))
+        (record { singular = true; left = A' }) (gauss_jordan_from O n count (suc c) (cleared O c A'))
+        (record { singular = true; left = B' }) (gauss_jordan_from O n count (suc c) (cleared O c B'))
         (record { singular = refl; left = p })
         (run-from-chosen (cleared O c A') (cleared O c B') (cleared-chosen A' B' p c (omega arith)) count (suc c) (omega arith)))
 
-    pub run-chosen : (A B : MatrixOf E) → Chosen n w g A B → Alike n w g (gaussJordan O n A) (gaussJordan O n B)
-    unfolding gaussJordan
+    pub run-chosen : (A B : MatrixOf E) → Chosen n w g A B → Alike n w g (gauss_jordan O n A) (gauss_jordan O n B)
+    unfolding gauss_jordan
     run-chosen A B s = run-from-chosen A B s n 0 (omega arith)
 
   -- ---- only entries within n rows and w columns count
 
   pub run-from-same : (n w : ℕ) → n ≤ w → (A B : MatrixOf E) → ((i j : ℕ) → i < n → j < w → A i j ≡ B i j) → (count c : ℕ) → c + count ≤ n
-      → Alike n w (λ (j : ℕ). j) (gaussJordanFrom O n count c A) (gaussJordanFrom O n count c B)
+      → Alike n w (λ (j : ℕ). j) (gauss_jordan_from O n count c A) (gauss_jordan_from O n count c B)
   run-from-same n w wide A B s count c h = run-from-chosen n w wide (λ (j : ℕ). j) (λ (j : ℕ) (k : j < n). refl) A B s count c h
 
-  pub run-same : (n w : ℕ) → n ≤ w → (A B : MatrixOf E) → ((i j : ℕ) → i < n → j < w → A i j ≡ B i j) → Alike n w (λ (j : ℕ). j) (gaussJordan O n A) (gaussJordan O n B)
+  pub run-same : (n w : ℕ) → n ≤ w → (A B : MatrixOf E) → ((i j : ℕ) → i < n → j < w → A i j ≡ B i j) → Alike n w (λ (j : ℕ). j) (gauss_jordan O n A) (gauss_jordan O n B)
   run-same n w wide A B s = run-chosen n w wide (λ (j : ℕ). j) (λ (j : ℕ) (k : j < n). refl) A B s
 
   pub scaled-same : (n w : ℕ) → n ≤ w → (A B : MatrixOf E) → ((i j : ℕ) → i < n → j < w → A i j ≡ B i j) → (c : ℕ) → c < n
@@ -163,23 +163,23 @@ module _ {E : Type 0} (O : Operations E) where
   abbrev pub Same : ℕ → ℕ → Elimination E → Elimination E → Type 0
   Same n w R S = Alike n w (λ (j : ℕ). j) R S
 
-  pub run-first : (n w : ℕ) (A : MatrixOf E) → Same n w (gaussJordanFrom O n (n - 0) 0 A) (gaussJordan O n A)
-  unfolding gaussJordan
+  pub run-first : (n w : ℕ) (A : MatrixOf E) → Same n w (gauss_jordan_from O n (n - 0) 0 A) (gauss_jordan O n A)
+  unfolding gauss_jordan
   run-first n w A =
-      let same : Same n w (gaussJordanFrom O n n 0 A) (gaussJordan O n A) = record { singular = refl; left = λ (i j : ℕ) (h : i < n) (k : j < w). refl } in
-      subst (λ (k : ℕ). Same n w (gaussJordanFrom O n k 0 A) (gaussJordan O n A)) (sym (sub-zero n)) same
+      let same : Same n w (gauss_jordan_from O n n 0 A) (gauss_jordan O n A) = record { singular = refl; left = λ (i j : ℕ) (h : i < n) (k : j < w). refl } in
+      subst (λ (k : ℕ). Same n w (gauss_jordan_from O n k 0 A) (gauss_jordan O n A)) (sym (sub-zero n)) same
 
   -- the column's step, with what its pivot's test says
   column-is : (n c : ℕ) (A : MatrixOf E) (b : Bool) → c < n → O.small (pivoted O n c A c c) ≡ b
-      → gaussJordanFrom O n (n - c) c A ≡ cond b (record { singular = true; left = pivoted O n c A }) (gaussJordanFrom O n (n - suc c) (suc c) (cleared O c (pivoted O n c A)))
-  unfolding gaussJordanFrom
+      → gauss_jordan_from O n (n - c) c A ≡ cond b (record { singular = true; left = pivoted O n c A }) (gauss_jordan_from O n (n - suc c) (suc c) (cleared O c (pivoted O n c A)))
+  unfolding gauss_jordan_from
   column-is n c A b h t =
       let one : n - c ≡ suc (n - suc c) = omega arith in
-      ap (λ (k : ℕ). gaussJordanFrom O n k c A) one
-      ∙ ap (λ (s : Bool). cond s (record { singular = true; left = pivoted O n c A }) (gaussJordanFrom O n (n - suc c) (suc c) (cleared O c (pivoted O n c A)))) t
+      ap (λ (k : ℕ). gauss_jordan_from O n k c A) one
+      ∙ ap (λ (s : Bool). cond s (record { singular = true; left = pivoted O n c A }) (gauss_jordan_from O n (n - suc c) (suc c) (cleared O c (pivoted O n c A)))) t
 
   pub run-stops : (n w c : ℕ) (A B : MatrixOf E) (R : Elimination E) → c < n → O.small (pivoted O n c A c c) ≡ true
-      → ((i j : ℕ) → i < n → j < w → B i j ≡ pivoted O n c A i j) → Same n w (gaussJordanFrom O n (n - c) c A) R
+      → ((i j : ℕ) → i < n → j < w → B i j ≡ pivoted O n c A i j) → Same n w (gauss_jordan_from O n (n - c) c A) R
       → (true ≡ R.singular) × ((i j : ℕ) → i < n → j < w → B i j ≡ R.left i j)
   run-stops n w c A B R h t same alike =
       let e = column-is n c A true h t in
@@ -187,31 +187,31 @@ module _ {E : Type 0} (O : Operations E) where
       (at.singular, λ (i j : ℕ) (x : i < n) (y : j < w). same i j x y ∙ at.left i j x y)
 
   pub run-goes-on : (n w c : ℕ) (A B : MatrixOf E) (R : Elimination E) → n ≤ w → c < n → O.small (pivoted O n c A c c) ≡ false
-      → ((i j : ℕ) → i < n → j < w → B i j ≡ cleared O c (pivoted O n c A) i j) → Same n w (gaussJordanFrom O n (n - c) c A) R
-      → Same n w (gaussJordanFrom O n (n - (c + 1)) (c + 1) B) R
+      → ((i j : ℕ) → i < n → j < w → B i j ≡ cleared O c (pivoted O n c A) i j) → Same n w (gauss_jordan_from O n (n - c) c A) R
+      → Same n w (gauss_jordan_from O n (n - (c + 1)) (c + 1) B) R
   run-goes-on n w c A B R wide h t same alike =
       let e = column-is n c A false h t in
       let C = cleared O c (pivoted O n c A) in
-      let at : Same n w (gaussJordanFrom O n (n - suc c) (suc c) C) R = subst (λ (S : Elimination E). Same n w S R) e alike in
-      let next : Same n w (gaussJordanFrom O n (n - suc c) (suc c) B) (gaussJordanFrom O n (n - suc c) (suc c) C) = run-from-same n w wide B C same (n - suc c) (suc c) (omega arith) in
-      let all : Same n w (gaussJordanFrom O n (n - suc c) (suc c) B) R = record {
+      let at : Same n w (gauss_jordan_from O n (n - suc c) (suc c) C) R = subst (λ (S : Elimination E). Same n w S R) e alike in
+      let next : Same n w (gauss_jordan_from O n (n - suc c) (suc c) B) (gauss_jordan_from O n (n - suc c) (suc c) C) = run-from-same n w wide B C same (n - suc c) (suc c) (omega arith) in
+      let all : Same n w (gauss_jordan_from O n (n - suc c) (suc c) B) R = record {
         singular = next.singular ∙ at.singular;
         left = λ (i j : ℕ) (x : i < n) (y : j < w). next.left i j x y ∙ at.left i j x y;
       } in
-      subst (λ (k : ℕ). Same n w (gaussJordanFrom O n (n - k) k B) R) (sym (add-one c)) all
+      subst (λ (k : ℕ). Same n w (gauss_jordan_from O n (n - k) k B) R) (sym (add-one c)) all
 
-  pub run_ends : (n w c : ℕ) (A : MatrixOf E) (R : Elimination E) → c ≡ n → Same n w (gaussJordanFrom O n (n - c) c A) R
+  pub run_ends : (n w c : ℕ) (A : MatrixOf E) (R : Elimination E) → c ≡ n → Same n w (gauss_jordan_from O n (n - c) c A) R
       → (false ≡ R.singular) × ((i j : ℕ) → i < n → j < w → A i j ≡ R.left i j)
-  unfolding gaussJordanFrom
+  unfolding gauss_jordan_from
   run_ends n w c A R e alike =
       let none : n - c ≡ 0 = omega arith in
-      let at : Same n w (gaussJordanFrom O n 0 c A) R = subst (λ (k : ℕ). Same n w (gaussJordanFrom O n k c A) R) none alike in
+      let at : Same n w (gauss_jordan_from O n 0 c A) R = subst (λ (k : ℕ). Same n w (gauss_jordan_from O n k c A) R) none alike in
       (at.singular, at.left)
 
   -- ---- a system beside its right sides
 
-  pub singular-system : (n : ℕ) (A B : MatrixOf E) → ((i j : ℕ) → i < n → j < n → A i j ≡ B i j) → (gaussJordan O n A).singular ≡ singularSystem O n B
-  unfolding singularSystem
+  pub singular-system : (n : ℕ) (A B : MatrixOf E) → ((i j : ℕ) → i < n → j < n → A i j ≡ B i j) → (gauss_jordan O n A).singular ≡ singular_system O n B
+  unfolding singular_system
   singular-system n A B s = (run-same n n (omega arith) A B s).singular
 
   pub augmented-system : (n : ℕ) (A B : MatrixOf E) (i j : ℕ) → j < n → augmented O n A B i j ≡ A i j
@@ -224,7 +224,7 @@ module _ {E : Type 0} (O : Operations E) where
       let e : n + c - n ≡ c = omega arith in
       rw (le-ltb (n + c) n (omega arith), e)
 
-  pub augmented-singular : (n : ℕ) (A B : MatrixOf E) → (gaussJordan O n (augmented O n A B)).singular ≡ singularSystem O n A
+  pub augmented-singular : (n : ℕ) (A B : MatrixOf E) → (gauss_jordan O n (augmented O n A B)).singular ≡ singular_system O n A
   augmented-singular n A B = singular-system n (augmented O n A B) A (λ (i j : ℕ) (h : i < n) (k : j < n). augmented-system n A B i j k)
 
   -- the columns of one system: the system's, and right side c
@@ -248,8 +248,8 @@ module _ {E : Type 0} (O : Operations E) where
       pick (inr l) =
           augmented-system n A (λ (r k : ℕ). B r c) i j l ∙ sym (augmented-system n A B i j l) ∙ ap (augmented O n A B i) (sym (alone-system n c j l))
 
-  pub column-alone : (n : ℕ) (A B : MatrixOf E) (i c : ℕ) → i < n → (gaussJordan O n (augmented O n A B)).left i (n + c) ≡ solution O n A (λ (r : ℕ). B r c) i
+  pub column-alone : (n : ℕ) (A B : MatrixOf E) (i c : ℕ) → i < n → (gauss_jordan O n (augmented O n A B)).left i (n + c) ≡ solution O n A (λ (r : ℕ). B r c) i
   unfolding solution
   column-alone n A B i c h =
-      ap ((gaussJordan O n (augmented O n A B)).left i) (sym (alone-right n c))
+      ap ((gauss_jordan O n (augmented O n A B)).left i) (sym (alone-right n c))
       ∙ sym ((run-chosen n (n + 1) (omega arith) (alone n c) (alone-system n c) (augmented O n A (λ (r k : ℕ). B r c)) (augmented O n A B) (alone-chosen n c A B)).left i n h (omega arith))

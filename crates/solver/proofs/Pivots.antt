@@ -5,7 +5,7 @@ use Rattle.prelude.proofs.Prelude.{◌≡◌, refl, sym, ap, ◌∙◌, subst, B
 use lib.Dec.{T_not}
 use Rattle.binary64.proofs.Order.{NotNegative, square-not-negative, sum-not-negative, below_nan, lt-asym, lt_irrefl, lt-apart}
 use Rattle.complex.specs.{Complex, sqmag, Matrix}
-use Rattle.solver.specs.GaussJordan.{Operations, MatrixOf, stays, heldAfter, pivotRow}
+use Rattle.solver.specs.GaussJordan.{Operations, MatrixOf, stays, held_after, pivot_row}
 use Rattle.solver.specs.Solving.{operations}
 use Rattle.solver.specs.Pivots.{Uppermost, ChosenRow, UpperRow}
 
@@ -62,21 +62,21 @@ module _ {E : Type 0} (O : Operations E) (weighs : (x : E) → NotNegative (O.we
   abbrev w : ℕ → Float
   w r = O.weight (A r c)
 
-  held-uppermost : (held next count : ℕ) → next + count ≡ n → Uppermost w c next held → Uppermost w c n (heldAfter O A c held next count)
-  unfolding heldAfter stays
+  held-uppermost : (held next count : ℕ) → next + count ≡ n → Uppermost w c next held → Uppermost w c n (held_after O A c held next count)
+  unfolding held_after stays
   held-uppermost held next zero e u = subst (λ (x : ℕ). Uppermost w c x held) (omega arith) u
   held-uppermost held next (suc count) e u =
       held-uppermost (cond (not (lt (w held) (w next))) held next) (suc next) count (omega arith)
       (step w (λ (r : ℕ). weighs (A r c)) c held next (lt (w held) (w next)) refl u)
 
-  nan-stays : (held next count : ℕ) → w held ≡ nan → heldAfter O A c held next count ≡ held
-  unfolding heldAfter stays lt
+  nan-stays : (held next count : ℕ) → w held ≡ nan → held_after O A c held next count ≡ held
+  unfolding held_after stays lt
   nan-stays held next zero p = refl
   nan-stays held next (suc count) p =
-      ap (λ (x : Float). heldAfter O A c (cond (stays x (w next)) held next) (suc next) count) p ∙ nan-stays held (suc next) count p
+      ap (λ (x : Float). held_after O A c (cond (stays x (w next)) held next) (suc next) count) p ∙ nan-stays held (suc next) count p
 
-  pub search-taken : c < n → ChosenRow w c n (pivotRow O n A c)
-  unfolding pivotRow
+  pub search-taken : c < n → ChosenRow w c n (pivot_row O n A c)
+  unfolding pivot_row
   search-taken l =
       record {
         nan-held = nan-stays c (suc c) (n - suc c);
@@ -107,8 +107,8 @@ first-is-number : weight 0 ≡ nan → ⊥
 unfolding sqmag mul add eq of_bits
 first-is-number e = subst (λ (x : Float). T (eq x x)) e tt
 
-taken : pivotRow operations 4 column 0 ≡ 2
-unfolding pivotRow heldAfter stays sqmag lt mul add of_bits
+taken : pivot_row operations 4 column 0 ≡ 2
+unfolding pivot_row held_after stays sqmag lt mul add of_bits
 taken = refl
 
 third-row : Uppermost weight 0 4 2

@@ -3,13 +3,13 @@ use Rattle.prelude.proofs.Prelude.{◌≡◌, refl, sym, ap, ◌∙◌, subst, B
 use Rattle.complex.specs.{Complex, csub, cmul, Matrix, entry, entry_at}
 use Rattle.complex.proofs.FiniteEntries.{entries-slice, slice-entries}
 use Rattle.lists.specs.Buses.{up_to}
-use Rattle.lists.proofs.Stores.{upTo-here, upTo-end}
+use Rattle.lists.proofs.Stores.{up_to-here, up_to-end}
 use Rattle.refusals.specs.Work.{Step, reduces, computing}
 use Rattle.solver.specs.declared.elimination.Eliminated.TheVariants.{Done, Exceeded}
 use Rattle.solver.specs.GaussJordan.{reduced}
 use Rattle.solver.specs.Solving.{operations, skipped}
-use Rattle.solver.specs.Steps.{workings, ofReducing, stepsOfRow, stepsOfRows}
-use Rattle.solver.specs.Inner.Work.{with_row, lessFactor, isDone, Told}
+use Rattle.solver.specs.Steps.{workings, of_reducing, steps_of_row, steps_of_rows}
+use Rattle.solver.specs.Inner.Work.{with_row, less_factor, is_done, Told}
 use Rattle.solver.proofs.Passed.{RowsPassed, rows_none, rows_more}
 use Rattle.solver.proofs.RowParts.{reduced-is, alone-is}
 use Rattle.solver.proofs.FiniteWork.{reducing-tells, reducing-kept}
@@ -17,7 +17,7 @@ use Rattle.solver.proofs.Told.{Came, came-first, came-done, came-then, came-ende
 
 -- what the rows is have to do
 abbrev steps : ℕ → ℕ → List Float → List ℕ → List Step
-steps w c first is = stepsOfRows operations workings (entry_at w first) c is (up_to w)
+steps w c first is = steps_of_rows operations workings (entry_at w first) c is (up_to w)
 
 pub record Reducing (n w c allowed left i : ℕ) (first now : List Float) : Type 0 where
   pub most : i ≤ n
@@ -36,10 +36,10 @@ reducing-same left left' now now' e q r = rw (e, q) r
 row_told : (m n w c i : ℕ) (C : Matrix) (now next : List Float) → length now ≡ 2 * (n * w) → length next ≡ 2 * (n * w) → i < n
     → ((r q : ℕ) → q < w → entry_at w next r q ≡ with_row i (λ (j : ℕ). csub (C i j) (cmul (C i c) (C c j))) (entry_at w now) r q)
     → ((q : ℕ) → q < w → entry_at w now i q ≡ C i q)
-    → Told (suc m) (reduces ∷ computing (ofReducing operations workings C c i (up_to w))) now next (Done m)
+    → Told (suc m) (reduces ∷ computing (of_reducing operations workings C c i (up_to w))) now next (Done m)
 row_told m n w c i C now next full long h put held =
-    told-then (suc m) (reduces ∷ []) now now m (computing (ofReducing operations workings C c i (up_to w))) next (Done m) (told-reduces m now)
-    (told-numbers m (ofReducing operations workings C c i (up_to w)) now next
+    told-then (suc m) (reduces ∷ []) now now m (computing (of_reducing operations workings C c i (up_to w))) next (Done m) (told-reduces m now)
+    (told-numbers m (of_reducing operations workings C c i (up_to w)) now next
     (λ x. let (a, k) = reducing-tells n w c i C (entry_at w now) (entry_at w next) h put held (slice-entries n w next long x) in (entries-slice n w now full a, k))
     (λ a k. entries-slice n w next long (reducing-kept n w c i C (entry_at w now) (entry_at w next) h put held (slice-entries n w now full a) k)))
 
@@ -51,11 +51,11 @@ module _ (n w c allowed left i : ℕ) (first now : List Float) (s : Reducing n w
   -- the steps to come begin with row i's
   next-steps : i < n → (b : Bool) → (eqb i c || skipped (entry_at w now i c)) ≡ b
       → steps w c first (drop i (up_to n))
-      ≡ cond b [] (reduces ∷ computing (ofReducing operations workings (entry_at w first) c i (up_to w))) ++ steps w c first (drop (i + 1) (up_to n))
-  unfolding stepsOfRows stepsOfRow
+      ≡ cond b [] (reduces ∷ computing (of_reducing operations workings (entry_at w first) c i (up_to w))) ++ steps w c first (drop (i + 1) (up_to n))
+  unfolding steps_of_rows steps_of_row
   next-steps h b t =
-      ap (λ (is : List ℕ). steps w c first is) (upTo-here n i h)
-      ∙ ap (λ (x : Bool). cond x [] (reduces ∷ computing (ofReducing operations workings (entry_at w first) c i (up_to w))) ++ steps w c first (drop (i + 1) (up_to n))) (as_first b t)
+      ap (λ (is : List ℕ). steps w c first is) (up_to-here n i h)
+      ∙ ap (λ (x : Bool). cond x [] (reduces ∷ computing (of_reducing operations workings (entry_at w first) c i (up_to w))) ++ steps w c first (drop (i + 1) (up_to n))) (as_first b t)
 
   pub reducing-alone : i < n → (eqb i c || skipped (entry_at w now i c)) ≡ true → Reducing n w c allowed left (i + 1) first now
   unfolding with_row
@@ -76,17 +76,17 @@ module _ (n w c allowed left i : ℕ) (first now : List Float) (s : Reducing n w
 
   pub reducing-more : i < n → (eqb i c || skipped (entry_at w now i c)) ≡ false → (left ≡ 0 → ⊥) → (pivot next : List Float)
       → ((q : ℕ) → q < w → entry pivot q ≡ entry_at w first c q) → length next ≡ length now
-      → ((r q : ℕ) → q < w → entry_at w next r q ≡ with_row i (lessFactor c (entry pivot) (entry_at w now) i) (entry_at w now) r q)
+      → ((r q : ℕ) → q < w → entry_at w next r q ≡ with_row i (less_factor c (entry pivot) (entry_at w now) i) (entry_at w now) r q)
       → Reducing n w c allowed (left - 1) (i + 1) first next
-  unfolding with_row lessFactor
+  unfolding with_row less_factor
   reducing-more h t some pivot next held same less =
       record {
         most = omega arith;
         full = same ∙ s.full;
-        rows = rows_more w now next _ _ i (lessFactor c (entry pivot) (entry_at w now) i) less
+        rows = rows_more w now next _ _ i (less_factor c (entry pivot) (entry_at w now) i) less
             (reduced-is w c (entry pivot) (entry_at w first) held (entry_at w now) i here (s.rows.ahead i (omega arith)) (as_first false t)) s.rows;
         came = came-then allowed left (steps w c first (up_to n)) (steps w c first (drop i (up_to n))) first now s.came
-            (reduces ∷ computing (ofReducing operations workings (entry_at w first) c i (up_to w))) (steps w c first (drop (i + 1) (up_to n))) next (next-steps h false t) (left - 1) told;
+            (reduces ∷ computing (of_reducing operations workings (entry_at w first) c i (up_to w))) (steps w c first (drop (i + 1) (up_to n))) next (next-steps h false t) (left - 1) told;
       }
     where
       row : (q : ℕ) → q < w → entry_at w now i q ≡ entry_at w first i q
@@ -102,24 +102,24 @@ module _ (n w c allowed left i : ℕ) (first now : List Float) (s : Reducing n w
           let l = less r q k in
           cc
 
-      told : Told left (reduces ∷ computing (ofReducing operations workings (entry_at w first) c i (up_to w))) now next (Done (left - 1))
+      told : Told left (reduces ∷ computing (of_reducing operations workings (entry_at w first) c i (up_to w))) now next (Done (left - 1))
       told =
           let one : suc (left - 1) ≡ left = omega (arith, some) in
-          subst (λ (m : ℕ). Told m (reduces ∷ computing (ofReducing operations workings (entry_at w first) c i (up_to w))) now next (Done (left - 1))) one
+          subst (λ (m : ℕ). Told m (reduces ∷ computing (of_reducing operations workings (entry_at w first) c i (up_to w))) now next (Done (left - 1))) one
           (row_told (left - 1) n w c i (entry_at w first) now next s.full (same ∙ s.full) h put row)
 
   pub reducing-exceeded : i < n → (eqb i c || skipped (entry_at w now i c)) ≡ false → left ≡ 0 → Told allowed (steps w c first (up_to n)) first now Exceeded
-  unfolding isDone
+  unfolding is_done
   reducing-exceeded h t e =
       came-ended allowed left (steps w c first (up_to n)) (steps w c first (drop i (up_to n))) first now s.came
-      (reduces ∷ computing (ofReducing operations workings (entry_at w first) c i (up_to w))) (steps w c first (drop (i + 1) (up_to n))) now (next-steps h false t) Exceeded refl
-      (subst (λ (m : ℕ). Told m (reduces ∷ computing (ofReducing operations workings (entry_at w first) c i (up_to w))) now now Exceeded) (sym e) (told-exceeded _ now))
+      (reduces ∷ computing (of_reducing operations workings (entry_at w first) c i (up_to w))) (steps w c first (drop (i + 1) (up_to n))) now (next-steps h false t) Exceeded refl
+      (subst (λ (m : ℕ). Told m (reduces ∷ computing (of_reducing operations workings (entry_at w first) c i (up_to w))) now now Exceeded) (sym e) (told-exceeded _ now))
 
   pub reducing-end : n ≤ i → Told allowed (steps w c first (up_to n)) first now (Done left)
       × ((r q : ℕ) → r < n → q < w → entry_at w now r q ≡ reduced operations c (entry_at w first) r q)
-  unfolding stepsOfRows
+  unfolding steps_of_rows
   reducing-end h =
       let e : i ≡ n = omega (arith, s.most) in (
-        came-done allowed left (steps w c first (up_to n)) (steps w c first (drop i (up_to n))) first now s.came (ap (λ (is : List ℕ). steps w c first is) (upTo-end n i h)),
+        came-done allowed left (steps w c first (up_to n)) (steps w c first (drop i (up_to n))) first now s.came (ap (λ (is : List ℕ). steps w c first is) (up_to-end n i h)),
         λ (r q : ℕ) (x : r < n) (y : q < w). s.rows.behind r (omega arith) q y,
       )

@@ -2,18 +2,18 @@
 -- And that a filled slice is the system beside its right side, or beside the identity.
 use Rattle.prelude.proofs.Prelude.{◌≡◌, refl, sym, ap, ◌∙◌, subst, Bool, true, false, cond, ◌⊎◌, inl, inr, List, ℕ, ◌+◌, ◌-◌, ◌*◌, ◌≤◌, ◌<◌, arith, T, eqb, length, Float, of_bits, sub-zero, eqb-true, eq-eqb, ne_eqb}
 use borrow.Author.Tests.{eqb-false}
-use Rattle.binary64.specs.Values.{allFinite}
+use Rattle.binary64.specs.Values.{all_finite}
 use Rattle.complex.specs.{plus0, one, unit, entry, Matrix, entry_at, zeros}
 use Rattle.complex.proofs.Entries.{parts_same}
-use Rattle.complex.proofs.Matrices.{entry-grid, entry-within, getD-zeros}
+use Rattle.complex.proofs.Matrices.{entry-grid, entry-within, get_or-zeros}
 use Rattle.complex.proofs.Sticky.{Finite}
 use Rattle.complex.proofs.FiniteEntries.{AllFinite, entries-slice, entry-finite, same-finite}
 use Rattle.lists.proofs.Order.{lt-or-ge}
 use Rattle.refusals.specs.Work.{Step}
-use Rattle.solver.specs.GaussJordan.{gaussJordan, pairs, augmented, solution, singularSystem}
-use Rattle.solver.specs.Solving.{operations, unitColumn}
-use Rattle.solver.specs.Steps.{workings, stepsOfRun}
-use Rattle.solver.specs.Inner.Work.{Ended, Met, placed, rightSides, withIdentity}
+use Rattle.solver.specs.GaussJordan.{gauss_jordan, pairs, augmented, solution, singular_system}
+use Rattle.solver.specs.Solving.{operations, unit_column}
+use Rattle.solver.specs.Steps.{workings, steps_of_run}
+use Rattle.solver.specs.Inner.Work.{Ended, Met, placed, right_sides, with_identity}
 use Rattle.solver.specs.declared.elimination.Eliminated.{Eliminated}
 use Rattle.solver.specs.declared.elimination.Eliminated.TheVariants.{Done}
 use Rattle.solver.proofs.Pairs.{pairs-same, pairs-system}
@@ -35,39 +35,39 @@ augmented-finite n m A B a b i j x y = pick (lt-or-ge j n)
 -- ---- an eliminated slice
 
 module _ (n m : ℕ) (A B : Matrix) (ys : List Float) (filled : (i j : ℕ) → i < n → j < n + m → entry_at (n + m) ys i j ≡ augmented operations n A B i j) where
-  pub singular-is : (gaussJordan operations n (entry_at (n + m) ys)).singular ≡ singularSystem operations n A
+  pub singular-is : (gauss_jordan operations n (entry_at (n + m) ys)).singular ≡ singular_system operations n A
   singular-is = (run-same operations n (n + m) (omega arith) (entry_at (n + m) ys) (augmented operations n A B) filled).singular ∙ augmented-singular operations n A B
 
   pub pairs_is : pairs operations n (entry_at (n + m) ys) ≡ pairs operations n A
   pairs_is = pairs-same operations n (n + m) (omega arith) (entry_at (n + m) ys) (augmented operations n A B) filled ∙ pairs-system operations n A B
 
   -- the steps are those of the system beside its right sides
-  pub steps-are : stepsOfRun operations workings n (n + m) (entry_at (n + m) ys) ≡ stepsOfRun operations workings n (n + m) (augmented operations n A B)
+  pub steps-are : steps_of_run operations workings n (n + m) (entry_at (n + m) ys) ≡ steps_of_run operations workings n (n + m) (augmented operations n A B)
   steps-are = run-steps-same operations workings n (n + m) (omega arith) (entry_at (n + m) ys) (augmented operations n A B) filled
 
   module _ (allowed : ℕ) (end : Eliminated) (zs : List Float) (met : Met n (n + m) allowed end ys zs) where
-    pub ended_is : Ended allowed end (stepsOfRun operations workings n (n + m) (augmented operations n A B))
+    pub ended_is : Ended allowed end (steps_of_run operations workings n (n + m) (augmented operations n A B))
     ended_is = subst (λ (l : List Step). Ended allowed end l) steps-are (record { number = met.number; count = λ left e. (met.done left e).count })
 
-    pub solution-is : (left : ℕ) → end ≡ Done left → (i c : ℕ) → i < n → c < m → rightSides n (entry_at (n + m) zs) i c ≡ solution operations n A (λ (r : ℕ). B r c) i
-    unfolding rightSides
+    pub solution-is : (left : ℕ) → end ≡ Done left → (i c : ℕ) → i < n → c < m → right_sides n (entry_at (n + m) zs) i c ≡ solution operations n A (λ (r : ℕ). B r c) i
+    unfolding right_sides
     solution-is left d i c h k =
         let col : n + c < n + m = omega arith in
         ap (λ (l : List Float). entry_at (n + m) l i (n + c)) (met.done left d).entries
-        ∙ entry-grid n (n + m) (gaussJordan operations n (entry_at (n + m) ys)).left i (n + c) h col
+        ∙ entry-grid n (n + m) (gauss_jordan operations n (entry_at (n + m) ys)).left i (n + c) h col
         ∙ (run-same operations n (n + m) (omega arith) (entry_at (n + m) ys) (augmented operations n A B) filled).left i (n + c) h col
         ∙ column-alone operations n A B i c h
 
   -- finite, where system and right sides are
-  pub filled-finite : length ys ≡ 2 * (n * (n + m)) → AllFinite n n A → AllFinite n m B → T (allFinite ys)
+  pub filled-finite : length ys ≡ 2 * (n * (n + m)) → AllFinite n n A → AllFinite n m B → T (all_finite ys)
   filled-finite long a b = entries-slice n (n + m) ys long (same-finite n (n + m) (augmented operations n A B) (entry_at (n + m) ys) (λ i j x y. sym (filled i j x y)) (augmented-finite n m A B a b))
 
 -- one right side, and the identity
-pub side-finite : (n : ℕ) (b : List Float) → length b ≡ 2 * n → T (allFinite b) → AllFinite n 1 (λ (r k : ℕ). entry b r)
+pub side-finite : (n : ℕ) (b : List Float) → length b ≡ 2 * n → T (all_finite b) → AllFinite n 1 (λ (r k : ℕ). entry b r)
 side-finite n b long h i j x y = entry-finite b i (omega arith) h
 
-pub identity-finite : (n m : ℕ) → AllFinite n m (λ (r k : ℕ). unitColumn k r)
-unfolding unitColumn plus0 one of_bits
+pub identity-finite : (n m : ℕ) → AllFinite n m (λ (r k : ℕ). unit_column k r)
+unfolding unit_column plus0 one of_bits
 identity-finite n m i j x y = pick (eqb i j)
   where
     pick : (b : Bool) → Finite (cond b unit (record { re = plus0; im = plus0 }))
@@ -103,25 +103,25 @@ zero-entry : (n w long i j : ℕ) → long ≡ 2 * (n * w) → i < n → j < w �
 unfolding entry_at entry
 zero-entry n w long i j e h k =
     let within : i * w + j < n * w = entry-within n w i j h k in
-    parts_same (getD-zeros long (2 * (i * w + j)) (omega arith)) (getD-zeros long (2 * (i * w + j) + 1) (omega arith))
+    parts_same (get_or-zeros long (2 * (i * w + j)) (omega arith)) (get_or-zeros long (2 * (i * w + j) + 1) (omega arith))
 
 pub identity-filled : (n long : ℕ) (A : Matrix) → long ≡ 2 * (n * (n + n)) → (i j : ℕ) → i < n → j < n + n
-    → withIdentity n (placed 0 n A (entry_at (n + n) (zeros long))) i j ≡ augmented operations n A (λ (r k : ℕ). unitColumn k r) i j
-unfolding withIdentity unitColumn
+    → with_identity n (placed 0 n A (entry_at (n + n) (zeros long))) i j ≡ augmented operations n A (λ (r k : ℕ). unit_column k r) i j
+unfolding with_identity unit_column
 identity-filled n long A e i j h k = pick (lt-or-ge j n)
   where
     W : Matrix
     W = placed 0 n A (entry_at (n + n) (zeros long))
 
-    pick : (j < n) ⊎ (n ≤ j) → cond (eqb j (n + i)) unit (placed 0 n A (entry_at (n + n) (zeros long)) i j) ≡ augmented operations n A (λ (r k : ℕ). unitColumn k r) i j
+    pick : (j < n) ⊎ (n ≤ j) → cond (eqb j (n + i)) unit (placed 0 n A (entry_at (n + n) (zeros long)) i j) ≡ augmented operations n A (λ (r k : ℕ). unit_column k r) i j
     pick (inl l) =
         ap (λ (b : Bool). cond b unit (placed 0 n A (entry_at (n + n) (zeros long)) i j)) (ne_eqb j (n + i) (λ (x : j ≡ n + i). omega arith))
         ∙ first-columns n A (entry_at (n + n) (zeros long)) i j l
-        ∙ sym (augmented-system operations n A (λ (r k : ℕ). unitColumn k r) i j l)
+        ∙ sym (augmented-system operations n A (λ (r k : ℕ). unit_column k r) i j l)
     pick (inr l) =
         let at : n + (j - n) ≡ j = omega arith in
         one (eqb i (j - n)) refl
-        ∙ sym (augmented-right operations n A (λ (r k : ℕ). unitColumn k r) i (j - n)) ∙ ap (augmented operations n A (λ (r k : ℕ). unitColumn k r) i) at
+        ∙ sym (augmented-right operations n A (λ (r k : ℕ). unit_column k r) i (j - n)) ∙ ap (augmented operations n A (λ (r k : ℕ). unit_column k r) i) at
       where
         zeroes : placed 0 n A (entry_at (n + n) (zeros long)) i j ≡ record { re = plus0; im = plus0 }
         zeroes = placed-right 0 n A (entry_at (n + n) (zeros long)) i j (omega arith) ∙ zero-entry n (n + n) long i j e h k

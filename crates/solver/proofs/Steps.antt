@@ -2,12 +2,12 @@
 --     run-count  the row reductions are the pairs of column and other row whose factor is not skipped
 --     run-met    where the work without a limit does not meet 20: 18 where these are more than are allowed, else 13 or nothing
 use Rattle.prelude.proofs.Prelude.{◌≡◌, refl, sym, ap, ◌∙◌, Bool, true, false, ◌||◌, cond, ◌⊎◌, inl, inr, List, [], ◌∷◌, ◌++◌, ℕ, zero, suc, ◌+◌, ◌-◌, ◌<◌, ◌≤◌, arith, eqb, ltb, lt-ltb, le-ltb, Float}
-use Rattle.refusals.specs.Work.{Step, reduces, pivotTooSmall, computing, reductions, meets}
+use Rattle.refusals.specs.Work.{Step, reduces, pivot_too_small, computing, reductions, meets}
 use Rattle.refusals.proofs.Work.{meets-after, meets-first, unlost-meets, marks, marks-both, marks-numbers, none-marked, marks-count, count-both, count-numbers, none-counted}
 use Rattle.lists.specs.Buses.{up_to}
 use Rattle.lists.proofs.Order.{lt-or-ge}
-use Rattle.solver.specs.GaussJordan.{Operations, MatrixOf, Elimination, pivoted, scaled, cleared, gaussJordanFrom, gaussJordan, pairsIn, pairsFrom, pairs}
-use Rattle.solver.specs.Steps.{Workings, ofSearch, ofScaling, ofReducing, stepsOfRow, stepsOfRows, stepsFrom, stepsOfRun}
+use Rattle.solver.specs.GaussJordan.{Operations, MatrixOf, Elimination, pivoted, scaled, cleared, gauss_jordan_from, gauss_jordan, pairs_in, pairs_from, pairs}
+use Rattle.solver.specs.Steps.{Workings, of_search, of_scaling, of_reducing, steps_of_row, steps_of_rows, steps_from, steps_of_run}
 
 -- ---- what is met by count alone
 
@@ -16,8 +16,8 @@ abbrev pub stopped : ℕ → ℕ → ℕ → ℕ
 stopped m k next = cond (ltb m k) 18 next
 
 -- what an elimination meets, by its count and whether a pivot is too small
-abbrev pub metBy : ℕ → ℕ → Bool → ℕ
-metBy m k small = stopped m k (cond small 13 0)
+abbrev pub met_by : ℕ → ℕ → Bool → ℕ
+met_by m k small = stopped m k (cond small 13 0)
 
 pub stopped_none : (m next : ℕ) → next ≡ stopped m 0 next
 stopped_none m next = rw (le-ltb m 0 (omega arith))
@@ -78,23 +78,23 @@ module _ {E : Type 0} (O : Operations E) (W : Workings E) where
   row-counted false xs (suc m) =
       ap (meets m) (none-marked xs) ∙ sym (ap (λ (k : ℕ). stopped (suc m) k 0) (row_count false xs) ∙ ap (λ (b : Bool). cond b 18 0) (le-ltb (suc m) 1 (omega arith)))
 
-  rows-counted : (C : MatrixOf E) (c : ℕ) (is js : List ℕ) → OnlyCounted (stepsOfRows O W C c is js)
-  unfolding stepsOfRows stepsOfRow
+  rows-counted : (C : MatrixOf E) (c : ℕ) (is js : List ℕ) → OnlyCounted (steps_of_rows O W C c is js)
+  unfolding steps_of_rows steps_of_row
   rows-counted C c [] js = counted_none
   rows-counted C c (i ∷ is) js =
-      counted-both _ (stepsOfRows O W C c is js) (row-counted (eqb i c || O.skips (C i c)) (ofReducing O W C c i js)) (rows-counted C c is js)
+      counted-both _ (steps_of_rows O W C c is js) (row-counted (eqb i c || O.skips (C i c)) (of_reducing O W C c i js)) (rows-counted C c is js)
 
   -- how many of these rows are reduced
   among : MatrixOf E → ℕ → List ℕ → ℕ
   among C c [] = 0
   among C c (i ∷ is) = cond (eqb i c || O.skips (C i c)) 0 1 + among C c is
 
-  among-count : (C : MatrixOf E) (c : ℕ) (is js : List ℕ) → reductions (stepsOfRows O W C c is js) ≡ among C c is
-  unfolding stepsOfRows stepsOfRow among reductions
+  among-count : (C : MatrixOf E) (c : ℕ) (is js : List ℕ) → reductions (steps_of_rows O W C c is js) ≡ among C c is
+  unfolding steps_of_rows steps_of_row among reductions
   among-count C c [] js = refl
   among-count C c (i ∷ is) js =
-      count-both (cond (eqb i c || O.skips (C i c)) [] (reduces ∷ computing (ofReducing O W C c i js))) (stepsOfRows O W C c is js)
-      ∙ ap (λ (k : ℕ). k + reductions (stepsOfRows O W C c is js)) (row_count (eqb i c || O.skips (C i c)) (ofReducing O W C c i js))
+      count-both (cond (eqb i c || O.skips (C i c)) [] (reduces ∷ computing (of_reducing O W C c i js))) (steps_of_rows O W C c is js)
+      ∙ ap (λ (k : ℕ). k + reductions (steps_of_rows O W C c is js)) (row_count (eqb i c || O.skips (C i c)) (of_reducing O W C c i js))
       ∙ ap (λ (k : ℕ). cond (eqb i c || O.skips (C i c)) 0 1 + k) (among-count C c is js)
 
   among-end : (C : MatrixOf E) (c : ℕ) (is : List ℕ) (i : ℕ) → among C c (is ++ (i ∷ [])) ≡ among C c is + cond (eqb i c || O.skips (C i c)) 0 1
@@ -102,87 +102,87 @@ module _ {E : Type 0} (O : Operations E) (W : Workings E) where
   among-end C c [] i = omega arith
   among-end C c (x ∷ is) i = let e = among-end C c is i in omega arith
 
-  among-all : (C : MatrixOf E) (c n : ℕ) → among C c (up_to n) ≡ pairsIn O C c n
-  unfolding among up_to pairsIn
+  among-all : (C : MatrixOf E) (c n : ℕ) → among C c (up_to n) ≡ pairs_in O C c n
+  unfolding among up_to pairs_in
   among-all C c zero = refl
   among-all C c (suc n) = among-end C c (up_to n) n ∙ ap (λ (k : ℕ). k + cond (eqb n c || O.skips (C n c)) 0 1) (among-all C c n)
 
-  rows-count : (C : MatrixOf E) (c n : ℕ) (js : List ℕ) → reductions (stepsOfRows O W C c (up_to n) js) ≡ pairsIn O C c n
+  rows-count : (C : MatrixOf E) (c n : ℕ) (js : List ℕ) → reductions (steps_of_rows O W C c (up_to n) js) ≡ pairs_in O C c n
   rows-count C c n js = among-count C c (up_to n) js ∙ among-all C c n
 
   -- ---- the columns
 
-  count-cases : (b : Bool) (es : List Step) (k : ℕ) → reductions es ≡ k → reductions (cond b (pivotTooSmall ∷ []) es) ≡ cond b 0 k
+  count-cases : (b : Bool) (es : List Step) (k : ℕ) → reductions es ≡ k → reductions (cond b (pivot_too_small ∷ []) es) ≡ cond b 0 k
   unfolding reductions
   count-cases true es k h = refl
   count-cases false es k h = h
 
-  run-from-count : (n w count c : ℕ) (A : MatrixOf E) → reductions (stepsFrom O W n w count c A) ≡ pairsFrom O n count c A
-  unfolding stepsFrom pairsFrom reductions
+  run-from-count : (n w count c : ℕ) (A : MatrixOf E) → reductions (steps_from O W n w count c A) ≡ pairs_from O n count c A
+  unfolding steps_from pairs_from reductions
   run-from-count n w zero c A = refl
   run-from-count n w (suc count) c A =
       let B = pivoted O n c A in
       let C = scaled O c B in
-      let rows = stepsOfRows O W C c (up_to n) (up_to w) in
-      let later = stepsFrom O W n w count (suc c) (cleared O c B) in
-      count-numbers (ofSearch O W A c c (suc c) (n - suc c) ++ W.ofWeight (B c c)) _
-      ∙ count-cases (O.small (B c c)) (computing (W.ofInverse (B c c) ++ ofScaling O W B c (up_to w)) ++ (rows ++ later)) _
-      (count-numbers (W.ofInverse (B c c) ++ ofScaling O W B c (up_to w)) (rows ++ later)
+      let rows = steps_of_rows O W C c (up_to n) (up_to w) in
+      let later = steps_from O W n w count (suc c) (cleared O c B) in
+      count-numbers (of_search O W A c c (suc c) (n - suc c) ++ W.of_weight (B c c)) _
+      ∙ count-cases (O.small (B c c)) (computing (W.of_inverse (B c c) ++ of_scaling O W B c (up_to w)) ++ (rows ++ later)) _
+      (count-numbers (W.of_inverse (B c c) ++ of_scaling O W B c (up_to w)) (rows ++ later)
       ∙ count-both rows later
       ∙ ap (λ (k : ℕ). k + reductions later) (rows-count C c n (up_to w))
-      ∙ ap (λ (k : ℕ). pairsIn O C c n + k) (run-from-count n w count (suc c) (cleared O c B)))
+      ∙ ap (λ (k : ℕ). pairs_in O C c n + k) (run-from-count n w count (suc c) (cleared O c B)))
 
   run-from-met : (n w count c : ℕ) (A : MatrixOf E) (m : ℕ)
-      → meets m (marks (stepsFrom O W n w count c A)) ≡ metBy m (pairsFrom O n count c A) (gaussJordanFrom O n count c A).singular
-  unfolding stepsFrom pairsFrom gaussJordanFrom meets marks
+      → meets m (marks (steps_from O W n w count c A)) ≡ met_by m (pairs_from O n count c A) (gauss_jordan_from O n count c A).singular
+  unfolding steps_from pairs_from gauss_jordan_from meets marks
   run-from-met n w zero c A m = stopped_none m 0
   run-from-met n w (suc count) c A m =
       let B = pivoted O n c A in
-      ap (meets m) (marks-numbers (ofSearch O W A c c (suc c) (n - suc c) ++ W.ofWeight (B c c)) _)
+      ap (meets m) (marks-numbers (of_search O W A c c (suc c) (n - suc c) ++ W.of_weight (B c c)) _)
       ∙ pick (O.small (B c c)) (run-from-met n w count (suc c) (cleared O c B))
     where
       C : MatrixOf E
       C = scaled O c (pivoted O n c A)
 
       rows : List Step
-      rows = stepsOfRows O W C c (up_to n) (up_to w)
+      rows = steps_of_rows O W C c (up_to n) (up_to w)
 
       later : List Step
-      later = stepsFrom O W n w count (suc c) (cleared O c (pivoted O n c A))
+      later = steps_from O W n w count (suc c) (cleared O c (pivoted O n c A))
 
       next : Elimination E
-      next = gaussJordanFrom O n count (suc c) (cleared O c (pivoted O n c A))
+      next = gauss_jordan_from O n count (suc c) (cleared O c (pivoted O n c A))
 
       ahead : List Float
-      ahead = W.ofInverse (pivoted O n c A c c) ++ ofScaling O W (pivoted O n c A) c (up_to w)
+      ahead = W.of_inverse (pivoted O n c A c c) ++ of_scaling O W (pivoted O n c A) c (up_to w)
 
       rest : ℕ
-      rest = pairsFrom O n count (suc c) (cleared O c (pivoted O n c A))
+      rest = pairs_from O n count (suc c) (cleared O c (pivoted O n c A))
 
       pick : (b : Bool)
-          → ((k : ℕ) → meets k (marks (stepsFrom O W n w count (suc c) (cleared O c (pivoted O n c A))))
-          ≡ metBy k (pairsFrom O n count (suc c) (cleared O c (pivoted O n c A))) (gaussJordanFrom O n count (suc c) (cleared O c (pivoted O n c A))).singular)
-          → meets m (marks (cond b (pivotTooSmall ∷ []) (computing (W.ofInverse (pivoted O n c A c c) ++ ofScaling O W (pivoted O n c A) c (up_to w))
-          ++ (stepsOfRows O W (scaled O c (pivoted O n c A)) c (up_to n) (up_to w) ++ stepsFrom O W n w count (suc c) (cleared O c (pivoted O n c A))))))
-          ≡ metBy m (cond b 0 (pairsIn O (scaled O c (pivoted O n c A)) c n + pairsFrom O n count (suc c) (cleared O c (pivoted O n c A))))
-          (cond b (record { singular = true; left = pivoted O n c A }) (gaussJordanFrom O n count (suc c) (cleared O c (pivoted O n c A)))).singular
+          → ((k : ℕ) → meets k (marks (steps_from O W n w count (suc c) (cleared O c (pivoted O n c A))))
+          ≡ met_by k (pairs_from O n count (suc c) (cleared O c (pivoted O n c A))) (gauss_jordan_from O n count (suc c) (cleared O c (pivoted O n c A))).singular)
+          → meets m (marks (cond b (pivot_too_small ∷ []) (computing (W.of_inverse (pivoted O n c A c c) ++ of_scaling O W (pivoted O n c A) c (up_to w))
+          ++ (steps_of_rows O W (scaled O c (pivoted O n c A)) c (up_to n) (up_to w) ++ steps_from O W n w count (suc c) (cleared O c (pivoted O n c A))))))
+          ≡ met_by m (cond b 0 (pairs_in O (scaled O c (pivoted O n c A)) c n + pairs_from O n count (suc c) (cleared O c (pivoted O n c A))))
+          (cond b (record { singular = true; left = pivoted O n c A }) (gauss_jordan_from O n count (suc c) (cleared O c (pivoted O n c A)))).singular
       pick true ih = stopped_none m 13
       pick false ih =
           ap (meets m) (marks-numbers ahead (rows ++ later))
           ∙ counted-then rows later (rows-counted C c (up_to n) (up_to w)) m
           ∙ ap (λ (k : ℕ). stopped m k (meets (m - k) (marks later))) (rows-count C c n (up_to w))
-          ∙ ap (λ (x : ℕ). stopped m (pairsIn O C c n) x) (ih (m - pairsIn O C c n))
-          ∙ stopped-twice m (pairsIn O C c n) rest (cond next.singular 13 0)
+          ∙ ap (λ (x : ℕ). stopped m (pairs_in O C c n) x) (ih (m - pairs_in O C c n))
+          ∙ stopped-twice m (pairs_in O C c n) rest (cond next.singular 13 0)
 
-  pub run-count : (n w : ℕ) (A : MatrixOf E) → reductions (stepsOfRun O W n w A) ≡ pairs O n A
-  unfolding stepsOfRun pairs
+  pub run-count : (n w : ℕ) (A : MatrixOf E) → reductions (steps_of_run O W n w A) ≡ pairs O n A
+  unfolding steps_of_run pairs
   run-count n w A = run-from-count n w n 0 A
 
   -- by marks alone
-  pub run-marked : (n w : ℕ) (A : MatrixOf E) (m : ℕ) → meets m (marks (stepsOfRun O W n w A)) ≡ metBy m (pairs O n A) (gaussJordan O n A).singular
-  unfolding stepsOfRun pairs gaussJordan
+  pub run-marked : (n w : ℕ) (A : MatrixOf E) (m : ℕ) → meets m (marks (steps_of_run O W n w A)) ≡ met_by m (pairs O n A) (gauss_jordan O n A).singular
+  unfolding steps_of_run pairs gauss_jordan
   run-marked n w A m = run-from-met n w n 0 A m
 
-  pub run-met : (n w : ℕ) (A : MatrixOf E) (m : ℕ) → (meets (reductions (stepsOfRun O W n w A)) (stepsOfRun O W n w A) ≡ 20 → ⊥)
-      → meets m (stepsOfRun O W n w A) ≡ metBy m (pairs O n A) (gaussJordan O n A).singular
-  run-met n w A m unlost = unlost-meets m (stepsOfRun O W n w A) unlost ∙ run-marked n w A m
+  pub run-met : (n w : ℕ) (A : MatrixOf E) (m : ℕ) → (meets (reductions (steps_of_run O W n w A)) (steps_of_run O W n w A) ≡ 20 → ⊥)
+      → meets m (steps_of_run O W n w A) ≡ met_by m (pairs O n A) (gauss_jordan O n A).singular
+  run-met n w A m unlost = unlost-meets m (steps_of_run O W n w A) unlost ∙ run-marked n w A m

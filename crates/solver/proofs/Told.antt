@@ -4,12 +4,12 @@
 --     told-numbers  numbers that the slice then holds
 --     came-then     a loop's next steps
 use Rattle.prelude.proofs.Prelude.{◌≡◌, refl, sym, ap, ◌∙◌, subst, Bool, true, false, cond, true≢false, List, [], ◌∷◌, ◌++◌, append_assoc, append-nil, ℕ, suc, ◌+◌, ◌-◌, arith, T, eqb, is_true, Float}
-use Rattle.binary64.specs.Values.{allFinite}
+use Rattle.binary64.specs.Values.{all_finite}
 use Rattle.refusals.specs.Work.{Step, reduces, computing, reductions, meets}
 use Rattle.refusals.proofs.Work.{meets-after, meets-first, meets-numbers, numbers-met, count-both, none-counted}
 use Rattle.solver.specs.declared.elimination.Eliminated.{Eliminated}
 use Rattle.solver.specs.declared.elimination.Eliminated.TheVariants.{Done, Small, Exceeded, NotFinite}
-use Rattle.solver.specs.Inner.Work.{isDone, number_of, Told}
+use Rattle.solver.specs.Inner.Work.{is_done, number_of, Told}
 
 -- ---- answers
 
@@ -23,30 +23,30 @@ pub same_left : {k m : ℕ} → Done k ≡ Done m → k ≡ m
 unfolding left-of
 same_left e = ap left-of e
 
-pub not_done : {r : Eliminated} {left : ℕ} → isDone r ≡ false → r ≡ Done left → ⊥
-unfolding isDone
-not_done h e = true≢false (sym (ap isDone e) ∙ h)
+pub not_done : {r : Eliminated} {left : ℕ} → is_done r ≡ false → r ≡ Done left → ⊥
+unfolding is_done
+not_done h e = true≢false (sym (ap is_done e) ∙ h)
 
 pub not-small : {r : Eliminated} → eqb (number_of r) 13 ≡ false → r ≡ Small → ⊥
 unfolding number_of
 not-small h e = true≢false (sym (ap (λ (x : Eliminated). eqb (number_of x) 13) e) ∙ h)
 
-pub some_number : (r : Eliminated) → isDone r ≡ false → number_of r ≡ 0 → ⊥
-unfolding isDone number_of
+pub some_number : (r : Eliminated) → is_done r ≡ false → number_of r ≡ 0 → ⊥
+unfolding is_done number_of
 some_number (Done left) h e = true≢false h
 some_number Small h e = omega arith
 some_number Exceeded h e = omega arith
 some_number NotFinite h e = omega arith
 
-pub number-none : (r : Eliminated) → eqb (number_of r) 0 ≡ isDone r
-unfolding number_of isDone
+pub number-none : (r : Eliminated) → eqb (number_of r) 0 ≡ is_done r
+unfolding number_of is_done
 number-none (Done left) = refl
 number-none Small = refl
 number-none Exceeded = refl
 number-none NotFinite = refl
 
-pub done-left : (r : Eliminated) → isDone r ≡ true → (left : ℕ) × (r ≡ Done left)
-unfolding isDone
+pub done-left : (r : Eliminated) → is_done r ≡ true → (left : ℕ) × (r ≡ Done left)
+unfolding is_done
 done-left (Done left) h = (left, refl)
 done-left Small h = absurd (true≢false (sym h))
 done-left Exceeded h = absurd (true≢false (sym h))
@@ -63,18 +63,18 @@ module _ (m : ℕ) (es : List Step) (A B : List Float) where
   unfolding number_of
   told-then left fs C r first next = record {
     finite = λ h. let (b, met) = next.finite h in let (a, none) = first.finite b in (a, after none ∙ met);
-    lost = λ a k. lose (allFinite B) refl a k;
+    lost = λ a k. lose (all_finite B) refl a k;
     count = λ rest e. let x = next.count rest e in let y = first.count left refl in let z = count-both es fs in omega arith;
   }
     where
       after : meets m es ≡ 0 → meets m (es ++ fs) ≡ meets left fs
       after none = let c = first.count left refl in let e : m - reductions es ≡ left = omega arith in meets-after m es fs none ∙ ap (λ (k : ℕ). meets k fs) e
 
-      lose : (b : Bool) → allFinite B ≡ b → T (allFinite A) → allFinite C ≡ false → meets m (es ++ fs) ≡ 20
-      lose true t a k = let b : T (allFinite B) = subst T (sym t) tt in after (first.finite b).1 ∙ next.lost b k
+      lose : (b : Bool) → all_finite B ≡ b → T (all_finite A) → all_finite C ≡ false → meets m (es ++ fs) ≡ 20
+      lose true t a k = let b : T (all_finite B) = subst T (sym t) tt in after (first.finite b).1 ∙ next.lost b k
       lose false t a k = let met = first.lost a t in meets-first m es fs (λ (z : meets m es ≡ 0). omega arith) ∙ met
 
-  pub told-ended : (fs : List Step) (r : Eliminated) → isDone r ≡ false → Told m es A B r → Told m (es ++ fs) A B r
+  pub told-ended : (fs : List Step) (r : Eliminated) → is_done r ≡ false → Told m es A B r → Told m (es ++ fs) A B r
   told-ended fs r d first = record {
     finite = λ h. let (a, met) = first.finite h in (a, meets-first m es fs (λ (z : meets m es ≡ 0). some_number r d (sym met ∙ z)) ∙ met);
     lost = λ a k. let met = first.lost a k in meets-first m es fs (λ (z : meets m es ≡ 0). omega arith) ∙ met;
@@ -107,21 +107,21 @@ module _ (m left : ℕ) (all rest : List Step) (A B : List Float) (c : Came m al
     pub came-then : (k : ℕ) → Told left es B C (Done k) → Came m all A C k more
     came-then k t = record { behind = c.behind ++ es; whole = all-is; told = told-then m c.behind A B left es C (Done k) c.told t }
 
-    pub came-ended : (r : Eliminated) → isDone r ≡ false → Told left es B C r → Told m all A C r
+    pub came-ended : (r : Eliminated) → is_done r ≡ false → Told left es B C r → Told m all A C r
     came-ended r d t = told_same m ((c.behind ++ es) ++ more) A C all r (sym all-is)
         (told-ended m (c.behind ++ es) A C more r d (told-then m c.behind A B left es C r c.told t))
 
 -- numbers: the slice is finite behind them exactly where it was before and they are
-pub told-numbers : (m : ℕ) (xs A B : List Float) → (T (allFinite B) → T (allFinite A) × T (allFinite xs)) → (T (allFinite A) → T (allFinite xs) → T (allFinite B))
+pub told-numbers : (m : ℕ) (xs A B : List Float) → (T (all_finite B) → T (all_finite A) × T (all_finite xs)) → (T (all_finite A) → T (all_finite xs) → T (all_finite B))
     → Told m (computing xs) A B (Done m)
 unfolding number_of
 told-numbers m xs A B tells kept = record {
-  finite = λ h. let (a, x) = tells h in (a, numbers-met m xs ∙ ap (λ (b : Bool). cond b 0 20) (is_true (allFinite xs) x));
-  lost = λ a k. numbers-met m xs ∙ lose (allFinite xs) refl a k;
+  finite = λ h. let (a, x) = tells h in (a, numbers-met m xs ∙ ap (λ (b : Bool). cond b 0 20) (is_true (all_finite xs) x));
+  lost = λ a k. numbers-met m xs ∙ lose (all_finite xs) refl a k;
   count = λ left e. let n = none-counted xs in let s = same_left e in omega arith;
 }
   where
-    lose : (b : Bool) → allFinite xs ≡ b → T (allFinite A) → allFinite B ≡ false → ◌≡◌ {A = ℕ} (cond (allFinite xs) 0 20) 20
+    lose : (b : Bool) → all_finite xs ≡ b → T (all_finite A) → all_finite B ≡ false → ◌≡◌ {A = ℕ} (cond (all_finite xs) 0 20) 20
     lose true t a k = absurd (subst T k (kept a (subst T (sym t) tt)))
     lose false t a k = ap (λ (b : Bool). cond b 0 20) t
 
@@ -132,12 +132,12 @@ told-reduces m A = record { finite = λ h. (h, refl); lost = λ h k. absurd (sub
 
 -- or is not
 pub told-exceeded : (fs : List Step) (A : List Float) → Told 0 (reduces ∷ fs) A A Exceeded
-unfolding meets number_of isDone
+unfolding meets number_of is_done
 told-exceeded fs A = record { finite = λ h. (h, refl); lost = λ h k. absurd (subst T k h); count = λ left e. absurd (not_done refl e) }
 
 -- a number that is not finite ends the work, the slice unlooked at
-pub told-not-finite : (m : ℕ) (xs : List Float) (fs : List Step) (A : List Float) → allFinite xs ≡ false → Told m (computing xs ++ fs) A A NotFinite
-unfolding number_of isDone
+pub told-not-finite : (m : ℕ) (xs : List Float) (fs : List Step) (A : List Float) → all_finite xs ≡ false → Told m (computing xs ++ fs) A A NotFinite
+unfolding number_of is_done
 told-not-finite m xs fs A t =
     let met : meets m (computing xs ++ fs) ≡ 20 = meets-numbers m xs fs ∙ ap (λ (b : Bool). cond b (meets m fs) 20) t in
     record { finite = λ h. (h, met); lost = λ h k. met; count = λ left e. absurd (not_done refl e) }

@@ -6,10 +6,10 @@ use Rattle.refusals.specs.declared.Allowance.{Allowance}
 use Rattle.refusals.specs.declared.Allowance.TheVariants.{Unlimited}
 use Rattle.refusals.specs.declared.Counted.{Counted}
 use Rattle.refusals.specs.declared.Outcome.{Outcome}
-use Rattle.refusals.specs.Refusals.{limit, tooMany, wrongLength, emptySystem, refuse, thenGiven, outcome, counted}
-use Rattle.refusals.specs.Work.{reductions, thenWork}
+use Rattle.refusals.specs.Refusals.{limit, too_many, wrong_length, empty_system, refuse, then_given, outcome, counted}
+use Rattle.refusals.specs.Work.{reductions, then_work}
 use Rattle.solver.specs.Solving.{solve, inverse}
-use Rattle.solver.specs.Steps.{stepsOfSolve, stepsOfInverse}
+use Rattle.solver.specs.Steps.{steps_of_solve, steps_of_inverse}
 
 -- A call that ends in an elimination, with one output slice and one work slice.
 pub record AfterElimination (Answer : Type 0) : Type 0 where
@@ -19,10 +19,10 @@ pub record AfterElimination (Answer : Type 0) : Type 0 where
 
 -- `answered` is the answer by the refusal's number, `told` the refusal from the input, `number` the call's: that one, else what the work
 -- meets. On a refusal the output is as it was; the work slice is cleared unless the input was refused.
-unfoldable pub afterElimination : {Answer : Type 0} → (ℕ → Answer) → ℕ → ℕ → List Float → List Float → List Float
+unfoldable pub after_elimination : {Answer : Type 0} → (ℕ → Answer) → ℕ → ℕ → List Float → List Float → List Float
     → AfterElimination Answer
 unfolding zeros
-afterElimination answered told number new old work =
+after_elimination answered told number new old work =
     record {
       answer = answered number;
       output = cond (eqb number 0) new old;
@@ -32,43 +32,43 @@ afterElimination answered told number new old work =
 -- ---- the solution of one system: a has n rows of n, b and x have n entries, work has n rows of n + 1
 
 -- told from the size and the lengths; 0 is no refusal
-unfoldable pub solveShapeRefusal : ℕ → ℕ → ℕ → ℕ → ℕ → ℕ
-solveShapeRefusal n a b x work =
-    refuse (ltb limit n) tooMany
-    (refuse (not (eqb a (2 * (n * n)) && (eqb x (2 * n) && eqb work (2 * (n * (n + 1)))))) wrongLength
-    (refuse (eqb n 0 || not (eqb b (2 * n))) emptySystem 0))
+unfoldable pub solve_shape_refusal : ℕ → ℕ → ℕ → ℕ → ℕ → ℕ
+solve_shape_refusal n a b x work =
+    refuse (ltb limit n) too_many
+    (refuse (not (eqb a (2 * (n * n)) && (eqb x (2 * n) && eqb work (2 * (n * (n + 1)))))) wrong_length
+    (refuse (eqb n 0 || not (eqb b (2 * n))) empty_system 0))
 
 -- told from the input: the same, else 19 where a number of a or b is not finite
-unfoldable pub solveRefusal : ℕ → List Float → List Float → ℕ → ℕ → ℕ
-unfolding solveShapeRefusal thenGiven
-solveRefusal n a b x work = thenGiven (solveShapeRefusal n (length a) (length b) x work) (a ++ b)
+unfoldable pub solve_refusal : ℕ → List Float → List Float → ℕ → ℕ → ℕ
+unfolding solve_shape_refusal then_given
+solve_refusal n a b x work = then_given (solve_shape_refusal n (length a) (length b) x work) (a ++ b)
 
 -- an accepted solve answers how many rows it reduced
-unfoldable pub afterSolve : ℕ → List Float → List Float → Allowance → List Float → List Float → AfterElimination Counted
-unfolding solveRefusal stepsOfSolve counted thenWork reductions afterElimination
-afterSolve n a b allowance x work =
-    let steps = stepsOfSolve n (entry_at n a) (entry b) in
-    let told = solveRefusal n a b (length x) (length work) in
-    afterElimination (counted (reductions steps)) told (thenWork told allowance steps)
+unfoldable pub after_solve : ℕ → List Float → List Float → Allowance → List Float → List Float → AfterElimination Counted
+unfolding solve_refusal steps_of_solve counted then_work reductions after_elimination
+after_solve n a b allowance x work =
+    let steps = steps_of_solve n (entry_at n a) (entry b) in
+    let told = solve_refusal n a b (length x) (length work) in
+    after_elimination (counted (reductions steps)) told (then_work told allowance steps)
     (grid n 1 (λ (i k : ℕ). solve n (entry_at n a) (entry b) i))
     x work
 
 -- ---- the inverse: mat and inverse have n rows of n, work has n rows of 2 n
 
-unfoldable pub inverseShapeRefusal : ℕ → ℕ → ℕ → ℕ → ℕ
-inverseShapeRefusal n mat inverse work =
-    refuse (ltb limit n) tooMany
-    (refuse (not (eqb mat (2 * (n * n)) && (eqb inverse (2 * (n * n)) && eqb work (4 * (n * n))))) wrongLength
-    (refuse (eqb n 0) emptySystem 0))
+unfoldable pub inverse_shape_refusal : ℕ → ℕ → ℕ → ℕ → ℕ
+inverse_shape_refusal n mat inverse work =
+    refuse (ltb limit n) too_many
+    (refuse (not (eqb mat (2 * (n * n)) && (eqb inverse (2 * (n * n)) && eqb work (4 * (n * n))))) wrong_length
+    (refuse (eqb n 0) empty_system 0))
 
-unfoldable pub inverseRefusal : ℕ → List Float → ℕ → ℕ → ℕ
-unfolding inverseShapeRefusal thenGiven
-inverseRefusal n mat inverse work = thenGiven (inverseShapeRefusal n (length mat) inverse work) mat
+unfoldable pub inverse_refusal : ℕ → List Float → ℕ → ℕ → ℕ
+unfolding inverse_shape_refusal then_given
+inverse_refusal n mat inverse work = then_given (inverse_shape_refusal n (length mat) inverse work) mat
 
-unfoldable pub afterInverse : ℕ → List Float → List Float → List Float → AfterElimination Outcome
-unfolding inverseRefusal stepsOfInverse outcome thenWork afterElimination
-afterInverse n mat out work =
-    let told = inverseRefusal n mat (length out) (length work) in
-    afterElimination outcome told (thenWork told Unlimited (stepsOfInverse n (entry_at n mat)))
+unfoldable pub after_inverse : ℕ → List Float → List Float → List Float → AfterElimination Outcome
+unfolding inverse_refusal steps_of_inverse outcome then_work after_elimination
+after_inverse n mat out work =
+    let told = inverse_refusal n mat (length out) (length work) in
+    after_elimination outcome told (then_work told Unlimited (steps_of_inverse n (entry_at n mat)))
     (grid n n (inverse n (entry_at n mat)))
     out work

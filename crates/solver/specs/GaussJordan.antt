@@ -31,16 +31,16 @@ pub record Elimination (E : Type 0) : Type 0 where
 
 module _ {E : Type 0} (O : Operations E) where
   -- of the held row and the `count` rows from `next` on, the one that is held at the end
-  unfoldable pub heldAfter : MatrixOf E → ℕ → ℕ → ℕ → ℕ → ℕ
+  unfoldable pub held_after : MatrixOf E → ℕ → ℕ → ℕ → ℕ → ℕ
   unfolding stays
-  heldAfter A c held next zero = held
-  heldAfter A c held next (suc count) =
-      heldAfter A c (cond (stays (O.weight (A held c)) (O.weight (A next c))) held next) (suc next) count
+  held_after A c held next zero = held
+  held_after A c held next (suc count) =
+      held_after A c (cond (stays (O.weight (A held c)) (O.weight (A next c))) held next) (suc next) count
 
   -- the pivot's row for column c, among the rows from c down
-  unfoldable pub pivotRow : ℕ → MatrixOf E → ℕ → ℕ
-  unfolding heldAfter
-  pivotRow n A c = heldAfter A c c (suc c) (n - suc c)
+  unfoldable pub pivot_row : ℕ → MatrixOf E → ℕ → ℕ
+  unfolding held_after
+  pivot_row n A c = held_after A c c (suc c) (n - suc c)
 
   -- rows p and q change places
   unfoldable pub swapped : ℕ → ℕ → MatrixOf E → MatrixOf E
@@ -56,42 +56,42 @@ module _ {E : Type 0} (O : Operations E) where
 
   -- the matrix with column c's pivot row in place
   unfoldable pub pivoted : ℕ → ℕ → MatrixOf E → MatrixOf E
-  unfolding pivotRow swapped
-  pivoted n c A = swapped c (pivotRow n A c) A
+  unfolding pivot_row swapped
+  pivoted n c A = swapped c (pivot_row n A c) A
 
   unfoldable pub cleared : ℕ → MatrixOf E → MatrixOf E
   unfolding scaled reduced
   cleared c B = reduced c (scaled c B)
 
   -- the columns from c on, `count` of them: stopped at the first pivot that is too small
-  unfoldable pub gaussJordanFrom : ℕ → ℕ → ℕ → MatrixOf E → Elimination E
+  unfoldable pub gauss_jordan_from : ℕ → ℕ → ℕ → MatrixOf E → Elimination E
   unfolding pivoted cleared
-  gaussJordanFrom n zero c A = record { singular = false; left = A }
-  gaussJordanFrom n (suc count) c A =
+  gauss_jordan_from n zero c A = record { singular = false; left = A }
+  gauss_jordan_from n (suc count) c A =
       let B = pivoted n c A in
-      cond (O.small (B c c)) (record { singular = true; left = B }) (gaussJordanFrom n count (suc c) (cleared c B))
+      cond (O.small (B c c)) (record { singular = true; left = B }) (gauss_jordan_from n count (suc c) (cleared c B))
 
-  unfoldable pub gaussJordan : ℕ → MatrixOf E → Elimination E
-  unfolding gaussJordanFrom
-  gaussJordan n A = gaussJordanFrom n n 0 A
+  unfoldable pub gauss_jordan : ℕ → MatrixOf E → Elimination E
+  unfolding gauss_jordan_from
+  gauss_jordan n A = gauss_jordan_from n n 0 A
 
   -- the pairs of column c and another of the rows below n whose factor is not skipped; C has column c's pivot row scaled
-  unfoldable pub pairsIn : MatrixOf E → ℕ → ℕ → ℕ
-  pairsIn C c zero = 0
-  pairsIn C c (suc i) = pairsIn C c i + cond (eqb i c || O.skips (C i c)) 0 1
+  unfoldable pub pairs_in : MatrixOf E → ℕ → ℕ → ℕ
+  pairs_in C c zero = 0
+  pairs_in C c (suc i) = pairs_in C c i + cond (eqb i c || O.skips (C i c)) 0 1
 
   -- those in the columns from c on, `count` of them
-  unfoldable pub pairsFrom : ℕ → ℕ → ℕ → MatrixOf E → ℕ
-  unfolding pivoted scaled cleared pairsIn
-  pairsFrom n zero c A = 0
-  pairsFrom n (suc count) c A =
+  unfoldable pub pairs_from : ℕ → ℕ → ℕ → MatrixOf E → ℕ
+  unfolding pivoted scaled cleared pairs_in
+  pairs_from n zero c A = 0
+  pairs_from n (suc count) c A =
       let B = pivoted n c A in
-      cond (O.small (B c c)) 0 (pairsIn (scaled c B) c n + pairsFrom n count (suc c) (cleared c B))
+      cond (O.small (B c c)) 0 (pairs_in (scaled c B) c n + pairs_from n count (suc c) (cleared c B))
 
   -- those of the whole elimination, up to the first pivot that is too small
   unfoldable pub pairs : ℕ → MatrixOf E → ℕ
-  unfolding pairsFrom
-  pairs n A = pairsFrom n n 0 A
+  unfolding pairs_from
+  pairs n A = pairs_from n n 0 A
 
   -- a system and, in the columns behind it, its right sides
   unfoldable pub augmented : ℕ → MatrixOf E → MatrixOf E → MatrixOf E
@@ -99,10 +99,10 @@ module _ {E : Type 0} (O : Operations E) where
 
   -- the solution of A x = b, b given by row: its entry in row i
   unfoldable pub solution : ℕ → MatrixOf E → (ℕ → E) → ℕ → E
-  unfolding gaussJordan augmented
-  solution n A b i = (gaussJordan n (augmented n A (λ (r k : ℕ). b r))).left i n
+  unfolding gauss_jordan augmented
+  solution n A b i = (gauss_jordan n (augmented n A (λ (r k : ℕ). b r))).left i n
 
   -- 13 comes or not by the system alone
-  unfoldable pub singularSystem : ℕ → MatrixOf E → Bool
-  unfolding gaussJordan
-  singularSystem n A = (gaussJordan n A).singular
+  unfoldable pub singular_system : ℕ → MatrixOf E → Bool
+  unfolding gauss_jordan
+  singular_system n A = (gauss_jordan n A).singular

@@ -6,12 +6,12 @@ use Rattle.complex.specs.declared.Complex.{Complex}
 use Rattle.complex.specs.declared.Pair.{Pair}
 use Rattle.complex.specs.declared.Pair.TheVariants.{Finite, NotFinite}
 use Rattle.complex.specs.Constants.{plus0}
-use Rattle.complex.specs.Computed.{ofSqmag}
+use Rattle.complex.specs.Computed.{of_sqmag}
 use Rattle.complex.specs.Leaves.{product, difference, inverse}
 use Rattle.complex.specs.Matrices.{Matrix}
 use Rattle.refusals.specs.Work.{Step, meets}
 use Rattle.solver.specs.Solving.{operations}
-use Rattle.solver.specs.Steps.{Workings, workings, stepsOfRun}
+use Rattle.solver.specs.Steps.{Workings, workings, steps_of_run}
 
 -- one number for an answer: not finite where the answer is "not finite"
 unfoldable pub told : Pair → Float
@@ -21,13 +21,13 @@ told NotFinite = nan
 -- each operation by its answer alone; a weight, which no operation on single numbers is, by its own numbers
 abbrev pub answers : Workings Complex
 answers = record {
-  ofTimes = λ (a b : Complex). told (product a b) ∷ [];
-  ofMinus = λ (a b : Complex). told (difference a b) ∷ [];
-  ofInverse = λ (b : Complex). told (inverse b) ∷ [];
-  ofWeight = ofSqmag;
+  of_times = λ (a b : Complex). told (product a b) ∷ [];
+  of_minus = λ (a b : Complex). told (difference a b) ∷ [];
+  of_inverse = λ (b : Complex). told (inverse b) ∷ [];
+  of_weight = of_sqmag;
 }
 
 -- of n rows of w entries, whatever is allowed and whatever comes behind: a solve has n + 1, an inverse 2 n
 abbrev pub RunPassedOn : Type 0
 RunPassedOn = (allowed n w : ℕ) (A : Matrix) (rest : List Step)
-    → meets allowed (stepsOfRun operations answers n w A ++ rest) ≡ meets allowed (stepsOfRun operations workings n w A ++ rest)
+    → meets allowed (steps_of_run operations answers n w A ++ rest) ≡ meets allowed (steps_of_run operations workings n w A ++ rest)

@@ -4,7 +4,7 @@ use Rattle.std.specs.Float.{nan}
 use Rattle.std.specs.Float.Ieee.{lt}
 use Rattle.complex.specs.Arithmetic.{sqmag}
 use Rattle.complex.specs.Matrices.{Matrix}
-use Rattle.solver.specs.GaussJordan.{pivotRow}
+use Rattle.solver.specs.GaussJordan.{pivot_row}
 use Rattle.solver.specs.Solving.{operations}
 
 -- Row p is the upper one of those with the largest weight among the rows from c to below n: none weighs more, and each above it weighs less
@@ -22,4 +22,4 @@ pub record ChosenRow (weight : ℕ → Float) (c n p : ℕ) : Type 0 where
 
 -- the weights are squared magnitudes
 abbrev pub UpperRow : Type 0
-UpperRow = (n c : ℕ) (A : Matrix) → c < n → ChosenRow (λ (r : ℕ). sqmag (A r c)) c n (pivotRow operations n A c)
+UpperRow = (n c : ℕ) (A : Matrix) → c < n → ChosenRow (λ (r : ℕ). sqmag (A r c)) c n (pivot_row operations n A c)

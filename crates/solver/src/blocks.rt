@@ -4,7 +4,7 @@ ghost use Rattle.std.specs.Prelude.{◌≡◌, ℕ, ◌+◌, ◌*◌, ◌<◌, �
 ghost use Rattle.std.specs.Int.{w64};
 ghost use Rattle.std.proofs.Common.{Fits};
 ghost use Rattle.complex.specs.Matrices.{entry_at, grid};
-ghost use Rattle.solver.specs.Inner.Work.{Block, Lies, with_row, placed, withIdentity, rightSides};
+ghost use Rattle.solver.specs.Inner.Work.{Block, Lies, with_row, placed, with_identity, right_sides};
 
 use crate::rows;
 use complex::Complex;
@@ -53,7 +53,7 @@ pub fn place_block(work: &mut [f64], n: usize, w: usize, at: usize, m: usize, fr
 fn take_row(work: &[f64], n: usize, w: usize, at: usize, m: usize, i: usize, to: &mut [f64])
     requires { (Block n w at m (length work.now) (length to.old)) × (i < n) }
     ensures { (r j : ℕ) → j < m → entry_at m to.new r j
-        ≡ with_row i (rightSides at (entry_at w work.now) i) (entry_at m to.old) r j }
+        ≡ with_row i (right_sides at (entry_at w work.now) i) (entry_at m to.old) r j }
 {
     let Span { start: a, end: b } = span_of(n, m, 0, m, i);
     let Span { start, end } = span_of(n, w, at, m, i);
@@ -63,7 +63,7 @@ fn take_row(work: &[f64], n: usize, w: usize, at: usize, m: usize, i: usize, to:
 // The m columns from `at` on are copied to `to`, n rows of m entries.
 pub fn take(work: &[f64], n: usize, w: usize, at: usize, m: usize, to: &mut [f64])
     requires { Block n w at m (length work.now) (length to.old) }
-    ensures { to.new ≡ grid n m (rightSides at (entry_at w work.now)) }
+    ensures { to.new ≡ grid n m (right_sides at (entry_at w work.now)) }
 {
     let mut i = 0;
     while i < n {
@@ -75,7 +75,7 @@ pub fn take(work: &[f64], n: usize, w: usize, at: usize, m: usize, to: &mut [f64
 // The identity's ones: in row i, column at + i becomes (1, 0).
 pub fn place_ones(work: &mut [f64], n: usize, w: usize, at: usize)
     requires { (length work.old ≡ 2 * (n * w)) × (at + n ≤ w) }
-    ensures { (i j : ℕ) → i < n → j < w → entry_at w work.new i j ≡ withIdentity at (entry_at w work.old) i j }
+    ensures { (i j : ℕ) → i < n → j < w → entry_at w work.new i j ≡ with_identity at (entry_at w work.old) i j }
 {
     let mut i = 0;
     while i < n {

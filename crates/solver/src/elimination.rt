@@ -1,7 +1,7 @@
 // Gauss-Jordan elimination in a lent work slice, for the layers above: n rows of w entries, the system's n columns first, then w - n right
 // sides. The functions here have a `requires`, which their callers prove.
 ghost use Rattle.std.specs.Prelude.{◌≡◌, ◌||◌, cond, ℕ, ◌+◌, ◌*◌, ◌<◌, ◌≤◌, T, eqb, length};
-ghost use Rattle.binary64.specs.Values.{allFinite};
+ghost use Rattle.binary64.specs.Values.{all_finite};
 ghost use Rattle.complex.specs.Entries.{entry};
 ghost use Rattle.complex.specs.Matrices.{entry_at};
 ghost use Rattle.lists.specs.Buses.{up_to};
@@ -10,8 +10,8 @@ ghost use Rattle.solver.specs.declared.elimination.Eliminated.TheVariants.{Done,
 ghost use Rattle.solver.specs.GaussJordan as spec;
 ghost use Rattle.solver.specs.Solving.{operations};
 ghost use Rattle.solver.specs.Steps as steps;
-ghost use Rattle.solver.specs.Inner.Work.{WorkRows, BesideTurned, Told, ColumnDone, Ran, Met, with_row, lessFactor, isDone, number_of};
-ghost use Rattle.solver.specs.Inner.Work.{stepsOfClearing};
+ghost use Rattle.solver.specs.Inner.Work.{WorkRows, BesideTurned, Told, ColumnDone, Ran, Met, with_row, less_factor, is_done, number_of};
+ghost use Rattle.solver.specs.Inner.Work.{steps_of_clearing};
 
 use crate::blocks::{Span, span_of};
 use crate::rows;
@@ -35,7 +35,7 @@ fn stronger(work: &[f64], n: usize, w: usize, c: usize, held: usize, next: usize
 // The pivot's row for column c.
 fn pivot_row(work: &[f64], n: usize, w: usize, c: usize) -> usize
     requires { (WorkRows n w (length work.now)) × (c < n) }
-    ensures { (result ≡ spec.pivotRow operations n (entry_at w work.now) c) × (result < n) }
+    ensures { (result ≡ spec.pivot_row operations n (entry_at w work.now) c) × (result < n) }
 {
     let mut held = c;
     let mut next = c + 1;
@@ -74,7 +74,7 @@ pub enum Eliminated {
 
 // Whether the elimination came to its end.
 pub fn is_done(end: Eliminated) -> bool
-    ensures { result ≡ isDone end }
+    ensures { result ≡ is_done end }
 {
     match end {
         Eliminated::Done(_) => true,
@@ -111,7 +111,7 @@ fn left_alone(work: &[f64], n: usize, w: usize, i: usize, c: usize, at: usize) -
 fn reduce_row(work: &mut [f64], n: usize, w: usize, i: usize, c: usize, at: usize, pivot: &[f64])
     requires { (WorkRows n w (length work.old)) × (i < n) × (c < n) × (BesideTurned w pivot.now) × (at ≡ i * w + c) }
     ensures { (r j : ℕ) → j < w → entry_at w work.new r j
-        ≡ with_row i (lessFactor c (entry pivot.now) (entry_at w work.old) i) (entry_at w work.old) r j }
+        ≡ with_row i (less_factor c (entry pivot.now) (entry_at w work.old) i) (entry_at w work.old) r j }
 {
     let factor = get(work, at);
     let Span { start, end } = span_of(n, w, 0, w, i);
@@ -131,7 +131,7 @@ fn reduce_others(
         × (c < n)
         × (BesideTurned w pivot.now)
         × ((j : ℕ) → j < w → entry pivot.now j ≡ entry_at w work.old c j) }
-    ensures { (Told allowed (steps.stepsOfRows operations steps.workings (entry_at w work.old) c (up_to n) (up_to w)) work.old
+    ensures { (Told allowed (steps.steps_of_rows operations steps.workings (entry_at w work.old) c (up_to n) (up_to w)) work.old
         work.new result)
         × ((left : ℕ) → result ≡ Done left → (i j : ℕ) → i < n → j < w
         → entry_at w work.new i j ≡ spec.reduced operations c (entry_at w work.old) i j)
@@ -167,7 +167,7 @@ fn clear_column(
         × (c < n)
         × (length row.old ≡ 4 * w)
         × ((j : ℕ) → j < w → entry row.old j ≡ entry_at w work.old c j) }
-    ensures { (Told allowed (stepsOfClearing n w c (entry_at w work.old)) work.old work.new result)
+    ensures { (Told allowed (steps_of_clearing n w c (entry_at w work.old)) work.old work.new result)
         × ((left : ℕ) → result ≡ Done left → (i j : ℕ) → i < n → j < w
         → entry_at w work.new i j ≡ spec.cleared operations c (entry_at w work.old) i j)
         × (result ≡ Small → ⊥) }
@@ -229,7 +229,7 @@ fn columns(work: &mut [f64], n: usize, w: usize, row: &mut [f64], allowed: usize
 
 // All columns, with so many row reductions allowed. The slice is finite at entry; it is looked at once more where the work ends.
 pub fn eliminate(work: &mut [f64], n: usize, w: usize, allowed: usize) -> Eliminated
-    requires { (n ≤ w) × (w ≤ 2 * limit) × (length work.old ≡ 2 * (n * w)) × T (allFinite work.old) }
+    requires { (n ≤ w) × (w ≤ 2 * limit) × (length work.old ≡ 2 * (n * w)) × T (all_finite work.old) }
     ensures { Met n w allowed result work.old work.new }
 {
     let mut buffer = [0.0; 8 * LIMIT];

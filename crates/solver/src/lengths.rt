@@ -8,7 +8,7 @@ use refusals::{EMPTY_SYSTEM, GIVEN_NOT_FINITE, LIMIT, TOO_MANY, WRONG_LENGTH};
 
 // 1, 2, 5 or 0 of a solve of size n, by the lengths of its slices in numbers.
 pub fn solve_shape_refusal(n: usize, a: usize, b: usize, x: usize, work: usize) -> u32
-    ensures { result ≡ spec.solveShapeRefusal n a b x work }
+    ensures { result ≡ spec.solve_shape_refusal n a b x work }
 {
     if n > LIMIT {
         return TOO_MANY;
@@ -33,7 +33,7 @@ pub fn solve_shape_refusal(n: usize, a: usize, b: usize, x: usize, work: usize) 
 
 // 1, 2, 5 or 0 of an inverse of size n, by the lengths of its slices in numbers.
 pub fn inverse_shape_refusal(n: usize, mat: usize, inverse: usize, work: usize) -> u32
-    ensures { result ≡ spec.inverseShapeRefusal n mat inverse work }
+    ensures { result ≡ spec.inverse_shape_refusal n mat inverse work }
 {
     if n > LIMIT {
         return TOO_MANY;
@@ -55,7 +55,7 @@ pub fn inverse_shape_refusal(n: usize, mat: usize, inverse: usize, work: usize) 
 
 // 1, 2, 5, 19 or 0 of a solve of size n: the system, the right side, and the lengths of the other slices in numbers.
 pub fn solve_refusal(n: usize, a: &[f64], b: &[f64], x: usize, work: usize) -> u32
-    ensures { result ≡ spec.solveRefusal n a.now b.now x work }
+    ensures { result ≡ spec.solve_refusal n a.now b.now x work }
 {
     let shape = solve_shape_refusal(n, a.len(), b.len(), x, work);
     if shape != 0 {
@@ -72,7 +72,7 @@ pub fn solve_refusal(n: usize, a: &[f64], b: &[f64], x: usize, work: usize) -> u
 
 // 1, 2, 5, 19 or 0 of an inverse of size n: the matrix, and the lengths of the other slices in numbers.
 pub fn inverse_refusal(n: usize, mat: &[f64], inverse: usize, work: usize) -> u32
-    ensures { result ≡ spec.inverseRefusal n mat.now inverse work }
+    ensures { result ≡ spec.inverse_refusal n mat.now inverse work }
 {
     let shape = inverse_shape_refusal(n, mat.len(), inverse, work);
     if shape != 0 {

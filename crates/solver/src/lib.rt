@@ -27,9 +27,9 @@ pub fn solve_linear(
     x: &mut [f64],
     work: &mut [f64],
 ) -> Counted
-    ensures { (result ≡ (spec.afterSolve n a.now b.now allowance x.old work.old).answer)
-        × (x.new ≡ (spec.afterSolve n a.now b.now allowance x.old work.old).output)
-        × (work.new ≡ (spec.afterSolve n a.now b.now allowance x.old work.old).work) }
+    ensures { (result ≡ (spec.after_solve n a.now b.now allowance x.old work.old).answer)
+        × (x.new ≡ (spec.after_solve n a.now b.now allowance x.old work.old).output)
+        × (work.new ≡ (spec.after_solve n a.now b.now allowance x.old work.old).work) }
 {
     let told = lengths::solve_refusal(n, a, b, x.len(), work.len());
     if told != 0 {
@@ -54,9 +54,9 @@ pub fn complex_matrix_inverse(
     inverse: &mut [f64],
     work: &mut [f64],
 ) -> Outcome
-    ensures { (result ≡ (spec.afterInverse n mat.now inverse.old work.old).answer)
-        × (inverse.new ≡ (spec.afterInverse n mat.now inverse.old work.old).output)
-        × (work.new ≡ (spec.afterInverse n mat.now inverse.old work.old).work) }
+    ensures { (result ≡ (spec.after_inverse n mat.now inverse.old work.old).answer)
+        × (inverse.new ≡ (spec.after_inverse n mat.now inverse.old work.old).output)
+        × (work.new ≡ (spec.after_inverse n mat.now inverse.old work.old).work) }
 {
     let told = lengths::inverse_refusal(n, mat, inverse.len(), work.len());
     if told != 0 {

@@ -1,16 +1,16 @@
 // The work of `solve_linear` and `complex_matrix_inverse` once the input is accepted: the slice is filled, eliminated, read, and cleared.
 // The functions here have a `requires`, which their callers prove.
 ghost use Rattle.std.specs.Prelude.{◌≡◌, cond, ℕ, ◌+◌, ◌*◌, ◌<◌, ◌≤◌, T, eqb, length};
-ghost use Rattle.binary64.specs.Values.{allFinite};
+ghost use Rattle.binary64.specs.Values.{all_finite};
 ghost use Rattle.complex.specs.Entries.{entry};
 ghost use Rattle.complex.specs.Matrices.{entry_at, grid, zeros};
 ghost use Rattle.refusals.specs.declared.Allowance.TheVariants.{Unlimited};
 ghost use Rattle.refusals.specs.Refusals.{limit};
-ghost use Rattle.refusals.specs.Work.{workRefusal};
+ghost use Rattle.refusals.specs.Work.{work_refusal};
 ghost use Rattle.solver.specs.GaussJordan.{augmented};
 ghost use Rattle.solver.specs.Solving as spec;
-ghost use Rattle.solver.specs.Steps.{stepsOfSolve, stepsOfInverse};
-ghost use Rattle.solver.specs.Inner.Work.{Ended, isDone};
+ghost use Rattle.solver.specs.Steps.{steps_of_solve, steps_of_inverse};
+ghost use Rattle.solver.specs.Inner.Work.{Ended, is_done};
 
 use crate::blocks;
 use crate::elimination::{Eliminated, eliminate, is_done, number_of};
@@ -41,11 +41,11 @@ pub fn solved(
         × (length a.now ≡ 2 * (n * n))
         × (length b.now ≡ 2 * n)
         × (length x.old ≡ 2 * n)
-        × T (allFinite a.now)
-        × T (allFinite b.now) }
-    ensures { (Ended allowed result (stepsOfSolve n (entry_at n a.now) (entry b.now)))
+        × T (all_finite a.now)
+        × T (all_finite b.now) }
+    ensures { (Ended allowed result (steps_of_solve n (entry_at n a.now) (entry b.now)))
         × (x.new
-        ≡ cond (isDone result) (grid n 1 (λ (i k : ℕ). spec.solve n (entry_at n a.now) (entry b.now) i)) x.old)
+        ≡ cond (is_done result) (grid n 1 (λ (i k : ℕ). spec.solve n (entry_at n a.now) (entry b.now) i)) x.old)
         × (work.new ≡ zeros (length work.old)) }
 {
     let w = n + 1;
@@ -64,7 +64,7 @@ pub fn solved(
 pub fn fill_identity(work: &mut [f64], n: usize, mat: &[f64])
     requires { (n ≤ limit) × (length work.old ≡ 2 * (n * (n + n))) × (length mat.now ≡ 2 * (n * n)) }
     ensures { (i j : ℕ) → i < n → j < n + n → entry_at (n + n) work.new i j
-        ≡ augmented spec.operations n (entry_at n mat.now) (λ (r k : ℕ). spec.unitColumn k r) i j }
+        ≡ augmented spec.operations n (entry_at n mat.now) (λ (r k : ℕ). spec.unit_column k r) i j }
 {
     let w = n + n;
     clear(work);
@@ -78,8 +78,8 @@ pub fn inverted(n: usize, mat: &[f64], inverse: &mut [f64], work: &mut [f64]) ->
         × (length work.old ≡ 2 * (n * (n + n)))
         × (length mat.now ≡ 2 * (n * n))
         × (length inverse.old ≡ 2 * (n * n))
-        × T (allFinite mat.now) }
-    ensures { (result ≡ workRefusal Unlimited (stepsOfInverse n (entry_at n mat.now)))
+        × T (all_finite mat.now) }
+    ensures { (result ≡ work_refusal Unlimited (steps_of_inverse n (entry_at n mat.now)))
         × (inverse.new ≡ cond (eqb result 0) (grid n n (spec.inverse n (entry_at n mat.now))) inverse.old)
         × (work.new ≡ zeros (length work.old)) }
 {

@@ -3,59 +3,59 @@ use Rattle.prelude.proofs.Prelude.{◌≡◌, refl, ap, ◌∙◌, Bool, true, f
 use lib.Seq.{drop-length}
 use Rattle.text_numbers.specs.declared.Number.TheVariants.{Is, Not}
 use Rattle.text_numbers.specs.Bytes.{Bytes}
-use Rattle.text_numbers.specs.Words.{digit, decimalFrom, spare, decimalOf, hexFrom, hexOf, glyph, digits, places, decimal, hex}
+use Rattle.text_numbers.specs.Words.{digit, decimal_from, spare, decimal_of, hex_from, hex_of, glyph, digits, places, decimal, hex}
 
 module _ (word : Bytes) (i v : ℕ) (h : i < length word) where
-  decimal-at : decimalFrom v (drop i word) ≡ decimalFrom v (get_or word i 0 ∷ drop (suc i) word)
-  decimal-at = ap (decimalFrom v) (drop-cons word i 0 h)
+  decimal-at : decimal_from v (drop i word) ≡ decimal_from v (get_or word i 0 ∷ drop (suc i) word)
+  decimal-at = ap (decimal_from v) (drop-cons word i 0 h)
 
-  pub decimal-no : 10 ≤ digit (get_or word i 0) → decimalFrom v (drop i word) ≡ Not
-  unfolding decimalFrom
+  pub decimal-no : 10 ≤ digit (get_or word i 0) → decimal_from v (drop i word) ≡ Not
+  unfolding decimal_from
   decimal-no n = decimal-at ∙ simp (le-ltb _ _ n)
 
-  pub decimal-over : digit (get_or word i 0) < 10 → 2 ^ 32 ≤ 10 * v + digit (get_or word i 0) → decimalFrom v (drop i word) ≡ Not
-  unfolding decimalFrom
+  pub decimal-over : digit (get_or word i 0) < 10 → 2 ^ 32 ≤ 10 * v + digit (get_or word i 0) → decimal_from v (drop i word) ≡ Not
+  unfolding decimal_from
   decimal-over n m = decimal-at ∙ simp (lt-ltb _ _ n, le-ltb _ _ m)
 
   pub decimal-more : digit (get_or word i 0) < 10 → 10 * v + digit (get_or word i 0) < 2 ^ 32
-      → decimalFrom v (drop i word) ≡ decimalFrom (10 * v + digit (get_or word i 0)) (drop (i + 1) word)
-  unfolding decimalFrom
+      → decimal_from v (drop i word) ≡ decimal_from (10 * v + digit (get_or word i 0)) (drop (i + 1) word)
+  unfolding decimal_from
   decimal-more n m = decimal-at ∙ rw (add-one) (simp (lt-ltb _ _ n, lt-ltb _ _ m))
 
-  hex-at : hexFrom v (drop i word) ≡ hexFrom v (get_or word i 0 ∷ drop (suc i) word)
-  hex-at = ap (hexFrom v) (drop-cons word i 0 h)
+  hex-at : hex_from v (drop i word) ≡ hex_from v (get_or word i 0 ∷ drop (suc i) word)
+  hex-at = ap (hex_from v) (drop-cons word i 0 h)
 
-  pub hex-no : 16 ≤ digit (get_or word i 0) → hexFrom v (drop i word) ≡ Not
-  unfolding hexFrom
+  pub hex-no : 16 ≤ digit (get_or word i 0) → hex_from v (drop i word) ≡ Not
+  unfolding hex_from
   hex-no n = hex-at ∙ simp (le-ltb _ _ n)
 
-  pub hex-more : digit (get_or word i 0) < 16 → hexFrom v (drop i word) ≡ hexFrom (16 * v + digit (get_or word i 0)) (drop (i + 1) word)
-  unfolding hexFrom
+  pub hex-more : digit (get_or word i 0) < 16 → hex_from v (drop i word) ≡ hex_from (16 * v + digit (get_or word i 0)) (drop (i + 1) word)
+  unfolding hex_from
   hex-more n = hex-at ∙ rw (add-one) (simp (lt-ltb _ _ n))
 
 -- where a word ends, the number is read
-pub decimal-end : (word : Bytes) (i v : ℕ) → i ≤ length word → length word ≤ i → decimalFrom v (drop i word) ≡ Is v
-unfolding decimalFrom
+pub decimal-end : (word : Bytes) (i v : ℕ) → i ≤ length word → length word ≤ i → decimal_from v (drop i word) ≡ Is v
+unfolding decimal_from
 decimal-end word i v a b = let e : i ≡ length word = omega arith in rw (e, drop-length)
 
-pub hex-end : (word : Bytes) (i v : ℕ) → i ≤ length word → length word ≤ i → hexFrom v (drop i word) ≡ Is v
-unfolding hexFrom
+pub hex-end : (word : Bytes) (i v : ℕ) → i ≤ length word → length word ≤ i → hex_from v (drop i word) ≡ Is v
+unfolding hex_from
 hex-end word i v a b = let e : i ≡ length word = omega arith in rw (e, drop-length)
 
-pub decimal-spare : (word : Bytes) → spare word ≡ true → decimalOf word ≡ Not
-unfolding decimalOf
+pub decimal-spare : (word : Bytes) → spare word ≡ true → decimal_of word ≡ Not
+unfolding decimal_of
 decimal-spare word e = rw e
 
-pub decimal-plain : (word : Bytes) → spare word ≡ false → decimalOf word ≡ decimalFrom 0 word
-unfolding decimalOf
+pub decimal-plain : (word : Bytes) → spare word ≡ false → decimal_of word ≡ decimal_from 0 word
+unfolding decimal_of
 decimal-plain word e = rw e
 
-pub hex-short : (word : Bytes) → (length word ≡ 16 → ⊥) → hexOf word ≡ Not
-unfolding hexOf
+pub hex-short : (word : Bytes) → (length word ≡ 16 → ⊥) → hex_of word ≡ Not
+unfolding hex_of
 hex-short word n = rw (ne_eqb _ _ n)
 
-pub hex-long : (word : Bytes) → length word ≡ 16 → hexOf word ≡ hexFrom 0 word
-unfolding hexOf
+pub hex-long : (word : Bytes) → length word ≡ 16 → hex_of word ≡ hex_from 0 word
+unfolding hex_of
 hex-long word e = rw (eq-eqb _ _ e)
 
 -- ---- spare digits

@@ -5,7 +5,7 @@ use native.Mathlib.Decide.{dec_lt, ℕ_discrete}
 use borrow.Author.Tests.{leb-true}
 use Rattle.text_numbers.specs.declared.Number.TheVariants.{Is, Not}
 use Rattle.text_numbers.specs.Bytes.{Bytes}
-use Rattle.text_numbers.specs.Words.{digit, decimalFrom, spare, decimalOf}
+use Rattle.text_numbers.specs.Words.{digit, decimal_from, spare, decimal_of}
 
 -- no number is one
 pub not_is : {k : ℕ} → Not ≡ Is k → ⊥
@@ -15,12 +15,12 @@ is_one : {j k : ℕ} → Is j ≡ Is k → j ≡ k
 is_one e = cc
 
 -- one digit more
-module _ (v b k : ℕ) (bs : Bytes) (e : decimalFrom v (b ∷ bs) ≡ Is k) where
-  inverse : (digit b < 10) × (10 * v + digit b < 2 ^ 32) × (decimalFrom (10 * v + digit b) bs ≡ Is k)
-  unfolding decimalFrom
+module _ (v b k : ℕ) (bs : Bytes) (e : decimal_from v (b ∷ bs) ≡ Is k) where
+  inverse : (digit b < 10) × (10 * v + digit b < 2 ^ 32) × (decimal_from (10 * v + digit b) bs ≡ Is k)
+  unfolding decimal_from
   inverse = go (dec_lt (digit b) 10) (dec_lt (10 * v + digit b) (2 ^ 32))
     where
-      go : Dec (digit b < 10) → Dec (10 * v + digit b < 2 ^ 32) → (digit b < 10) × (10 * v + digit b < 2 ^ 32) × (decimalFrom (10 * v + digit b) bs ≡ Is k)
+      go : Dec (digit b < 10) → Dec (10 * v + digit b < 2 ^ 32) → (digit b < 10) × (10 * v + digit b < 2 ^ 32) × (decimal_from (10 * v + digit b) bs ≡ Is k)
       go (yes p) (yes q) = (p, q, simp (lt-ltb _ _ p, lt-ltb _ _ q) at e)
       go (yes p) (no q) =
           let n : 2 ^ 32 ≤ 10 * v + digit b = omega arith in
@@ -30,8 +30,8 @@ module _ (v b k : ℕ) (bs : Bytes) (e : decimalFrom v (b ∷ bs) ≡ Is k) wher
           absurd (not_is (simp (le-ltb _ _ n) at e))
 
 -- digits behind v make it so many times larger
-power : (w : Bytes) (v k : ℕ) → decimalFrom v w ≡ Is k → v * 10 ^ length w ≤ k
-unfolding decimalFrom
+power : (w : Bytes) (v k : ℕ) → decimal_from v w ≡ Is k → v * 10 ^ length w ≤ k
+unfolding decimal_from
 power [] v k e = omega (arith, is_one e)
 power (b ∷ bs) v k e =
     let i = inverse v b k bs e in
@@ -44,8 +44,8 @@ power (b ∷ bs) v k e =
     ∙ ap (λ (x : ℕ). x * 10 ^ length bs) (mul_comm v 10) in
     omega (arith, h, m, q)
 
-below : (w : Bytes) (v k : ℕ) → v < 2 ^ 32 → decimalFrom v w ≡ Is k → k < 2 ^ 32
-unfolding decimalFrom
+below : (w : Bytes) (v k : ℕ) → v < 2 ^ 32 → decimal_from v w ≡ Is k → k < 2 ^ 32
+unfolding decimal_from
 below [] v k h e = omega (arith, is_one e)
 below (b ∷ bs) v k h e = let i = inverse v b k bs e in below bs (10 * v + digit b) k i.1 i.2
 
@@ -70,8 +70,8 @@ zero-digit b e = first_range (leb 48 b) refl (leb b 57) e
     first_range true p false h = second (leb 65 b) (leb b 70) refl h
     first_range false p t h = second (leb 65 b) (leb b 70) refl h
 
-pub decimal-size : (w : Bytes) (k j : ℕ) → decimalOf w ≡ Is k → k < 10 ^ j → 1 ≤ j → length w ≤ j
-unfolding decimalOf spare
+pub decimal-size : (w : Bytes) (k j : ℕ) → decimal_of w ≡ Is k → k < 10 ^ j → 1 ≤ j → length w ≤ j
+unfolding decimal_of spare
 decimal-size [] k j e h o = absurd (not_is e)
 decimal-size (b ∷ []) k j e h o = o
 decimal-size (b ∷ (c ∷ bs)) k j e h o = go (ℕ_discrete b 48)
@@ -79,7 +79,7 @@ decimal-size (b ∷ (c ∷ bs)) k j e h o = go (ℕ_discrete b 48)
     go : Dec (b ≡ 48) → length (b ∷ (c ∷ bs)) ≤ j
     go (yes p) = absurd (not_is (simp (eq-eqb _ _ p) at e))
     go (no n) =
-        let f : decimalFrom 0 (b ∷ (c ∷ bs)) ≡ Is k = simp (ne_eqb _ _ n) at e in
+        let f : decimal_from 0 (b ∷ (c ∷ bs)) ≡ Is k = simp (ne_eqb _ _ n) at e in
         let i = inverse 0 b k (c ∷ bs) f in
         let g : (10 * 0 + digit b) * 10 ^ length (c ∷ bs) ≤ k = power (c ∷ bs) (10 * 0 + digit b) k i.2 in
         long (dec_lt (length (c ∷ bs)) j) g
@@ -98,10 +98,10 @@ decimal-size (b ∷ (c ∷ bs)) k j e h o = go (ℕ_discrete b 48)
             let q : 1 * 10 ^ length (c ∷ bs) ≤ (10 * 0 + digit b) * 10 ^ length (c ∷ bs) = mul-le-mul one (le_refl (10 ^ length (c ∷ bs))) in
             absurd (omega (arith, p, q, one-mul (10 ^ length (c ∷ bs)), g, h))
 
-pub decimal-below : (w : Bytes) (k : ℕ) → decimalOf w ≡ Is k → k < 2 ^ 32
-unfolding decimalOf
+pub decimal-below : (w : Bytes) (k : ℕ) → decimal_of w ≡ Is k → k < 2 ^ 32
+unfolding decimal_of
 decimal-below w k e = go (spare w) e
   where
-    go : (t : Bool) → cond t Not (decimalFrom 0 w) ≡ Is k → k < 2 ^ 32
+    go : (t : Bool) → cond t Not (decimal_from 0 w) ≡ Is k → k < 2 ^ 32
     go true h = absurd (not_is h)
     go false h = below w 0 k (lit< tt) h

@@ -11,8 +11,8 @@ abbrev pub ascii : String → Bytes
 ascii none = []
 ascii (c then s) = code c ∷ ascii s
 
-abbrev pub lineFeed : ℕ
-lineFeed = 10
+abbrev pub line_feed : ℕ
+line_feed = 10
 
 abbrev pub space : ℕ
 space = 32

@@ -14,11 +14,11 @@ digit b =
     (cond (leb 97 b && leb b 102) (b - 87) 16))
 
 -- v, and decimal digits behind it: below 2^32 throughout
-unfoldable pub decimalFrom : ℕ → Bytes → Number
+unfoldable pub decimal_from : ℕ → Bytes → Number
 unfolding digit
-decimalFrom v [] = Is v
-decimalFrom v (b ∷ bs) =
-    cond (ltb (digit b) 10) (cond (ltb (10 * v + digit b) (2 ^ 32)) (decimalFrom (10 * v + digit b) bs) Not) Not
+decimal_from v [] = Is v
+decimal_from v (b ∷ bs) =
+    cond (ltb (digit b) 10) (cond (ltb (10 * v + digit b) (2 ^ 32)) (decimal_from (10 * v + digit b) bs) Not) Not
 
 -- no digit at all, or a 0 before other digits
 unfoldable pub spare : Bytes → Bool
@@ -27,20 +27,20 @@ spare (b ∷ []) = false
 spare (b ∷ (c ∷ bs)) = eqb b 48
 
 -- a decimal number without spare zeros, below 2^32
-unfoldable pub decimalOf : Bytes → Number
-unfolding spare decimalFrom
-decimalOf w = cond (spare w) Not (decimalFrom 0 w)
+unfoldable pub decimal_of : Bytes → Number
+unfolding spare decimal_from
+decimal_of w = cond (spare w) Not (decimal_from 0 w)
 
 -- v, and hexadecimal digits behind it
-unfoldable pub hexFrom : ℕ → Bytes → Number
+unfoldable pub hex_from : ℕ → Bytes → Number
 unfolding digit
-hexFrom v [] = Is v
-hexFrom v (b ∷ bs) = cond (ltb (digit b) 16) (hexFrom (16 * v + digit b) bs) Not
+hex_from v [] = Is v
+hex_from v (b ∷ bs) = cond (ltb (digit b) 16) (hex_from (16 * v + digit b) bs) Not
 
 -- 16 hexadecimal digits of either case
-unfoldable pub hexOf : Bytes → Number
-unfolding hexFrom
-hexOf w = cond (eqb (length w) 16) (hexFrom 0 w) Not
+unfoldable pub hex_of : Bytes → Number
+unfolding hex_from
+hex_of w = cond (eqb (length w) 16) (hex_from 0 w) Not
 
 -- ---- printing
 

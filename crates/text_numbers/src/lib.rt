@@ -51,7 +51,7 @@ pub fn spare(word: &[u8]) -> bool
 
 // The number that a decimal word without spare zeros gives, below 2^32, or none.
 pub fn decimal(word: &[u8]) -> Number
-    ensures { result ≡ spec.decimalOf word.now }
+    ensures { result ≡ spec.decimal_of word.now }
 {
     if spare(word) {
         return Number::Not;
@@ -74,7 +74,7 @@ pub fn decimal(word: &[u8]) -> Number
 
 // The number that a word of 16 hexadecimal digits gives, or none.
 pub fn hexadecimal(word: &[u8]) -> Number
-    ensures { result ≡ spec.hexOf word.now }
+    ensures { result ≡ spec.hex_of word.now }
 {
     if word.len() != 16 {
         return Number::Not;

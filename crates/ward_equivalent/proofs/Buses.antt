@@ -1,8 +1,8 @@
 -- A list of rows without a repeated one is at most as long as the matrix. A list of external, internal and boundary buses, cut into the three.
 use Rattle.prelude.proofs.Prelude.{◌≡◌, refl, sym, ap, ◌∙◌, subst, Bool, true, false, ◌||◌, inl, inr, List, [], ◌∷◌, ◌++◌, ℕ, zero, suc, ◌+◌, ◌-◌, ◌≤◌, ◌<◌, arith, T, eqb, ltb, length, take, drop, Float, ltb→lt, take-append_seam, and_l, eqb-true}
 use lib.Seq.{drop-append_seam, drop-append-add}
-use Rattle.lists.specs.Buses.{mem, ◌isOneOf◌, others, all_below, repeats}
-use Rattle.ward_equivalent.specs.Calls.{studyOf}
+use Rattle.lists.specs.Buses.{mem, ◌is_one_of◌, others, all_below, repeats}
+use Rattle.ward_equivalent.specs.Calls.{study_of}
 use Rattle.ward_equivalent.specs.Inner.Listed.{cut}
 use Rattle.lists.proofs.Buses.{in_head, in-cases, stays, others-none, below_all, all-below}
 
@@ -34,7 +34,7 @@ shorter k (x ∷ xs) h = pick (eqb x k) refl (none_of (mem x xs) (repeats xs) h)
   where
     pick : (b : Bool) → eqb x k ≡ b → (mem x xs ≡ false) × (repeats xs ≡ false) → (repeats xs ≡ false → Shorter k xs) → Shorter k (x ∷ xs)
     pick true e m ih =
-        let same : others (k ∷ []) xs ≡ xs = others-none (k ∷ []) xs (λ (a : ℕ) (p : a isOneOf xs) (q : a isOneOf k ∷ []).
+        let same : others (k ∷ []) xs ≡ xs = others-none (k ∷ []) xs (λ (a : ℕ) (p : a is_one_of xs) (q : a is_one_of k ∷ []).
         elim (in-cases a k [] q) [ inl r ↦ subst T m.0 (subst (λ (z : ℕ). T (mem z xs)) (r ∙ sym (eqb-true x k e)) p) | inr r ↦ r ]) in
         record { distinct = rw e (ih m.1).distinct; long = rw (e, same) (omega arith) }
     pick false e m ih =
@@ -42,10 +42,10 @@ shorter k (x ∷ xs) h = pick (eqb x k) refl (none_of (mem x xs) (repeats xs) h)
         record { distinct = rw (e, mem-others (k ∷ []) x xs m.0) s.distinct; long = rw e (let l = s.long in omega arith) }
 
 below-others : (n : ℕ) (xs : List ℕ) → T (all_below (suc n) xs) → T (all_below n (others (n ∷ []) xs))
-below-others n xs h = all-below n (others (n ∷ []) xs) λ (k : ℕ) (m : k isOneOf others (n ∷ []) xs).
+below-others n xs h = all-below n (others (n ∷ []) xs) λ (k : ℕ) (m : k is_one_of others (n ∷ []) xs).
     let s = stays k (n ∷ []) xs m in
     let l : k < suc n = below_all (suc n) xs h k s.0 in
-    let other : k ≡ n → ⊥ = λ (e : k ≡ n). s.1 (subst (λ (z : ℕ). k isOneOf z ∷ []) e (in_head k [])) in
+    let other : k ≡ n → ⊥ = λ (e : k ≡ n). s.1 (subst (λ (z : ℕ). k is_one_of z ∷ []) e (in_head k [])) in
     omega arith
 
 pub distinct-length : (n : ℕ) (xs : List ℕ) → T (all_below n xs) → repeats xs ≡ false → length xs ≤ n
@@ -61,11 +61,11 @@ distinct-length (suc n) xs h d =
 -- ---- cut
 
 pub cut-joined : (n : ℕ) (ys : List Float) (E I B : List ℕ) (base : Float) (ps qs : List Float)
-    → cut n ys (E ++ (I ++ B)) (length E) (length E + length I) base ps qs ≡ studyOf n ys I E B base ps qs
+    → cut n ys (E ++ (I ++ B)) (length E) (length E + length I) base ps qs ≡ study_of n ys I E B base ps qs
 cut-joined n ys E I B base ps qs =
     let r : length E + length I - length E ≡ length I = omega arith in
     let internal : take (length E + length I - length E) (drop (length E) (E ++ (I ++ B))) ≡ I =
     ap (take (length E + length I - length E)) (drop-append_seam E (I ++ B)) ∙ ap (λ (k : ℕ). take k (I ++ B)) r ∙ take-append_seam I B in
     let external : take (length E) (E ++ (I ++ B)) ≡ E = take-append_seam E (I ++ B) in
     let boundary : drop (length E + length I) (E ++ (I ++ B)) ≡ B = drop-append-add E (I ++ B) (length I) ∙ drop-append_seam I B in
-    λ i. studyOf n ys (internal i) (external i) (boundary i) base ps qs
+    λ i. study_of n ys (internal i) (external i) (boundary i) base ps qs

@@ -1,30 +1,30 @@
 -- Studies for the order of rows, the sign of the currents and the buses' numbers, one that retains nothing, and one for each refusal, computed from
 -- the definitions.
 use Rattle.prelude.proofs.Prelude.{◌≡◌, refl, sym, ap, ◌∙◌, false, true≢false, arith, eqb, List, [], ◌∷◌, ℕ, ◌+◌, ◌*◌, length, replicate, Float, binary64, of_bits, span, climb, size, odd, units, round, neg, sum, add, sub, mul, div, lt, eq, of_int, of_fields}
-use Rattle.complex.specs.{entry_at, row, rows, zeros, cadd, csub, cmul, sqmag, cdiv, complexInv, plus0, one, divisionLimit, smallMagnitude, entry, abs, magnitude}
-use Rattle.lists.specs.Buses.{up_to, place, repeats, within, rowsIn}
+use Rattle.complex.specs.{entry_at, row, rows, zeros, cadd, csub, cmul, sqmag, cdiv, complex_inv, plus0, one, division_limit, small_magnitude, entry, abs, magnitude}
+use Rattle.lists.specs.Buses.{up_to, place, repeats, within, rows_in}
 use Rattle.ward_equivalent.specs.declared.answers.WardAnswer.{WardAnswer}
 use Rattle.ward_equivalent.specs.declared.answers.WardAnswer.TheVariants.{Done, Refused}
-use Rattle.ward_equivalent.specs.Arithmetic.{sumUp, current, injectedP, injectedQ}
-use Rattle.ward_equivalent.specs.Ward.{Study, Outputs, given_of, retained, listed, externals, admittance, yEE, solvedColumn, rowTimes, equivalent, solvedCurrents, boundaryCurrent, injectionP, injectionQ, ratio}
-use Rattle.ward_equivalent.specs.Studied.{summary, wardAnswer, acceptedOutputs, workAfter, outputsAfter, AfterWard, studied}
-use Rattle.ward_equivalent.specs.Steps.{ofEach, stepsOfColumn, stepsOfCurrents, ofProducts, ofRowTimes, ofEquivalentEntry, ofEquivalent, ofCurrents, ofInjection, ofInjections, ofRatio, steps_of, ofSums, ofTies, ofCorrection, stepsOfExtended}
-use Rattle.ward_equivalent.specs.Calls.{studyOf, outputsOf, afterExtended}
+use Rattle.ward_equivalent.specs.Arithmetic.{sum_up, current, injected_p, injected_q}
+use Rattle.ward_equivalent.specs.Ward.{Study, Outputs, given_of, retained, listed, externals, admittance, y_ee, solved_column, row_times, equivalent, solved_currents, boundary_current, injection_p, injection_q, ratio}
+use Rattle.ward_equivalent.specs.Studied.{summary, ward_answer, accepted_outputs, work_after, outputs_after, AfterWard, studied}
+use Rattle.ward_equivalent.specs.Steps.{of_each, steps_of_column, steps_of_currents, of_products, of_row_times, of_equivalent_entry, of_equivalent, of_currents, of_injection, of_injections, of_ratio, steps_of, of_sums, of_ties, of_correction, steps_of_extended}
+use Rattle.ward_equivalent.specs.Calls.{study_of, outputs_of, after_extended}
 use Rattle.refusals.specs.declared.Allowance.TheVariants.{Unlimited, Rows}
-use Rattle.refusals.specs.Refusals.{limit, beyondAllowance, computedNotFinite, thenGiven}
-use Rattle.binary64.specs.Values.{allFinite}
-use Rattle.refusals.specs.Work.{computing, reductions, meets, granted, workRefusal, thenWork, ◌noMoreThan◌}
-use Rattle.solver.specs.Steps.{ofSearch, ofScaling, ofReducing, stepsOfRow, stepsOfRows, stepsFrom, stepsOfRun, stepsOfSolve}
-use Rattle.solver.specs.GaussJordan.{stays, heldAfter, pivotRow, swapped, scaled, reduced, pivoted, cleared, gaussJordanFrom, gaussJordan, augmented, solution, singularSystem, pairs, pairsFrom, pairsIn}
+use Rattle.refusals.specs.Refusals.{limit, beyond_allowance, computed_not_finite, then_given}
+use Rattle.binary64.specs.Values.{all_finite}
+use Rattle.refusals.specs.Work.{computing, reductions, meets, granted, work_refusal, then_work, ◌no_more_than◌}
+use Rattle.solver.specs.Steps.{of_search, of_scaling, of_reducing, steps_of_row, steps_of_rows, steps_from, steps_of_run, steps_of_solve}
+use Rattle.solver.specs.GaussJordan.{stays, held_after, pivot_row, swapped, scaled, reduced, pivoted, cleared, gauss_jordan_from, gauss_jordan, augmented, solution, singular_system, pairs, pairs_from, pairs_in}
 use Rattle.solver.specs.Solving.{skipped}
-use Rattle.binary64.specs.Root.{root, rootOf, wholeRoot, half, radicand}
-use Rattle.ward_equivalent.specs.Extended.{ExtendedOutputs, addUp, deviation, weight, weightSum, weightedSum, meanOf, voltageCorrection, reactive, qCompensation}
-use Rattle.ward_equivalent.specs.Studied.{extendedOutputsAfter, studiedExtended}
-use Rattle.ward_equivalent.specs.Studied.{wardNumber}
-use Rattle.ward_equivalent.specs.Allowances.{mostRows}
+use Rattle.binary64.specs.Root.{root, root_of, whole_root, half, radicand}
+use Rattle.ward_equivalent.specs.Extended.{ExtendedOutputs, add_up, deviation, weight, weight_sum, weighted_sum, mean_of, voltage_correction, reactive, q_compensation}
+use Rattle.ward_equivalent.specs.Studied.{extended_outputs_after, studied_extended}
+use Rattle.ward_equivalent.specs.Studied.{ward_number}
+use Rattle.ward_equivalent.specs.Allowances.{most_rows}
 use Rattle.ward_equivalent.proofs.Allowances.{study-allowances}
-use Rattle.ward_equivalent.specs.Lengths.{overLimit, wrongLengths, unmatched, lengthRefusal}
-use Rattle.ward_equivalent.specs.Numbers.{NumberedStudy, NumberedExtended, numberedOf, numberedExtendedOf, inRows, extendedInRows, busRefusal, wardShapeRefusal, wardRefusal, extendedShapeRefusal, extendedRefusal, afterCompute, afterComputeExtended}
+use Rattle.ward_equivalent.specs.Lengths.{over_limit, wrong_lengths, unmatched, length_refusal}
+use Rattle.ward_equivalent.specs.Numbers.{NumberedStudy, NumberedExtended, numbered_of, numbered_extended_of, in_rows, extended_in_rows, bus_refusal, ward_shape_refusal, ward_refusal, extended_shape_refusal, extended_refusal, after_compute, after_compute_extended}
 
 abbrev float : ℕ → Float
 float b = of_bits binary64 b
@@ -67,15 +67,15 @@ room S =
 
 -- two buses with these numbers, base 100
 abbrev study : List ℕ → List Float → List ℕ → List ℕ → List ℕ → List Float → List Float → NumberedStudy
-study ns ys is es bs ps qs = numberedOf ns (studyOf 2 ys is es bs C ps qs)
+study ns ys is es bs ps qs = numbered_of ns (study_of 2 ys is es bs C ps qs)
 
 -- number and slices at exit
 abbrev after : NumberedStudy → AfterWard
-after N = afterCompute N Unlimited (room N.study)
+after N = after_compute N Unlimited (room N.study)
 
 -- with this allowance
 abbrev under : ℕ → NumberedStudy → AfterWard
-under m N = afterCompute N (Rows m) (room N.study)
+under m N = after_compute N (Rows m) (room N.study)
 
 -- a study that reduces so many rows
 abbrev counting : ℕ → ℕ → Float → ℕ → WardAnswer
@@ -87,7 +87,7 @@ done n r x = counting n r x 0
 
 -- to open this is to open all that the cases compute with
 opened : Unit {0}
-unfolding computing reductions meets granted workRefusal thenWork ofSearch ofScaling ofReducing stepsOfRow stepsOfRows stepsFrom stepsOfRun stepsOfSolve ofEach stepsOfColumn stepsOfCurrents ofProducts ofRowTimes ofEquivalentEntry ofEquivalent ofCurrents ofInjection ofInjections ofRatio steps_of retained listed admittance sumUp yEE solvedColumn rowTimes equivalent current injectedP injectedQ solvedCurrents boundaryCurrent injectionP injectionQ ratio summary wardAnswer acceptedOutputs workAfter outputsAfter studied place repeats within rowsIn inRows overLimit wrongLengths unmatched lengthRefusal busRefusal wardShapeRefusal thenGiven given_of allFinite wardRefusal afterCompute stays heldAfter pivotRow swapped scaled reduced pivoted cleared gaussJordanFrom gaussJordan augmented solution singularSystem skipped cadd csub cmul sqmag cdiv complexInv plus0 one divisionLimit entry abs up_to entry_at row rows zeros of_bits span climb size odd units round neg sum add sub mul div lt eq of_int of_fields
+unfolding computing reductions meets granted work_refusal then_work of_search of_scaling of_reducing steps_of_row steps_of_rows steps_from steps_of_run steps_of_solve of_each steps_of_column steps_of_currents of_products of_row_times of_equivalent_entry of_equivalent of_currents of_injection of_injections of_ratio steps_of retained listed admittance sum_up y_ee solved_column row_times equivalent current injected_p injected_q solved_currents boundary_current injection_p injection_q ratio summary ward_answer accepted_outputs work_after outputs_after studied place repeats within rows_in in_rows over_limit wrong_lengths unmatched length_refusal bus_refusal ward_shape_refusal then_given given_of all_finite ward_refusal after_compute stays held_after pivot_row swapped scaled reduced pivoted cleared gauss_jordan_from gauss_jordan augmented solution singular_system skipped cadd csub cmul sqmag cdiv complex_inv plus0 one division_limit entry abs up_to entry_at row rows zeros of_bits span climb size odd units round neg sum add sub mul div lt eq of_int of_fields
 opened = tt
 
 -- numbers as rows, for what is not about numbers
@@ -110,13 +110,13 @@ none = refl
 abbrev turning : List Float
 turning = I ∷ z ∷ -I ∷ z ∷ -I ∷ z ∷ I ∷ I ∷ []
 
-currents : after (numberedOf rows-own (studyOf 2 turning [] (1 ∷ []) (0 ∷ []) I (z ∷ []) (I ∷ [])))
+currents : after (numbered_of rows-own (study_of 2 turning [] (1 ∷ []) (0 ∷ []) I (z ∷ []) (I ∷ [])))
     ≡ record { answer = done 2 1 +½; outputs = record { y-ward = +½ ∷ +½ ∷ []; p-ward = -½ ∷ []; q-ward = +½ ∷ []; work = zeros 6 } }
 unfolding opened
 currents = refl
 
 -- the same with no external bus: nothing is turned, both injections are +0
-no-currents : after (numberedOf rows-own (studyOf 2 turning [] [] (0 ∷ []) I [] []))
+no-currents : after (numbered_of rows-own (study_of 2 turning [] [] (0 ∷ []) I [] []))
     ≡ record { answer = done 2 1 z; outputs = record { y-ward = I ∷ z ∷ []; p-ward = z ∷ []; q-ward = z ∷ []; work = [] } }
 unfolding opened
 no-currents = refl
@@ -142,14 +142,14 @@ short : refused (study rows-own (I ∷ M) [] (1 ∷ []) (0 ∷ []) (z ∷ []) (z
 unfolding opened
 short = refl
 
-many : refused (numberedOf rows-own (studyOf (limit + 1) M [] (1 ∷ []) (0 ∷ []) C (z ∷ []) (z ∷ []))) 1
+many : refused (numbered_of rows-own (study_of (limit + 1) M [] (1 ∷ []) (0 ∷ []) C (z ∷ []) (z ∷ []))) 1
 unfolding opened
 many = refl
 
 abbrev flat : NumberedStudy
 flat = study rows-own (z ∷ z ∷ z ∷ z ∷ z ∷ z ∷ z ∷ z ∷ []) [] (1 ∷ []) (0 ∷ []) (z ∷ []) (z ∷ [])
 
-pivot : after flat ≡ record { answer = Refused 13; outputs = outputsOf (I ∷ I ∷ []) (I ∷ []) (I ∷ []) (zeros 6) }
+pivot : after flat ≡ record { answer = Refused 13; outputs = outputs_of (I ∷ I ∷ []) (I ∷ []) (I ∷ []) (zeros 6) }
 unfolding opened
 pivot = refl
 
@@ -157,7 +157,7 @@ pivot = refl
 
 -- three buses, 5, 1, 1 / 1, 2, 1 / 1, 1, 2, the second and the third external: a solve for bus 0 and one for the currents, of two row reductions each
 abbrev pair : List Float → NumberedStudy
-pair ys = numberedOf (0 ∷ 1 ∷ 2 ∷ []) (studyOf 3 ys [] (1 ∷ 2 ∷ []) (0 ∷ []) C (C ∷ z ∷ []) (z ∷ z ∷ []))
+pair ys = numbered_of (0 ∷ 1 ∷ 2 ∷ []) (study_of 3 ys [] (1 ∷ 2 ∷ []) (0 ∷ []) C (C ∷ z ∷ []) (z ∷ z ∷ []))
 
 abbrev meshed : NumberedStudy
 meshed = pair (float 0x4014000000000000 ∷ z ∷ I ∷ z ∷ I ∷ z ∷ I ∷ z ∷ II ∷ z ∷ I ∷ z ∷ I ∷ z ∷ I ∷ z ∷ II ∷ z ∷ [])
@@ -171,7 +171,7 @@ unfolding opened
 all-four = refl
 
 -- three are enough for either solve, and not for both: every output is as it was, the work slice cleared
-one-too-few : under 3 meshed ≡ record { answer = Refused beyondAllowance; outputs = outputsOf (I ∷ I ∷ []) (I ∷ []) (I ∷ []) (zeros 16) }
+one-too-few : under 3 meshed ≡ record { answer = Refused beyond_allowance; outputs = outputs_of (I ∷ I ∷ []) (I ∷ []) (I ∷ []) (zeros 16) }
 unfolding opened
 one-too-few = refl
 
@@ -183,7 +183,7 @@ pivot-first : (under 1 flat-pair).answer ≡ Refused 13
 unfolding opened
 pivot-first = refl
 
-reduction-first : under 0 flat-pair ≡ record { answer = Refused beyondAllowance; outputs = outputsOf (I ∷ I ∷ []) (I ∷ []) (I ∷ []) (zeros 16) }
+reduction-first : under 0 flat-pair ≡ record { answer = Refused beyond_allowance; outputs = outputs_of (I ∷ I ∷ []) (I ∷ []) (I ∷ []) (zeros 16) }
 unfolding opened
 reduction-first = refl
 
@@ -200,14 +200,14 @@ abbrev most : Float
 most = float 0x7fefffffffffffff
 
 abbrev baseless : NumberedStudy → NumberedStudy
-baseless N = numberedOf N.numbers (studyOf N.study.size N.study.given N.study.internal N.study.external N.study.boundary z N.study.p-ext N.study.q-ext)
+baseless N = numbered_of N.numbers (study_of N.study.size N.study.given N.study.internal N.study.external N.study.boundary z N.study.p-ext N.study.q-ext)
 
 -- base 0: the currents are not finite, behind the two row reductions of bus 0's solve
-base-behind : (under 1 (baseless meshed)).answer ≡ Refused beyondAllowance
+base-behind : (under 1 (baseless meshed)).answer ≡ Refused beyond_allowance
 unfolding opened
 base-behind = refl
 
-base-first : under 2 (baseless meshed) ≡ record { answer = Refused computedNotFinite; outputs = outputsOf (I ∷ I ∷ []) (I ∷ []) (I ∷ []) (zeros 16) }
+base-first : under 2 (baseless meshed) ≡ record { answer = Refused computed_not_finite; outputs = outputs_of (I ∷ I ∷ []) (I ∷ []) (I ∷ []) (zeros 16) }
 unfolding opened
 base-first = refl
 
@@ -217,7 +217,7 @@ unfolding opened
 base-alone = refl
 
 -- 1, 2^600 / 2^600, 1: a product is not finite
-product-first : after (study rows-own (I ∷ z ∷ huge ∷ z ∷ huge ∷ z ∷ I ∷ z ∷ []) [] (1 ∷ []) (0 ∷ []) (C ∷ []) (z ∷ [])) ≡ record { answer = Refused computedNotFinite; outputs = outputsOf (I ∷ I ∷ []) (I ∷ []) (I ∷ []) (zeros 6) }
+product-first : after (study rows-own (I ∷ z ∷ huge ∷ z ∷ huge ∷ z ∷ I ∷ z ∷ []) [] (1 ∷ []) (0 ∷ []) (C ∷ []) (z ∷ [])) ≡ record { answer = Refused computed_not_finite; outputs = outputs_of (I ∷ I ∷ []) (I ∷ []) (I ∷ []) (zeros 6) }
 unfolding opened
 product-first = refl
 
@@ -227,8 +227,8 @@ product-first = refl
 -- has s towards bus 2, and t and u come to it from buses 2 and 3.
 abbrev quartet : Float → Float → Float → NumberedStudy
 quartet s t u =
-    numberedOf (0 ∷ 1 ∷ 2 ∷ 3 ∷ [])
-    (studyOf 4
+    numbered_of (0 ∷ 1 ∷ 2 ∷ 3 ∷ [])
+    (study_of 4
     (I ∷ z ∷ z ∷ z ∷ s ∷ z ∷ z ∷ z
     ∷ z ∷ z ∷ I ∷ z ∷ I ∷ z ∷ z ∷ z
     ∷ t ∷ z ∷ I ∷ z ∷ II ∷ z ∷ I ∷ z
@@ -237,17 +237,17 @@ quartet s t u =
 
 -- The column of bus 0 overflows in its solve's first reduction, that of bus 1 never: with one reduction allowed it is met, since internal buses
 -- come before boundary ones.
-internal-first : (under 1 (quartet z most (float 0xffefffffffffffff))).answer ≡ Refused computedNotFinite
+internal-first : (under 1 (quartet z most (float 0xffefffffffffffff))).answer ≡ Refused computed_not_finite
 unfolding opened
 internal-first = refl
 
 -- The entry of bus 0 overflows, and no solve: with two reductions allowed the second column's solve is met before it, with four it is met before
 -- the currents' solve.
-entries-behind : (under 2 (quartet huge huge z)).answer ≡ Refused beyondAllowance
+entries-behind : (under 2 (quartet huge huge z)).answer ≡ Refused beyond_allowance
 unfolding opened
 entries-behind = refl
 
-entries-first : (under 4 (quartet huge huge z)).answer ≡ Refused computedNotFinite
+entries-first : (under 4 (quartet huge huge z)).answer ≡ Refused computed_not_finite
 unfolding opened
 entries-first = refl
 
@@ -258,7 +258,7 @@ not-given : refused (study rows-own (infinite ∷ z ∷ -I ∷ z ∷ -I ∷ z �
 unfolding opened
 not-given = refl
 
-base-not-given : refused (numberedOf rows-own (studyOf 2 M [] [] (0 ∷ []) infinite [] [])) 19
+base-not-given : refused (numbered_of rows-own (study_of 2 M [] [] (0 ∷ []) infinite [] [])) 19
 unfolding opened
 base-not-given = refl
 
@@ -273,31 +273,31 @@ input-first = refl
 
 -- the theorems on allowances at the edges of their premises: what is carried out, what 13 ends and what the input refuses is the same with more
 -- allowed, and the bound is enough
-not_beyond : (a : WardAnswer) → eqb (wardNumber a) beyondAllowance ≡ false → a ≡ Refused beyondAllowance → ⊥
-unfolding wardNumber
-not_beyond a t e = true≢false (sym (ap (λ (x : WardAnswer). eqb (wardNumber x) beyondAllowance) e) ∙ t)
+not_beyond : (a : WardAnswer) → eqb (ward_number a) beyond_allowance ≡ false → a ≡ Refused beyond_allowance → ⊥
+unfolding ward_number
+not_beyond a t e = true≢false (sym (ap (λ (x : WardAnswer). eqb (ward_number x) beyond_allowance) e) ∙ t)
 
-others : (eqb (wardNumber (under 4 meshed).answer) beyondAllowance ≡ false) × (eqb (wardNumber (under 1 flat-pair).answer) beyondAllowance ≡ false)
-unfolding opened wardNumber
+others : (eqb (ward_number (under 4 meshed).answer) beyond_allowance ≡ false) × (eqb (ward_number (under 1 flat-pair).answer) beyond_allowance ≡ false)
+unfolding opened ward_number
 others = (refl, refl)
 
 still-done : after meshed ≡ under 4 meshed
-unfolding ◌noMoreThan◌
+unfolding ◌no_more_than◌
 still-done = study-allowances.larger meshed (Rows 4) Unlimited (room meshed.study) tt (not_beyond _ others.0)
 
 still-singular : under 2 flat-pair ≡ under 1 flat-pair
-unfolding ◌noMoreThan◌
+unfolding ◌no_more_than◌
 still-singular = study-allowances.larger flat-pair (Rows 1) (Rows 2) (room flat-pair.study) (omega arith) (not_beyond _ others.1)
 
 from-four : under 4 meshed ≡ after meshed
-unfolding mostRows retained
+unfolding most_rows retained
 from-four = study-allowances.from-bound meshed 4 (room meshed.study) (omega arith)
 
 -- ---- numbers
 
 -- M in row order, its second bus external with P 100: 0.5 is left, and the first bus gets 50
 abbrev halved : AfterWard
-halved = record { answer = done 2 1 +½; outputs = outputsOf (+½ ∷ z ∷ []) (float 0x4049000000000000 ∷ []) (z ∷ []) (zeros 6) }
+halved = record { answer = done 2 1 +½; outputs = outputs_of (+½ ∷ z ∷ []) (float 0x4049000000000000 ∷ []) (z ∷ []) (zeros 6) }
 
 own : after (study rows-own M [] (1 ∷ []) (0 ∷ []) (C ∷ []) (z ∷ [])) ≡ halved
 unfolding opened
@@ -322,12 +322,12 @@ turned : after (study (1 ∷ 0 ∷ []) M [] (0 ∷ []) (1 ∷ []) (C ∷ []) (z 
 unfolding opened
 turned = refl
 
-not-turned : after (study rows-own M [] (0 ∷ []) (1 ∷ []) (C ∷ []) (z ∷ [])) ≡ record { answer = done 2 1 +½; outputs = outputsOf (I ∷ z ∷ []) (C ∷ []) (z ∷ []) (zeros 6) }
+not-turned : after (study rows-own M [] (0 ∷ []) (1 ∷ []) (C ∷ []) (z ∷ [])) ≡ record { answer = done 2 1 +½; outputs = outputs_of (I ∷ z ∷ []) (C ∷ []) (z ∷ []) (zeros 6) }
 unfolding opened
 not-turned = refl
 
 -- rows of the equivalent are in the lists' order, not in that of the numbers
-unsorted : after (study (7 ∷ 3 ∷ []) M (7 ∷ []) [] (3 ∷ []) [] []) ≡ record { answer = done 2 2 z; outputs = outputsOf M (z ∷ []) (z ∷ []) [] }
+unsorted : after (study (7 ∷ 3 ∷ []) M (7 ∷ []) [] (3 ∷ []) [] []) ≡ record { answer = done 2 2 z; outputs = outputs_of M (z ∷ []) (z ∷ []) [] }
 unfolding opened
 unsorted = refl
 
@@ -372,51 +372,51 @@ skew =
 
 -- base 1, P 0, Q 1; rows 0 and 1 have the numbers 7 and 3
 abbrev extended : ℕ → List Float → NumberedExtended
-extended k vs = numberedExtendedOf (numberedOf (7 ∷ 3 ∷ []) (studyOf 2 skew [] (k ∷ []) (7 ∷ []) I (z ∷ []) (I ∷ []))) vs
+extended k vs = numbered_extended_of (numbered_of (7 ∷ 3 ∷ []) (study_of 2 skew [] (k ∷ []) (7 ∷ []) I (z ∷ []) (I ∷ []))) vs
 
 abbrev wide : NumberedExtended → ExtendedOutputs
 wide X = record { outputs = room X.study.study; correction = I ∷ []; compensation = I ∷ [] }
 
 opened-extended : Unit {0}
-unfolding opened ofSums ofTies ofCorrection stepsOfExtended magnitude root rootOf wholeRoot half radicand smallMagnitude addUp deviation weight weightSum weightedSum meanOf voltageCorrection reactive qCompensation extendedOutputsAfter studiedExtended extendedInRows extendedShapeRefusal extendedRefusal afterComputeExtended
+unfolding opened of_sums of_ties of_correction steps_of_extended magnitude root root_of whole_root half radicand small_magnitude add_up deviation weight weight_sum weighted_sum mean_of voltage_correction reactive q_compensation extended_outputs_after studied_extended extended_in_rows extended_shape_refusal extended_refusal after_compute_extended
 opened-extended = tt
 
 -- voltage 1.25: bus 7 gets P -3.5 and Q -0.5; its correction is 0.25, and the extended form's own Q -1
 both-q : let X = extended 3 (float 0x3ff4000000000000 ∷ []) in
-    afterComputeExtended X Unlimited (wide X)
-    ≡ afterExtended (done 2 1 +½) (outputsOf (float 0x4032800000000000 ∷ float 0x4012000000000000 ∷ []) (float 0xc00c000000000000 ∷ []) (-½ ∷ []) (zeros 6)) (float 0x3fd0000000000000 ∷ []) (-I ∷ [])
+    after_compute_extended X Unlimited (wide X)
+    ≡ after_extended (done 2 1 +½) (outputs_of (float 0x4032800000000000 ∷ float 0x4012000000000000 ∷ []) (float 0xc00c000000000000 ∷ []) (-½ ∷ []) (zeros 6)) (float 0x3fd0000000000000 ∷ []) (-I ∷ [])
 unfolding opened-extended
 both-q = refl
 
 -- the extended form of `meshed`: as many rows, and with one too few neither correction nor compensation is written
 abbrev wide-pair : NumberedExtended
-wide-pair = numberedExtendedOf meshed (I ∷ I ∷ [])
+wide-pair = numbered_extended_of meshed (I ∷ I ∷ [])
 
-extended-beyond : afterComputeExtended wide-pair (Rows 3) (wide wide-pair) ≡ afterExtended (Refused beyondAllowance) (outputsOf (I ∷ I ∷ []) (I ∷ []) (I ∷ []) (zeros 16)) (I ∷ []) (I ∷ [])
+extended-beyond : after_compute_extended wide-pair (Rows 3) (wide wide-pair) ≡ after_extended (Refused beyond_allowance) (outputs_of (I ∷ I ∷ []) (I ∷ []) (I ∷ []) (zeros 16)) (I ∷ []) (I ∷ [])
 unfolding opened-extended
 extended-beyond = refl
 
-extended-four : (afterComputeExtended wide-pair (Rows 4) (wide wide-pair)).answer ≡ counting 3 1 (float 0x3fe5555555555556) 4
+extended-four : (after_compute_extended wide-pair (Rows 4) (wide wide-pair)).answer ≡ counting 3 1 (float 0x3fe5555555555556) 4
 unfolding opened-extended
 extended-four = refl
 
-other-extended : eqb (wardNumber (afterComputeExtended wide-pair (Rows 4) (wide wide-pair)).answer) beyondAllowance ≡ false
-unfolding opened-extended wardNumber
+other-extended : eqb (ward_number (after_compute_extended wide-pair (Rows 4) (wide wide-pair)).answer) beyond_allowance ≡ false
+unfolding opened-extended ward_number
 other-extended = refl
 
-still-done-extended : afterComputeExtended wide-pair Unlimited (wide wide-pair) ≡ afterComputeExtended wide-pair (Rows 4) (wide wide-pair)
-unfolding ◌noMoreThan◌
+still-done-extended : after_compute_extended wide-pair Unlimited (wide wide-pair) ≡ after_compute_extended wide-pair (Rows 4) (wide wide-pair)
+unfolding ◌no_more_than◌
 still-done-extended = study-allowances.larger-extended wide-pair (Rows 4) Unlimited (wide wide-pair) tt (not_beyond _ other-extended)
 
-from-four-extended : afterComputeExtended wide-pair (Rows 4) (wide wide-pair) ≡ afterComputeExtended wide-pair Unlimited (wide wide-pair)
-unfolding mostRows retained
+from-four-extended : after_compute_extended wide-pair (Rows 4) (wide wide-pair) ≡ after_compute_extended wide-pair Unlimited (wide wide-pair)
+unfolding most_rows retained
 from-four-extended = study-allowances.from-bound-extended wide-pair 4 (wide wide-pair) (omega arith)
 
-unlike-v : afterComputeExtended (extended 3 []) Unlimited (wide (extended 3 [])) ≡ record { answer = Refused 3; outputs = wide (extended 3 []) }
+unlike-v : after_compute_extended (extended 3 []) Unlimited (wide (extended 3 [])) ≡ record { answer = Refused 3; outputs = wide (extended 3 []) }
 unfolding opened-extended
 unlike-v = refl
 
-lacks-v : let X = extended 1 (I ∷ []) in afterComputeExtended X Unlimited (wide X) ≡ record { answer = Refused 7; outputs = wide X }
+lacks-v : let X = extended 1 (I ∷ []) in after_compute_extended X Unlimited (wide X) ≡ record { answer = Refused 7; outputs = wide X }
 unfolding opened-extended
 lacks-v = refl
 
@@ -424,26 +424,26 @@ lacks-v = refl
 
 -- all entries 2, the voltage 1.7e308: the study is accepted, its correction is not finite
 abbrev loud : NumberedExtended
-loud = numberedExtendedOf (numberedOf rows-own (studyOf 2 (II ∷ z ∷ II ∷ z ∷ II ∷ z ∷ II ∷ z ∷ []) [] (1 ∷ []) (0 ∷ []) I (I ∷ []) (z ∷ []))) (float 0x7fee42d130773b76 ∷ [])
+loud = numbered_extended_of (numbered_of rows-own (study_of 2 (II ∷ z ∷ II ∷ z ∷ II ∷ z ∷ II ∷ z ∷ []) [] (1 ∷ []) (0 ∷ []) I (I ∷ []) (z ∷ []))) (float 0x7fee42d130773b76 ∷ [])
 
 loud-study : (after loud.study).answer ≡ done 2 1 +½
 unfolding opened
 loud-study = refl
 
-loud-correction : afterComputeExtended loud Unlimited (wide loud) ≡ afterExtended (Refused computedNotFinite) (outputsOf (I ∷ I ∷ []) (I ∷ []) (I ∷ []) (zeros 6)) (I ∷ []) (I ∷ [])
+loud-correction : after_compute_extended loud Unlimited (wide loud) ≡ after_extended (Refused computed_not_finite) (outputs_of (I ∷ I ∷ []) (I ∷ []) (I ∷ []) (zeros 6)) (I ∷ []) (I ∷ [])
 unfolding opened-extended
 loud-correction = refl
 
 -- the same by `meets-first-extended`, whose premise it meets: its own study's work meets no 20
-loud-unlost : eqb (workRefusal Unlimited (steps_of (inRows loud.study))) computedNotFinite ≡ false
+loud-unlost : eqb (work_refusal Unlimited (steps_of (in_rows loud.study))) computed_not_finite ≡ false
 unfolding opened
 loud-unlost = refl
 
-loud-by-law : workRefusal (Rows 0) (stepsOfExtended (extendedInRows loud)) ≡ computedNotFinite
-unfolding opened-extended pairs pairsFrom pairsIn
-loud-by-law = study-allowances.meets-first-extended (extendedInRows loud) 0 tt (λ (e : workRefusal Unlimited (steps_of (inRows loud.study)) ≡ computedNotFinite). true≢false (sym (ap (λ (x : ℕ). eqb x computedNotFinite) e) ∙ loud-unlost))
+loud-by-law : work_refusal (Rows 0) (steps_of_extended (extended_in_rows loud)) ≡ computed_not_finite
+unfolding opened-extended pairs pairs_from pairs_in
+loud-by-law = study-allowances.meets-first-extended (extended_in_rows loud) 0 tt (λ (e : work_refusal Unlimited (steps_of (in_rows loud.study)) ≡ computed_not_finite). true≢false (sym (ap (λ (x : ℕ). eqb x computed_not_finite) e) ∙ loud-unlost))
 
 -- a voltage that is not finite
-v-not-given : let X = extended 3 (infinite ∷ []) in afterComputeExtended X Unlimited (wide X) ≡ record { answer = Refused 19; outputs = wide X }
+v-not-given : let X = extended 3 (infinite ∷ []) in after_compute_extended X Unlimited (wide X) ≡ record { answer = Refused 19; outputs = wide X }
 unfolding opened-extended
 v-not-given = refl

@@ -15,10 +15,10 @@ use Rattle.ward_equivalent.specs.declared.answers.WardAnswer.TheVariants as answ
 use Rattle.ward_equivalent.specs.Ward.{Study, Outputs}
 use Rattle.ward_equivalent.specs.Steps.{steps_of}
 use Rattle.ward_equivalent.specs.Studied.{studied}
-use Rattle.ward_equivalent.specs.Calls.{studyOf, afterWard}
-use Rattle.ward_equivalent.specs.Inner.Listed.{cut, outputsFrom, uncorrectedAnswer}
+use Rattle.ward_equivalent.specs.Calls.{study_of, after_ward}
+use Rattle.ward_equivalent.specs.Inner.Listed.{cut, outputs_from, uncorrected_answer}
 use Rattle.ward_equivalent.specs.Inner.Work.{product}
-use Rattle.ward_equivalent.specs.Inner.Sequence.{keptStudy, externalPart, externalColumn, ColumnsApart, CurrentsApart, AllTogether, decidedNumber, Decides}
+use Rattle.ward_equivalent.specs.Inner.Sequence.{kept_study, external_part, external_column, ColumnsApart, CurrentsApart, AllTogether, decided_number, Decides}
 use Rattle.ward_equivalent.proofs.Solved.{product-column, product-currents}
 use Rattle.ward_equivalent.proofs.Studied.{studied-done, studied-refused, filled-ward}
 use Rattle.ward_equivalent.proofs.Kept.{column-product, currents-product}
@@ -30,15 +30,15 @@ tag (Together rows) = 0
 tag (Apart rows) = 1
 tag (Refused k) = 2
 
-rowsIn : Decided → ℕ
-rowsIn (Together rows) = rows
-rowsIn (Apart rows) = rows
-rowsIn (Refused k) = k
+rows_in : Decided → ℕ
+rows_in (Together rows) = rows
+rows_in (Apart rows) = rows
+rows_in (Refused k) = k
 
-pub cut-kept : (n : ℕ) (ys : List Float) (bs : List ℕ) (e f : ℕ) (base : Float) (ps qs : List Float) → e ≤ f → keptStudy n ys (take e bs) (drop e bs) (f - e) base ps qs ≡ cut n ys bs e f base ps qs
+pub cut-kept : (n : ℕ) (ys : List Float) (bs : List ℕ) (e f : ℕ) (base : Float) (ps qs : List Float) → e ≤ f → kept_study n ys (take e bs) (drop e bs) (f - e) base ps qs ≡ cut n ys bs e f base ps qs
 cut-kept n ys bs e f base ps qs h =
     let q : e + (f - e) ≡ f = omega arith in
-    ap (λ (l : List ℕ). studyOf n ys (take (f - e) (drop e bs)) (take e bs) l base ps qs) (drop-drop (f - e) e bs ∙ ap (λ (k : ℕ). drop k bs) q)
+    ap (λ (l : List ℕ). study_of n ys (take (f - e) (drop e bs)) (take e bs) l base ps qs) (drop-drop (f - e) e bs ∙ ap (λ (k : ℕ). drop k bs) q)
 
 module _ (n : ℕ) (ys : List Float) (bs : List ℕ) (e f : ℕ) (base : Float) (ps qs : List Float) (order : e ≤ f) (m : ℕ) (after : List Float) where
   abbrev S : Study
@@ -49,10 +49,10 @@ module _ (n : ℕ) (ys : List Float) (bs : List ℕ) (e f : ℕ) (base : Float) 
 
   pub refused-decided : (k : ℕ) → suc k ≡ meets m (steps_of (cut n ys bs e f base ps qs)) → (r : Decided) → r ≡ Refused (suc k) → (long : ℕ) → length after ≡ long → after ≡ zeros long
       → Decides n ys (take e bs) (drop e bs) bs (cut n ys bs e f base ps qs) m r after
-  unfolding decidedNumber tag rowsIn
+  unfolding decided_number tag rows_in
   refused-decided k h r said long kept clear = subst Decision (sym said) (record {
     number = h;
-    refuses = λ (j : ℕ) q z. let same : suc k ≡ j = ap rowsIn q in omega arith;
+    refuses = λ (j : ℕ) q z. let same : suc k ≡ j = ap rows_in q in omega arith;
     cleared = λ (j : ℕ) q. clear ∙ ap zeros (sym kept);
     together = λ (rows : ℕ) q. absurd (let z : ◌≡◌ {A = ℕ} 2 0 = ap tag q in omega arith);
     apart = λ (rows : ℕ) q. absurd (let z : ◌≡◌ {A = ℕ} 2 1 = ap tag q in omega arith);
@@ -60,19 +60,19 @@ module _ (n : ℕ) (ys : List Float) (bs : List ℕ) (e f : ℕ) (base : Float) 
 
   pub together-decided : (rows : ℕ) → meets m (steps_of (cut n ys bs e f base ps qs)) ≡ 0 → rows ≡ reductions (steps_of (cut n ys bs e f base ps qs)) → AllTogether n ys bs (length (take e bs)) base ps qs after
       → Decides n ys (take e bs) (drop e bs) bs (cut n ys bs e f base ps qs) m (Together rows) after
-  unfolding decidedNumber tag rowsIn
+  unfolding decided_number tag rows_in
   together-decided rows h count held = record {
     number = sym h;
     refuses = λ (j : ℕ) q z. let t : ◌≡◌ {A = ℕ} 0 2 = ap tag q in omega arith;
     cleared = λ (j : ℕ) q. absurd (let t : ◌≡◌ {A = ℕ} 0 2 = ap tag q in omega arith);
-    together = λ (k : ℕ) q. (sym (ap rowsIn q) ∙ count, held);
+    together = λ (k : ℕ) q. (sym (ap rows_in q) ∙ count, held);
     apart = λ (k : ℕ) q. absurd (let z : ◌≡◌ {A = ℕ} 0 1 = ap tag q in omega arith);
   }
 
   -- by the work in the order of its steps
-  module _ (es ks : List ℕ) (E : es ≡ take e bs) (K : ks ≡ drop e bs) (end : Eliminated) (ended : Ended m end (steps_of (keptStudy n ys es ks (f - e) base ps qs))) where
-    as-cut : keptStudy n ys es ks (f - e) base ps qs ≡ S
-    as-cut = ap (λ (l : List ℕ). keptStudy n ys l ks (f - e) base ps qs) E ∙ ap (λ (l : List ℕ). keptStudy n ys (take e bs) l (f - e) base ps qs) K ∙ cut-kept n ys bs e f base ps qs order
+  module _ (es ks : List ℕ) (E : es ≡ take e bs) (K : ks ≡ drop e bs) (end : Eliminated) (ended : Ended m end (steps_of (kept_study n ys es ks (f - e) base ps qs))) where
+    as-cut : kept_study n ys es ks (f - e) base ps qs ≡ S
+    as-cut = ap (λ (l : List ℕ). kept_study n ys l ks (f - e) base ps qs) E ∙ ap (λ (l : List ℕ). kept_study n ys (take e bs) l (f - e) base ps qs) K ∙ cut-kept n ys bs e f base ps qs order
 
     met : number_of end ≡ meets m (steps_of S)
     met = ended.number ∙ ap (λ (T : Study). meets m (steps_of T)) as-cut
@@ -83,17 +83,17 @@ module _ (n : ℕ) (ys : List Float) (bs : List ℕ) (e f : ℕ) (base : Float) 
 
     pub apart-done : (left : ℕ) → end ≡ ends.Done left → ColumnsApart n ys es ks (length ks) after → CurrentsApart n ys es base ps qs after
         → Decides n ys (take e bs) (drop e bs) bs (cut n ys bs e f base ps qs) m (Apart (m - left)) after
-    unfolding decidedNumber tag rowsIn number_of
+    unfolding decided_number tag rows_in number_of
     apart-done left d columns currents =
         let c = ended.count left d in
-        let count : reductions (steps_of (keptStudy n ys es ks (f - e) base ps qs)) ≡ reductions (steps_of S) = ap (λ (T : Study). reductions (steps_of T)) as-cut in
+        let count : reductions (steps_of (kept_study n ys es ks (f - e) base ps qs)) ≡ reductions (steps_of S) = ap (λ (T : Study). reductions (steps_of T)) as-cut in
         record {
           number = sym (ap number_of d) ∙ met;
           refuses = λ (j : ℕ) q z. let t : ◌≡◌ {A = ℕ} 1 2 = ap tag q in omega arith;
           cleared = λ (j : ℕ) q. absurd (let t : ◌≡◌ {A = ℕ} 1 2 = ap tag q in omega arith);
           together = λ (k : ℕ) q. absurd (let z : ◌≡◌ {A = ℕ} 1 0 = ap tag q in omega arith);
           apart = λ (k : ℕ) q. (
-            sym (ap rowsIn q) ∙ omega arith,
+            sym (ap rows_in q) ∙ omega arith,
             subst (λ (l : List ℕ). ColumnsApart n ys (take e bs) l (length l) after) K (subst (λ (l : List ℕ). ColumnsApart n ys l ks (length ks) after) E columns),
             subst (λ (l : List ℕ). CurrentsApart n ys l base ps qs after) E currents,
           );
@@ -101,14 +101,14 @@ module _ (n : ℕ) (ys : List Float) (bs : List ℕ) (e f : ℕ) (base : Float) 
 
 -- ---- a study whose corrections are not finite
 
-pub uncorrected-none : (met : ℕ) → met ≡ 0 → uncorrectedAnswer met ≡ answers.Refused 20
-unfolding uncorrectedAnswer
-uncorrected-none met h = ap uncorrectedAnswer h
+pub uncorrected-none : (met : ℕ) → met ≡ 0 → uncorrected_answer met ≡ answers.Refused 20
+unfolding uncorrected_answer
+uncorrected-none met h = ap uncorrected_answer h
 
-pub uncorrected-refused : (k met : ℕ) → k ≡ met → (k ≡ 0 → ⊥) → answers.Refused k ≡ uncorrectedAnswer met
-unfolding uncorrectedAnswer
+pub uncorrected-refused : (k met : ℕ) → k ≡ met → (k ≡ 0 → ⊥) → answers.Refused k ≡ uncorrected_answer met
+unfolding uncorrected_answer
 uncorrected-refused zero met e h = absurd (h refl)
-uncorrected-refused (suc k) met e h = ap uncorrectedAnswer e
+uncorrected-refused (suc k) met e h = ap uncorrected_answer e
 
 pub none-steps : (n : ℕ) (ys : List Float) (bs : List ℕ) (f : ℕ) (base : Float) (ps qs : List Float) (m : ℕ) → meets m (steps_of (cut n ys bs 0 f base ps qs)) ≡ 0
 unfolding steps_of meets
@@ -122,16 +122,16 @@ module _ (n : ℕ) (ys : List Float) (bs : List ℕ) (e f : ℕ) (base : Float) 
   count : length (take e bs) ≡ e
   count = length-take-le e bs (omega arith)
 
-  pub decided-refused : (k : ℕ) → answered ≡ Refused k → studied (cut n ys bs e f base ps qs) (Rows m) o 0 ≡ afterWard (answers.Refused k) o.y-ward o.p-ward o.q-ward (zeros (length o.work))
-  unfolding decidedNumber
-  decided-refused k q = studied-refused (cut n ys bs e f base ps qs) m o k (sym decided.number ∙ ap decidedNumber q) (decided.refuses k q)
+  pub decided-refused : (k : ℕ) → answered ≡ Refused k → studied (cut n ys bs e f base ps qs) (Rows m) o 0 ≡ after_ward (answers.Refused k) o.y-ward o.p-ward o.q-ward (zeros (length o.work))
+  unfolding decided_number
+  decided-refused k q = studied-refused (cut n ys bs e f base ps qs) m o k (sym decided.number ∙ ap decided_number q) (decided.refuses k q)
 
-  accepts : (k : ℕ) → decidedNumber answered ≡ 0 → meets m (steps_of (cut n ys bs e f base ps qs)) ≡ 0
+  accepts : (k : ℕ) → decided_number answered ≡ 0 → meets m (steps_of (cut n ys bs e f base ps qs)) ≡ 0
   accepts k z = sym decided.number ∙ z
 
   pub decided-together : (z : ℕ) → z ≡ length after → (rows : ℕ) → answered ≡ Together rows
-      → outputsFrom n ys bs e f base rows (length after) (drop 0 after) (length bs + 1) e (take z after) (length bs + 1) (length bs) ≡ studied (cut n ys bs e f base ps qs) (Rows m) o 0
-  unfolding decidedNumber
+      → outputs_from n ys bs e f base rows (length after) (drop 0 after) (length bs + 1) e (take z after) (length bs + 1) (length bs) ≡ studied (cut n ys bs e f base ps qs) (Rows m) o 0
+  unfolding decided_number
   decided-together z lz rows q =
       let (same, held) = decided.together rows q in
       let held' = subst (λ (k : ℕ). AllTogether n ys bs k base ps qs after) count held in
@@ -140,18 +140,18 @@ module _ (n : ℕ) (ys : List Float) (bs : List ℕ) (e f : ℕ) (base : Float) 
       (λ (i q : ℕ) h. ap (λ (k : ℕ). product n ys (take e bs) (length bs + 1) after i (k + q)) (sym count) ∙ product-column n ys bs e f base ps qs (omega arith) held'.before held'.filled after held'.reached i q h)
       (λ (i : ℕ). ap (λ (l : List Float). product n ys (take e bs) (length bs + 1) l i (length bs)) all ∙ product-currents n ys bs e f base ps qs (omega arith) held'.before held'.filled after held'.reached i)
       (length after) o.work kept rows same
-      ∙ sym (studied-done (cut n ys bs e f base ps qs) m o (accepts 0 (ap decidedNumber q)))
+      ∙ sym (studied-done (cut n ys bs e f base ps qs) m o (accepts 0 (ap decided_number q)))
 
   column-at : (k q : ℕ) → k < length (take e bs) → q < length bs - e
-      → entry_at (length (drop e bs)) (drop (2 * (length (take e bs) * (length (take e bs) + 1))) after) k q ≡ solve (length (take e bs)) (externalPart n ys (take e bs)) (externalColumn n ys (take e bs) (get_or (drop e bs) q 0)) k
-      → entry_at (length bs - e) (drop (2 * (e * (e + 1))) after) k (0 + q) ≡ solve (length (take e bs)) (externalPart n ys (take e bs)) (externalColumn n ys (take e bs) (get_or bs (e + q) 0)) k
+      → entry_at (length (drop e bs)) (drop (2 * (length (take e bs) * (length (take e bs) + 1))) after) k q ≡ solve (length (take e bs)) (external_part n ys (take e bs)) (external_column n ys (take e bs) (get_or (drop e bs) q 0)) k
+      → entry_at (length bs - e) (drop (2 * (e * (e + 1))) after) k (0 + q) ≡ solve (length (take e bs)) (external_part n ys (take e bs)) (external_column n ys (take e bs) (get_or bs (e + q) 0)) k
   column-at k q l h held =
       let at : 0 + q ≡ q = omega arith in
       ap (entry_at (length bs - e) (drop (2 * (e * (e + 1))) after) k) at
       ∙ ap (λ (w : ℕ). entry_at w (drop (2 * (e * (e + 1))) after) k q) (sym (length-drop e bs))
       ∙ ap (λ (m : ℕ). entry_at (length (drop e bs)) (drop (2 * (m * (m + 1))) after) k q) (sym count)
       ∙ held
-      ∙ ap (λ (j : ℕ). solve (length (take e bs)) (externalPart n ys (take e bs)) (externalColumn n ys (take e bs) j) k) (get_or-drop e bs q 0)
+      ∙ ap (λ (j : ℕ). solve (length (take e bs)) (external_part n ys (take e bs)) (external_column n ys (take e bs) j) k) (get_or-drop e bs q 0)
 
   front-currents : CurrentsApart n ys (take e bs) base ps qs after → CurrentsApart n ys (take e bs) base ps qs (take (2 * (e * (e + 1))) after)
   unfolding entry_at
@@ -162,8 +162,8 @@ module _ (n : ℕ) (ys : List Float) (bs : List ℕ) (e f : ℕ) (base : Float) 
       entry-take (e * (e + 1)) after (k * (m + 1) + m) within ∙ h k l
 
   pub decided-apart : (rows : ℕ) → answered ≡ Apart rows
-      → outputsFrom n ys bs e f base rows (length after) (drop (2 * (e * (e + 1))) after) (length bs - e) 0 (take (2 * (e * (e + 1))) after) (e + 1) e ≡ studied (cut n ys bs e f base ps qs) (Rows m) o 0
-  unfolding decidedNumber
+      → outputs_from n ys bs e f base rows (length after) (drop (2 * (e * (e + 1))) after) (length bs - e) 0 (take (2 * (e * (e + 1))) after) (e + 1) e ≡ studied (cut n ys bs e f base ps qs) (Rows m) o 0
+  unfolding decided_number
   decided-apart rows q =
       let (same, columns, currents) = decided.apart rows q in
       let r : length (drop e bs) ≡ length bs - e = length-drop e bs in
@@ -175,4 +175,4 @@ module _ (n : ℕ) (ys : List Float) (bs : List ℕ) (e f : ℕ) (base : Float) 
       ap (λ (m : ℕ). product n ys (take e bs) (m + 1) (take (2 * (e * (e + 1))) after) i m) (sym count)
       ∙ currents-product n ys (take e bs) (take (f - e) (drop e bs)) (drop f bs) base ps qs (take (2 * (e * (e + 1))) after) (front-currents currents) i)
       (length after) o.work kept rows same
-      ∙ sym (studied-done (cut n ys bs e f base ps qs) m o (accepts 0 (ap decidedNumber q)))
+      ∙ sym (studied-done (cut n ys bs e f base ps qs) m o (accepts 0 (ap decided_number q)))

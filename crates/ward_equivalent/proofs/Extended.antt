@@ -1,172 +1,172 @@
 -- An extended study on rows: Ward's own answer and slices, and the corrections where it is accepted.
 use Rattle.prelude.proofs.Prelude.{◌≡◌, refl, sym, ap, ◌∙◌, subst, Bool, true, false, cond, List, ◌++◌, ℕ, zero, suc, ◌-◌, ◌<◌, arith, T, get_or, eqb, is_true, length, take, drop, Float, map, sub-zero}
 use lib.Dec.{eqb-suc-zero}
-use Rattle.binary64.specs.Values.{allFinite}
+use Rattle.binary64.specs.Values.{all_finite}
 use Rattle.complex.specs.{zeros}
 use Rattle.lists.proofs.Scans.{rest-is}
 use Rattle.ward_equivalent.specs.declared.answers.WardSummary.{WardSummary}
 use Rattle.ward_equivalent.specs.declared.answers.WardAnswer.{WardAnswer}
 use Rattle.ward_equivalent.specs.declared.answers.WardAnswer.TheVariants.{Done, Refused}
 use Rattle.ward_equivalent.specs.Ward.{Outputs, admittance}
-use Rattle.ward_equivalent.specs.Studied.{summary, wardAnswer, wardNumber, AfterWard, studied}
-use Rattle.ward_equivalent.specs.Extended.{ExtendedStudy, ExtendedOutputs, deviation, weight, weightSum, weightedSum, voltageCorrection, qCompensation}
-use Rattle.ward_equivalent.specs.Studied.{outputsAfter, workAfter, extendedOutputsAfter, studiedExtended}
+use Rattle.ward_equivalent.specs.Studied.{summary, ward_answer, ward_number, AfterWard, studied}
+use Rattle.ward_equivalent.specs.Extended.{ExtendedStudy, ExtendedOutputs, deviation, weight, weight_sum, weighted_sum, voltage_correction, q_compensation}
+use Rattle.ward_equivalent.specs.Studied.{outputs_after, work_after, extended_outputs_after, studied_extended}
 use Rattle.refusals.specs.declared.Allowance.TheVariants.{Rows}
-use Rattle.refusals.specs.Work.{computing, reductions, meets, granted, workRefusal, thenWork}
+use Rattle.refusals.specs.Work.{computing, reductions, meets, granted, work_refusal, then_work}
 use Rattle.refusals.proofs.Work.{meets-after, meets-first, numbers-met}
-use Rattle.ward_equivalent.specs.Steps.{ofEach, ofCorrection, steps_of, stepsOfExtended}
-use Rattle.ward_equivalent.specs.Calls.{outputsOf, afterWard, afterExtended}
-use Rattle.ward_equivalent.specs.Inner.Listed.{cut, correctionInput, extendedOf, uncorrectedAnswer, CorrectionFinite}
+use Rattle.ward_equivalent.specs.Steps.{of_each, of_correction, steps_of, steps_of_extended}
+use Rattle.ward_equivalent.specs.Calls.{outputs_of, after_ward, after_extended}
+use Rattle.ward_equivalent.specs.Inner.Listed.{cut, correction_input, extended_of, uncorrected_answer, CorrectionFinite}
 use Rattle.ward_equivalent.proofs.Tells.{corrections-tell, corrections-told}
 
 -- ---- what an answer says of the refusal
 
-pub number-answered : (k : ℕ) (s : WardSummary) → wardNumber (wardAnswer k s) ≡ k
-unfolding wardNumber wardAnswer
+pub number-answered : (k : ℕ) (s : WardSummary) → ward_number (ward_answer k s) ≡ k
+unfolding ward_number ward_answer
 number-answered zero s = refl
 number-answered (suc k) s = refl
 
 -- an accepted study has no refusal
-done_none : (k : ℕ) (s s' : WardSummary) → Done s' ≡ wardAnswer k s → k ≡ 0
-unfolding wardNumber
-done_none k s s' e = sym (ap wardNumber e ∙ number-answered k s)
+done_none : (k : ℕ) (s s' : WardSummary) → Done s' ≡ ward_answer k s → k ≡ 0
+unfolding ward_number
+done_none k s s' e = sym (ap ward_number e ∙ number-answered k s)
 
-summaryIn : WardAnswer → WardSummary → WardSummary
-summaryIn (Done s) other = s
-summaryIn (Refused k) other = other
+summary_in : WardAnswer → WardSummary → WardSummary
+summary_in (Done s) other = s
+summary_in (Refused k) other = other
 
 -- and answers its summary
-pub done-is : (k : ℕ) (s s' : WardSummary) → Done s' ≡ wardAnswer k s → (k ≡ 0) × (s' ≡ s)
-unfolding summaryIn wardAnswer
-done-is k s s' e = let z = done_none k s s' e in (z, ap (λ (a : WardAnswer). summaryIn a s) (e ∙ ap (λ (m : ℕ). wardAnswer m s) z))
+pub done-is : (k : ℕ) (s s' : WardSummary) → Done s' ≡ ward_answer k s → (k ≡ 0) × (s' ≡ s)
+unfolding summary_in ward_answer
+done-is k s s' e = let z = done_none k s s' e in (z, ap (λ (a : WardAnswer). summary_in a s) (e ∙ ap (λ (m : ℕ). ward_answer m s) z))
 
-isDone : WardAnswer → Bool
-isDone (Done s) = true
-isDone (Refused k) = false
+is_done : WardAnswer → Bool
+is_done (Done s) = true
+is_done (Refused k) = false
 
-refused-some : (k j : ℕ) (s : WardSummary) → Refused j ≡ wardAnswer k s → eqb k 0 ≡ false
-unfolding wardAnswer isDone
-refused-some zero j s e = absurd (subst T (ap isDone (sym e)) tt)
+refused-some : (k j : ℕ) (s : WardSummary) → Refused j ≡ ward_answer k s → eqb k 0 ≡ false
+unfolding ward_answer is_done
+refused-some zero j s e = absurd (subst T (ap is_done (sym e)) tt)
 refused-some (suc k) j s e = eqb-suc-zero k
 
 -- ---- the slices together
 
-pub same-extended : {r r' : WardAnswer} {o o' : Outputs} {cs cs' ks ks' : List Float} → r ≡ r' → o ≡ o' → cs ≡ cs' → ks ≡ ks' → afterExtended r o cs ks ≡ afterExtended r' o' cs' ks'
+pub same-extended : {r r' : WardAnswer} {o o' : Outputs} {cs cs' ks ks' : List Float} → r ≡ r' → o ≡ o' → cs ≡ cs' → ks ≡ ks' → after_extended r o cs ks ≡ after_extended r' o' cs' ks'
 same-extended a b c d = λ i. record { answer = a i; outputs = record { outputs = b i; correction = c i; compensation = d i } }
 
 -- the numbers of the corrections
-abbrev pub correctionNumbers : ExtendedStudy → List Float
-correctionNumbers X = ofEach (ofCorrection X) X.study.boundary
+abbrev pub correction_numbers : ExtendedStudy → List Float
+correction_numbers X = of_each (of_correction X) X.study.boundary
 
 -- finite, they meet nothing
-same_met : (X : ExtendedStudy) (m : ℕ) → T (allFinite (ofEach (ofCorrection X) X.study.boundary)) → meets m (stepsOfExtended X) ≡ meets m (steps_of X.study)
-unfolding stepsOfExtended
+same_met : (X : ExtendedStudy) (m : ℕ) → T (all_finite (of_each (of_correction X) X.study.boundary)) → meets m (steps_of_extended X) ≡ meets m (steps_of X.study)
+unfolding steps_of_extended
 same_met X m fine = pick (meets m (steps_of X.study)) refl
   where
-    pick : (k : ℕ) → meets m (steps_of X.study) ≡ k → meets m (steps_of X.study ++ computing (correctionNumbers X)) ≡ meets m (steps_of X.study)
+    pick : (k : ℕ) → meets m (steps_of X.study) ≡ k → meets m (steps_of X.study ++ computing (correction_numbers X)) ≡ meets m (steps_of X.study)
     pick zero e =
-        meets-after m (steps_of X.study) (computing (correctionNumbers X)) e
-        ∙ numbers-met (m - reductions (steps_of X.study)) (correctionNumbers X) ∙ ap (λ (b : Bool). cond b 0 20) (is_true (allFinite (correctionNumbers X)) fine) ∙ sym e
-    pick (suc k) e = meets-first m (steps_of X.study) (computing (correctionNumbers X)) (λ (z : meets m (steps_of X.study) ≡ 0). let n = sym e ∙ z in omega arith)
+        meets-after m (steps_of X.study) (computing (correction_numbers X)) e
+        ∙ numbers-met (m - reductions (steps_of X.study)) (correction_numbers X) ∙ ap (λ (b : Bool). cond b 0 20) (is_true (all_finite (correction_numbers X)) fine) ∙ sym e
+    pick (suc k) e = meets-first m (steps_of X.study) (computing (correction_numbers X)) (λ (z : meets m (steps_of X.study) ≡ 0). let n = sym e ∙ z in omega arith)
 
 -- else they meet 20, behind the study's own refusal
-lost-met : (X : ExtendedStudy) (m : ℕ) → allFinite (ofEach (ofCorrection X) X.study.boundary) ≡ false → (k : ℕ) → meets m (steps_of X.study) ≡ k
-    → ((j : ℕ) × (meets m (stepsOfExtended X) ≡ suc j) × (uncorrectedAnswer k ≡ Refused (suc j)))
-unfolding stepsOfExtended uncorrectedAnswer
+lost-met : (X : ExtendedStudy) (m : ℕ) → all_finite (of_each (of_correction X) X.study.boundary) ≡ false → (k : ℕ) → meets m (steps_of X.study) ≡ k
+    → ((j : ℕ) × (meets m (steps_of_extended X) ≡ suc j) × (uncorrected_answer k ≡ Refused (suc j)))
+unfolding steps_of_extended uncorrected_answer
 lost-met X m lost zero e = (
   19,
-  meets-after m (steps_of X.study) (computing (correctionNumbers X)) e
-      ∙ numbers-met (m - reductions (steps_of X.study)) (correctionNumbers X) ∙ ap (λ (b : Bool). cond b 0 20) lost,
+  meets-after m (steps_of X.study) (computing (correction_numbers X)) e
+      ∙ numbers-met (m - reductions (steps_of X.study)) (correction_numbers X) ∙ ap (λ (b : Bool). cond b 0 20) lost,
   refl,
 )
 lost-met X m lost (suc k) e =
-    (k, meets-first m (steps_of X.study) (computing (correctionNumbers X)) (λ (z : meets m (steps_of X.study) ≡ 0). let n = sym e ∙ z in omega arith) ∙ e, refl)
+    (k, meets-first m (steps_of X.study) (computing (correction_numbers X)) (λ (z : meets m (steps_of X.study) ≡ 0). let n = sym e ∙ z in omega arith) ∙ e, refl)
 
 module _ (X : ExtendedStudy) (m : ℕ) (o : ExtendedOutputs) where
-  pub extended-lost : allFinite (ofEach (ofCorrection X) X.study.boundary) ≡ false
-      → afterExtended (uncorrectedAnswer (meets m (steps_of X.study))) (outputsOf o.outputs.y-ward o.outputs.p-ward o.outputs.q-ward (zeros (length o.outputs.work))) o.correction o.compensation ≡ studiedExtended X (Rows m) o 0
-  unfolding studiedExtended thenWork workRefusal granted wardAnswer extendedOutputsAfter outputsAfter workAfter
+  pub extended-lost : all_finite (of_each (of_correction X) X.study.boundary) ≡ false
+      → after_extended (uncorrected_answer (meets m (steps_of X.study))) (outputs_of o.outputs.y-ward o.outputs.p-ward o.outputs.q-ward (zeros (length o.outputs.work))) o.correction o.compensation ≡ studied_extended X (Rows m) o 0
+  unfolding studied_extended then_work work_refusal granted ward_answer extended_outputs_after outputs_after work_after
   extended-lost lost = let (j, met, answer) = lost-met X m lost (meets m (steps_of X.study)) refl in simp (answer, met, eqb-suc-zero)
 
-module _ (X : ExtendedStudy) (m : ℕ) (o : ExtendedOutputs) (fine : T (allFinite (ofEach (ofCorrection X) X.study.boundary))) {r : WardAnswer} {yw pw qw ws : List Float}
-    (e : afterWard r yw pw qw ws ≡ studied X.study (Rows m) o.outputs 0) where
+module _ (X : ExtendedStudy) (m : ℕ) (o : ExtendedOutputs) (fine : T (all_finite (of_each (of_correction X) X.study.boundary))) {r : WardAnswer} {yw pw qw ws : List Float}
+    (e : after_ward r yw pw qw ws ≡ studied X.study (Rows m) o.outputs 0) where
   -- the study's number, which is the call's
   number : ℕ
-  number = thenWork 0 (Rows m) (steps_of X.study)
+  number = then_work 0 (Rows m) (steps_of X.study)
 
-  same_number : thenWork 0 (Rows m) (stepsOfExtended X) ≡ number
-  unfolding thenWork workRefusal granted number
+  same_number : then_work 0 (Rows m) (steps_of_extended X) ≡ number
+  unfolding then_work work_refusal granted number
   same_number = same_met X m fine
 
-  answer-is : r ≡ wardAnswer number (summary X.study)
+  answer-is : r ≡ ward_answer number (summary X.study)
   unfolding studied number
   answer-is = ap (λ (a : AfterWard). a.answer) e
 
   -- with its own slices and the corrections
-  whole : {cs ks : List Float} → cs ≡ cond (eqb number 0) (map (voltageCorrection X) X.study.boundary) o.correction
-      → ks ≡ cond (eqb number 0) (map (qCompensation X) X.study.boundary) o.compensation → afterExtended r (outputsOf yw pw qw ws) cs ks ≡ studiedExtended X (Rows m) o 0
-  unfolding studied studiedExtended extendedOutputsAfter number
+  whole : {cs ks : List Float} → cs ≡ cond (eqb number 0) (map (voltage_correction X) X.study.boundary) o.correction
+      → ks ≡ cond (eqb number 0) (map (q_compensation X) X.study.boundary) o.compensation → after_extended r (outputs_of yw pw qw ws) cs ks ≡ studied_extended X (Rows m) o 0
+  unfolding studied studied_extended extended_outputs_after number
   whole c k =
       same-extended answer-is (ap (λ (a : AfterWard). a.outputs) e) c k
-      ∙ ap (λ (n : ℕ). record { answer = wardAnswer n (summary X.study); outputs = extendedOutputsAfter X 0 n o }) (sym same_number)
+      ∙ ap (λ (n : ℕ). record { answer = ward_answer n (summary X.study); outputs = extended_outputs_after X 0 n o }) (sym same_number)
 
   -- accepted: the corrections of the boundary buses stand in their slices
-  pub extended-done : {cs ks : List Float} (s : WardSummary) → r ≡ Done s → cs ≡ map (voltageCorrection X) X.study.boundary → ks ≡ map (qCompensation X) X.study.boundary
-      → afterExtended (Done s) (outputsOf yw pw qw ws) cs ks ≡ studiedExtended X (Rows m) o 0
+  pub extended-done : {cs ks : List Float} (s : WardSummary) → r ≡ Done s → cs ≡ map (voltage_correction X) X.study.boundary → ks ≡ map (q_compensation X) X.study.boundary
+      → after_extended (Done s) (outputs_of yw pw qw ws) cs ks ≡ studied_extended X (Rows m) o 0
   extended-done {cs} {ks} s d c k =
       let z : number ≡ 0 = done_none number (summary X.study) s (sym d ∙ answer-is) in
-      ap (λ (a : WardAnswer). afterExtended a (outputsOf yw pw qw ws) cs ks) (sym d)
-      ∙ whole (c ∙ ap (λ (n : ℕ). cond (eqb n 0) (map (voltageCorrection X) X.study.boundary) o.correction) (sym z))
-      (k ∙ ap (λ (n : ℕ). cond (eqb n 0) (map (qCompensation X) X.study.boundary) o.compensation) (sym z))
+      ap (λ (a : WardAnswer). after_extended a (outputs_of yw pw qw ws) cs ks) (sym d)
+      ∙ whole (c ∙ ap (λ (n : ℕ). cond (eqb n 0) (map (voltage_correction X) X.study.boundary) o.correction) (sym z))
+      (k ∙ ap (λ (n : ℕ). cond (eqb n 0) (map (q_compensation X) X.study.boundary) o.compensation) (sym z))
 
   -- refused: they are as they were
-  pub extended-not : (j : ℕ) → r ≡ Refused j → afterExtended r (outputsOf yw pw qw ws) o.correction o.compensation ≡ studiedExtended X (Rows m) o 0
+  pub extended-not : (j : ℕ) → r ≡ Refused j → after_extended r (outputs_of yw pw qw ws) o.correction o.compensation ≡ studied_extended X (Rows m) o 0
   extended-not j d =
       let z : eqb number 0 ≡ false = refused-some number j (summary X.study) (sym d ∙ answer-is) in
-      whole (ap (λ (b : Bool). cond b (map (voltageCorrection X) X.study.boundary) o.correction) (sym z))
-      (ap (λ (b : Bool). cond b (map (qCompensation X) X.study.boundary) o.compensation) (sym z))
+      whole (ap (λ (b : Bool). cond b (map (voltage_correction X) X.study.boundary) o.correction) (sym z))
+      (ap (λ (b : Bool). cond b (map (q_compensation X) X.study.boundary) o.compensation) (sym z))
 
 -- ---- the formulas read the matrix, the external buses, their voltages and the base
 
 module _ (n : ℕ) (ys : List Float) (rows : List ℕ) (e f : ℕ) (base : Float) (ps qs vs : List Float) where
-  pub corrections-seen : map (voltageCorrection (correctionInput n ys (take (e - 0) rows) vs base)) (take (length rows - f) (drop f rows)) ≡ map (voltageCorrection (extendedOf (cut n ys rows e f base ps qs) vs)) (drop f rows)
-  unfolding voltageCorrection weightSum weightedSum weight deviation admittance
-  corrections-seen = ap (λ (m : ℕ). map (voltageCorrection (correctionInput n ys (take m rows) vs base)) (take (length rows - f) (drop f rows))) (sub-zero e) ∙ ap (map (voltageCorrection (correctionInput n ys (take e rows) vs base))) (rest-is rows f)
+  pub corrections-seen : map (voltage_correction (correction_input n ys (take (e - 0) rows) vs base)) (take (length rows - f) (drop f rows)) ≡ map (voltage_correction (extended_of (cut n ys rows e f base ps qs) vs)) (drop f rows)
+  unfolding voltage_correction weight_sum weighted_sum weight deviation admittance
+  corrections-seen = ap (λ (m : ℕ). map (voltage_correction (correction_input n ys (take m rows) vs base)) (take (length rows - f) (drop f rows))) (sub-zero e) ∙ ap (map (voltage_correction (correction_input n ys (take e rows) vs base))) (rest-is rows f)
 
-  pub compensations-seen : map (qCompensation (correctionInput n ys (take (e - 0) rows) vs base)) (take (length rows - f) (drop f rows)) ≡ map (qCompensation (extendedOf (cut n ys rows e f base ps qs) vs)) (drop f rows)
-  unfolding qCompensation deviation admittance
-  compensations-seen = ap (λ (m : ℕ). map (qCompensation (correctionInput n ys (take m rows) vs base)) (take (length rows - f) (drop f rows))) (sub-zero e) ∙ ap (map (qCompensation (correctionInput n ys (take e rows) vs base))) (rest-is rows f)
+  pub compensations-seen : map (q_compensation (correction_input n ys (take (e - 0) rows) vs base)) (take (length rows - f) (drop f rows)) ≡ map (q_compensation (extended_of (cut n ys rows e f base ps qs) vs)) (drop f rows)
+  unfolding q_compensation deviation admittance
+  compensations-seen = ap (λ (m : ℕ). map (q_compensation (correction_input n ys (take m rows) vs base)) (take (length rows - f) (drop f rows))) (sub-zero e) ∙ ap (map (q_compensation (correction_input n ys (take e rows) vs base))) (rest-is rows f)
 
   -- the sums that are tested
   abbrev tested : List ℕ
   tested = take (length rows - f) (drop f rows)
 
   abbrev whole-study : ExtendedStudy
-  whole-study = extendedOf (cut n ys rows e f base ps qs) vs
+  whole-study = extended_of (cut n ys rows e f base ps qs) vs
 
-  to-study : (i : ℕ) → CorrectionFinite (correctionInput n ys (take (e - 0) rows) vs base) i → CorrectionFinite whole-study i
-  unfolding voltageCorrection weightSum weightedSum weight deviation qCompensation admittance
+  to-study : (i : ℕ) → CorrectionFinite (correction_input n ys (take (e - 0) rows) vs base) i → CorrectionFinite whole-study i
+  unfolding voltage_correction weight_sum weighted_sum weight deviation q_compensation admittance
   to-study i h =
-      let k = subst (λ (m : ℕ). CorrectionFinite (correctionInput n ys (take m rows) vs base) i) (sub-zero e) h in
+      let k = subst (λ (m : ℕ). CorrectionFinite (correction_input n ys (take m rows) vs base) i) (sub-zero e) h in
       record { weights = k.weights; weighted = k.weighted; correction = k.correction; compensation = k.compensation }
 
-  from-study : (i : ℕ) → CorrectionFinite whole-study i → CorrectionFinite (correctionInput n ys (take (e - 0) rows) vs base) i
-  unfolding voltageCorrection weightSum weightedSum weight deviation qCompensation admittance
+  from-study : (i : ℕ) → CorrectionFinite whole-study i → CorrectionFinite (correction_input n ys (take (e - 0) rows) vs base) i
+  unfolding voltage_correction weight_sum weighted_sum weight deviation q_compensation admittance
   from-study i h =
-      subst (λ (m : ℕ). CorrectionFinite (correctionInput n ys (take m rows) vs base) i) (sym (sub-zero e))
+      subst (λ (m : ℕ). CorrectionFinite (correction_input n ys (take m rows) vs base) i) (sym (sub-zero e))
       (record { weights = h.weights; weighted = h.weighted; correction = h.correction; compensation = h.compensation })
 
-  pub corrections-fine : ((t : ℕ) → t < length (take (length rows - f) (drop f rows)) → CorrectionFinite (correctionInput n ys (take (e - 0) rows) vs base) (get_or (take (length rows - f) (drop f rows)) t 0))
-      → T (allFinite (ofEach (ofCorrection (extendedOf (cut n ys rows e f base ps qs) vs)) (drop f rows)))
+  pub corrections-fine : ((t : ℕ) → t < length (take (length rows - f) (drop f rows)) → CorrectionFinite (correction_input n ys (take (e - 0) rows) vs base) (get_or (take (length rows - f) (drop f rows)) t 0))
+      → T (all_finite (of_each (of_correction (extended_of (cut n ys rows e f base ps qs) vs)) (drop f rows)))
   corrections-fine h =
       corrections-tell whole-study
       (subst (λ (l : List ℕ). (t : ℕ) → t < length l → CorrectionFinite whole-study (get_or l t 0)) (rest-is rows f) λ (t : ℕ) (l : t < length tested). to-study (get_or tested t 0) (h t l))
 
-  pub corrections-not : (((t : ℕ) → t < length (take (length rows - f) (drop f rows)) → CorrectionFinite (correctionInput n ys (take (e - 0) rows) vs base) (get_or (take (length rows - f) (drop f rows)) t 0)) → ⊥)
-      → allFinite (ofEach (ofCorrection (extendedOf (cut n ys rows e f base ps qs) vs)) (drop f rows)) ≡ false
-  corrections-not h = pick (allFinite (ofEach (ofCorrection whole-study) (drop f rows))) refl
+  pub corrections-not : (((t : ℕ) → t < length (take (length rows - f) (drop f rows)) → CorrectionFinite (correction_input n ys (take (e - 0) rows) vs base) (get_or (take (length rows - f) (drop f rows)) t 0)) → ⊥)
+      → all_finite (of_each (of_correction (extended_of (cut n ys rows e f base ps qs) vs)) (drop f rows)) ≡ false
+  corrections-not h = pick (all_finite (of_each (of_correction whole-study) (drop f rows))) refl
     where
-      pick : (b : Bool) → allFinite (ofEach (ofCorrection whole-study) (drop f rows)) ≡ b → b ≡ false
+      pick : (b : Bool) → all_finite (of_each (of_correction whole-study) (drop f rows)) ≡ b → b ≡ false
       pick false q = refl
       pick true q =
           absurd (h λ (t : ℕ) (l : t < length tested). from-study (get_or tested t 0)

@@ -9,7 +9,7 @@ use borrow.Author.Tests.{eqb-false}
 use native.Mathlib.Nat.{mul-add}
 use mir.Syntax.{w64}
 use mir.Val.{Fits}
-use Rattle.binary64.specs.Values.{allFinite}
+use Rattle.binary64.specs.Values.{all_finite}
 use Rattle.complex.specs.{Complex, cmul, csub, Matrix, entry, entry_at}
 use Rattle.complex.proofs.Entries.{entry-append-left}
 use Rattle.complex.proofs.Matrices.{entry-within}
@@ -22,14 +22,14 @@ use Rattle.refusals.specs.Work.{Step, computing}
 use Rattle.solver.specs.declared.elimination.Eliminated.{Eliminated}
 use Rattle.solver.specs.declared.elimination.Eliminated.TheVariants.{Done, NotFinite}
 use Rattle.solver.specs.Solving.{solve}
-use Rattle.solver.specs.Inner.Work.{isDone, Ended, placed}
+use Rattle.solver.specs.Inner.Work.{is_done, Ended, placed}
 use Rattle.solver.proofs.BlockParts.{placed-in, placed-left, placed-right}
-use Rattle.ward_equivalent.specs.Arithmetic.{current, injectedP, injectedQ}
-use Rattle.ward_equivalent.specs.Ward.{Study, retained, admittance, yEE, rowTimes, solvedColumn, solvedCurrents, boundaryCurrent, injectionP, injectionQ}
-use Rattle.ward_equivalent.specs.Steps.{ofEach, ofRowTimes, stepsOfColumn, ofEquivalent, ofCurrents, stepsOfCurrents, ofInjection, ofInjections, ofRatio, steps_of}
-use Rattle.ward_equivalent.specs.Calls.{studyOf}
-use Rattle.ward_equivalent.specs.Inner.Work.{productTo, product, lessProduct}
-use Rattle.ward_equivalent.specs.Inner.Sequence.{solvesInput, columnsInput, keptStudy, stepsOfInjections, stepsBehind, externalPart, externalColumn, FinitePair, ColumnsApart, CurrentsApart}
+use Rattle.ward_equivalent.specs.Arithmetic.{current, injected_p, injected_q}
+use Rattle.ward_equivalent.specs.Ward.{Study, retained, admittance, y_ee, row_times, solved_column, solved_currents, boundary_current, injection_p, injection_q}
+use Rattle.ward_equivalent.specs.Steps.{of_each, of_row_times, steps_of_column, of_equivalent, of_currents, steps_of_currents, of_injection, of_injections, of_ratio, steps_of}
+use Rattle.ward_equivalent.specs.Calls.{study_of}
+use Rattle.ward_equivalent.specs.Inner.Work.{product_to, product, less_product}
+use Rattle.ward_equivalent.specs.Inner.Sequence.{solves_input, columns_input, kept_study, steps_of_injections, steps_behind, external_part, external_column, FinitePair, ColumnsApart, CurrentsApart}
 use Rattle.ward_equivalent.proofs.Solved.{sum_same}
 use Rattle.ward_equivalent.proofs.Parts.{ended-none, ended-then, ended-first, ended_same, ended-alone, ended-lost-alone, parts-lost, parts_then}
 use Rattle.ward_equivalent.proofs.Tells.{entries-tell, entries-told, injections-tell, injections-told, InjectionFinite}
@@ -121,59 +121,59 @@ below c q h n =
 
 -- ---- one column after the other
 
-each-join : {A : Type 0} (f : ℕ → List A) (is js : List ℕ) → ofEach f (is ++ js) ≡ ofEach f is ++ ofEach f js
-unfolding ofEach
+each-join : {A : Type 0} (f : ℕ → List A) (is js : List ℕ) → of_each f (is ++ js) ≡ of_each f is ++ of_each f js
+unfolding of_each
 each-join f [] js = refl
-each-join f (i ∷ is) js = ap (λ l. f i ++ l) (each-join f is js) ∙ sym (append_assoc (f i) (ofEach f is) (ofEach f js))
+each-join f (i ∷ is) js = ap (λ l. f i ++ l) (each-join f is js) ∙ sym (append_assoc (f i) (of_each f is) (of_each f js))
 
-each_more : {A : Type 0} (f : ℕ → List A) (ks : List ℕ) (q : ℕ) → q < length ks → ofEach f (take (q + 1) ks) ≡ ofEach f (take q ks) ++ f (get_or ks q 0)
-unfolding ofEach
-each_more f ks q h = ap (ofEach f) (ap (λ (m : ℕ). take m ks) (add-one q) ∙ take-suc ks q 0 h) ∙ each-join f (take q ks) (get_or ks q 0 ∷ []) ∙ ap (λ l. ofEach f (take q ks) ++ l) (append-nil (f (get_or ks q 0)))
+each_more : {A : Type 0} (f : ℕ → List A) (ks : List ℕ) (q : ℕ) → q < length ks → of_each f (take (q + 1) ks) ≡ of_each f (take q ks) ++ f (get_or ks q 0)
+unfolding of_each
+each_more f ks q h = ap (of_each f) (ap (λ (m : ℕ). take m ks) (add-one q) ∙ take-suc ks q 0 h) ∙ each-join f (take q ks) (get_or ks q 0 ∷ []) ∙ ap (λ l. of_each f (take q ks) ++ l) (append-nil (f (get_or ks q 0)))
 
 module _ (n : ℕ) (ys : List Float) (es ks : List ℕ) where
-  abbrev pub columnSteps : ℕ → List Step
-  columnSteps = stepsOfColumn (columnsInput n ys es)
+  abbrev pub column_steps : ℕ → List Step
+  column_steps = steps_of_column (columns_input n ys es)
 
   pub record KeptTo (allowed left q : ℕ) (work : List Float) : Type 0 where
-    pub ended : Ended allowed (Done left) (ofEach (stepsOfColumn (columnsInput n ys es)) (take q ks))
+    pub ended : Ended allowed (Done left) (of_each (steps_of_column (columns_input n ys es)) (take q ks))
     pub columns : ColumnsApart n ys es ks q work
 
   pub kept-none : (m : ℕ) (ws : List Float) → KeptTo m m 0 ws
-  unfolding ofEach
+  unfolding of_each
   kept-none m ws = record { ended = ended-none m; columns = λ (k c : ℕ) h l. absurd (omega arith) }
 
-  module _ (m left q : ℕ) (ws us : List Float) (h : q < length ks) (so : KeptTo m left q ws) (r : Eliminated) (ended : Ended left r (columnSteps (get_or ks q 0)))
+  module _ (m left q : ℕ) (ws us : List Float) (h : q < length ks) (so : KeptTo m left q ws) (r : Eliminated) (ended : Ended left r (column_steps (get_or ks q 0)))
       (kept : (rest : ℕ) → r ≡ Done rest → (k c : ℕ) → k < length es → c < length ks → entry_at (length ks) (drop (2 * (length es * (length es + 1))) us) k c
-      ≡ cond (eqb c q) (solve (length es) (externalPart n ys es) (externalColumn n ys es (get_or ks q 0)) k) (entry_at (length ks) (drop (2 * (length es * (length es + 1))) ws) k c)) where
+      ≡ cond (eqb c q) (solve (length es) (external_part n ys es) (external_column n ys es (get_or ks q 0)) k) (entry_at (length ks) (drop (2 * (length es * (length es + 1))) ws) k c)) where
     pub kept_more : (rest : ℕ) → r ≡ Done rest → KeptTo m rest (q + 1) us
     kept_more rest d = record {
-      ended = ended_same m (Done rest) _ _ (sym (each_more columnSteps ks q h)) (ended-then m (ofEach columnSteps (take q ks)) (columnSteps (get_or ks q 0)) left (Done rest) so.ended (subst (λ (t : Eliminated). Ended left t (columnSteps (get_or ks q 0))) d ended));
+      ended = ended_same m (Done rest) _ _ (sym (each_more column_steps ks q h)) (ended-then m (of_each column_steps (take q ks)) (column_steps (get_or ks q 0)) left (Done rest) so.ended (subst (λ (t : Eliminated). Ended left t (column_steps (get_or ks q 0))) d ended));
       columns = λ (k c : ℕ) x y. kept rest d k c x (omega arith) ∙ pick k c x y (eqb c q) refl;
     }
       where
         pick : (k c : ℕ) → k < length es → c < q + 1 → (b : Bool) → eqb c q ≡ b
-            → cond (eqb c q) (solve (length es) (externalPart n ys es) (externalColumn n ys es (get_or ks q 0)) k) (entry_at (length ks) (drop (2 * (length es * (length es + 1))) ws) k c)
-            ≡ solve (length es) (externalPart n ys es) (externalColumn n ys es (get_or ks c 0)) k
+            → cond (eqb c q) (solve (length es) (external_part n ys es) (external_column n ys es (get_or ks q 0)) k) (entry_at (length ks) (drop (2 * (length es * (length es + 1))) ws) k c)
+            ≡ solve (length es) (external_part n ys es) (external_column n ys es (get_or ks c 0)) k
         pick k c x y true e =
-            ap (λ (t : Bool). cond t (solve (length es) (externalPart n ys es) (externalColumn n ys es (get_or ks q 0)) k) (entry_at (length ks) (drop (2 * (length es * (length es + 1))) ws) k c)) e
-            ∙ ap (λ (j : ℕ). solve (length es) (externalPart n ys es) (externalColumn n ys es (get_or ks j 0)) k) (sym (eqb-true c q e))
+            ap (λ (t : Bool). cond t (solve (length es) (external_part n ys es) (external_column n ys es (get_or ks q 0)) k) (entry_at (length ks) (drop (2 * (length es * (length es + 1))) ws) k c)) e
+            ∙ ap (λ (j : ℕ). solve (length es) (external_part n ys es) (external_column n ys es (get_or ks j 0)) k) (sym (eqb-true c q e))
         pick k c x y false e =
-            ap (λ (t : Bool). cond t (solve (length es) (externalPart n ys es) (externalColumn n ys es (get_or ks q 0)) k) (entry_at (length ks) (drop (2 * (length es * (length es + 1))) ws) k c)) e
+            ap (λ (t : Bool). cond t (solve (length es) (external_part n ys es) (external_column n ys es (get_or ks q 0)) k) (entry_at (length ks) (drop (2 * (length es * (length es + 1))) ws) k c)) e
             ∙ so.columns k c x (below c q y (eqb-false c q e))
 
     -- a solve that is not done ends them all
-    pub kept-ended : isDone r ≡ false → Ended m r (ofEach (stepsOfColumn (columnsInput n ys es)) ks)
+    pub kept-ended : is_done r ≡ false → Ended m r (of_each (steps_of_column (columns_input n ys es)) ks)
     kept-ended d =
-        ended_same m r _ _ (sym (parts-of q h)) (ended-first m (ofEach columnSteps (take q ks) ++ columnSteps (get_or ks q 0)) (ofEach columnSteps (drop (q + 1) ks)) r d
-        (ended-then m (ofEach columnSteps (take q ks)) (columnSteps (get_or ks q 0)) left r so.ended ended))
+        ended_same m r _ _ (sym (parts-of q h)) (ended-first m (of_each column_steps (take q ks) ++ column_steps (get_or ks q 0)) (of_each column_steps (drop (q + 1) ks)) r d
+        (ended-then m (of_each column_steps (take q ks)) (column_steps (get_or ks q 0)) left r so.ended ended))
       where
-        parts-of : (q : ℕ) → q < length ks → ofEach columnSteps ks ≡ (ofEach columnSteps (take q ks) ++ columnSteps (get_or ks q 0)) ++ ofEach columnSteps (drop (q + 1) ks)
+        parts-of : (q : ℕ) → q < length ks → of_each column_steps ks ≡ (of_each column_steps (take q ks) ++ column_steps (get_or ks q 0)) ++ of_each column_steps (drop (q + 1) ks)
         parts-of q h =
-            ap (ofEach columnSteps) (sym (take-append-drop (q + 1) ks)) ∙ each-join columnSteps (take (q + 1) ks) (drop (q + 1) ks)
-            ∙ ap (λ (l : List Step). l ++ ofEach columnSteps (drop (q + 1) ks)) (each_more columnSteps ks q h)
+            ap (of_each column_steps) (sym (take-append-drop (q + 1) ks)) ∙ each-join column_steps (take (q + 1) ks) (drop (q + 1) ks)
+            ∙ ap (λ (l : List Step). l ++ of_each column_steps (drop (q + 1) ks)) (each_more column_steps ks q h)
 
-  pub kept-all : (m left q : ℕ) (ws : List Float) → length ks ≤ q → KeptTo m left q ws → Ended m (Done left) (ofEach (stepsOfColumn (columnsInput n ys es)) ks)
-  kept-all m left q ws h so = ended_same m (Done left) _ _ (ap (ofEach columnSteps) (take_all q ks h)) so.ended
+  pub kept-all : (m left q : ℕ) (ws : List Float) → length ks ≤ q → KeptTo m left q ws → Ended m (Done left) (of_each (steps_of_column (columns_input n ys es)) ks)
+  kept-all m left q ws h so = ended_same m (Done left) _ _ (ap (of_each column_steps) (take_all q ks h)) so.ended
 
 not-all : (b : Bool) → (T b → ⊥) → b ≡ false
 not-all true h = absurd (h tt)
@@ -181,125 +181,125 @@ not-all false h = refl
 
 -- ---- the study, from its solutions
 
-pub currents-same : (n : ℕ) (ys : List Float) (es is bs js cs : List ℕ) (base : Float) (ps qs : List Float) (count : ℕ) → ofCurrents (studyOf n ys is es bs base ps qs) count ≡ ofCurrents (studyOf n ys js es cs base ps qs) count
-unfolding ofCurrents
+pub currents-same : (n : ℕ) (ys : List Float) (es is bs js cs : List ℕ) (base : Float) (ps qs : List Float) (count : ℕ) → of_currents (study_of n ys is es bs base ps qs) count ≡ of_currents (study_of n ys js es cs base ps qs) count
+unfolding of_currents
 currents-same n ys es is bs js cs base ps qs zero = refl
 currents-same n ys es is bs js cs base ps qs (suc count) =
     ap (λ (l : List Float). l ++ ((current base (get_or ps count nan) (get_or qs count nan)).re ∷ (current base (get_or ps count nan) (get_or qs count nan)).im ∷ [])) (currents-same n ys es is bs js cs base ps qs count)
 
 module _ (n : ℕ) (ys : List Float) (es is bs : List ℕ) (base : Float) (ps qs : List Float) where
   abbrev study : Study
-  study = studyOf n ys is es bs base ps qs
+  study = study_of n ys is es bs base ps qs
 
-  pub column-product : (w first j : ℕ) (xs : List Float) (q : ℕ) → ((k : ℕ) → k < length es → entry_at w xs k (first + q) ≡ solve (length es) (externalPart n ys es) (externalColumn n ys es j) k)
-      → (bus : ℕ) → product n ys es w xs bus (first + q) ≡ rowTimes (studyOf n ys is es bs base ps qs) bus (solvedColumn (studyOf n ys is es bs base ps qs) j)
-  unfolding productTo rowTimes admittance solvedColumn yEE
+  pub column-product : (w first j : ℕ) (xs : List Float) (q : ℕ) → ((k : ℕ) → k < length es → entry_at w xs k (first + q) ≡ solve (length es) (external_part n ys es) (external_column n ys es j) k)
+      → (bus : ℕ) → product n ys es w xs bus (first + q) ≡ row_times (study_of n ys is es bs base ps qs) bus (solved_column (study_of n ys is es bs base ps qs) j)
+  unfolding product_to row_times admittance solved_column y_ee
   column-product w first j xs q h bus =
-      sum_same (length es) (λ (k : ℕ). cmul (entry_at n ys bus (get_or es k 0)) (entry_at w xs k (first + q))) (λ (k : ℕ). cmul (entry_at n ys bus (get_or es k 0)) (solvedColumn study j k))
+      sum_same (length es) (λ (k : ℕ). cmul (entry_at n ys bus (get_or es k 0)) (entry_at w xs k (first + q))) (λ (k : ℕ). cmul (entry_at n ys bus (get_or es k 0)) (solved_column study j k))
       λ (k : ℕ) (l : k < length es). ap (cmul (entry_at n ys bus (get_or es k 0))) (h k l)
 
-  pub currents-product : (us : List Float) → CurrentsApart n ys es base ps qs us → (bus : ℕ) → product n ys es (length es + 1) us bus (length es) ≡ boundaryCurrent (studyOf n ys is es bs base ps qs) bus
-  unfolding productTo boundaryCurrent rowTimes admittance solvedCurrents yEE
+  pub currents-product : (us : List Float) → CurrentsApart n ys es base ps qs us → (bus : ℕ) → product n ys es (length es + 1) us bus (length es) ≡ boundary_current (study_of n ys is es bs base ps qs) bus
+  unfolding product_to boundary_current row_times admittance solved_currents y_ee
   currents-product us h bus =
-      sum_same (length es) (λ (k : ℕ). cmul (entry_at n ys bus (get_or es k 0)) (entry_at (length es + 1) us k (length es))) (λ (k : ℕ). cmul (entry_at n ys bus (get_or es k 0)) (solvedCurrents study k))
+      sum_same (length es) (λ (k : ℕ). cmul (entry_at n ys bus (get_or es k 0)) (entry_at (length es + 1) us k (length es))) (λ (k : ℕ). cmul (entry_at n ys bus (get_or es k 0)) (solved_currents study k))
       λ (k : ℕ) (l : k < length es). ap (cmul (entry_at n ys bus (get_or es k 0))) (h k l)
 
 -- ---- the currents, their solve and the injections
 
 module _ (n : ℕ) (ys : List Float) (es bs : List ℕ) (base : Float) (ps qs : List Float) (some : eqb (length es) 0 ≡ false) where
   abbrev injecting : Study
-  injecting = studyOf n ys [] es bs base ps qs
+  injecting = study_of n ys [] es bs base ps qs
 
-  injection-steps : (computing (ofCurrents (solvesInput n ys es base ps qs) (length es)) ++ stepsOfCurrents (solvesInput n ys es base ps qs)) ++ computing (ofInjections injecting) ≡ stepsOfInjections n ys es bs base ps qs
-  unfolding stepsOfInjections stepsOfCurrents yEE admittance
+  injection-steps : (computing (of_currents (solves_input n ys es base ps qs) (length es)) ++ steps_of_currents (solves_input n ys es base ps qs)) ++ computing (of_injections injecting) ≡ steps_of_injections n ys es bs base ps qs
+  unfolding steps_of_injections steps_of_currents y_ee admittance
   injection-steps =
-      append_assoc (computing (ofCurrents (solvesInput n ys es base ps qs) (length es))) (stepsOfCurrents (solvesInput n ys es base ps qs)) (computing (ofInjections injecting))
-      ∙ ap (λ (l : List Float). computing l ++ (stepsOfCurrents injecting ++ computing (ofInjections injecting))) (currents-same n ys es [] [] [] bs base ps qs (length es))
+      append_assoc (computing (of_currents (solves_input n ys es base ps qs) (length es))) (steps_of_currents (solves_input n ys es base ps qs)) (computing (of_injections injecting))
+      ∙ ap (λ (l : List Float). computing l ++ (steps_of_currents injecting ++ computing (of_injections injecting))) (currents-same n ys es [] [] [] bs base ps qs (length es))
 
-  module _ (m : ℕ) (end : Eliminated) (first : Ended m end (computing (ofCurrents (solvesInput n ys es base ps qs) (length es)) ++ stepsOfCurrents (solvesInput n ys es base ps qs))) where
-    pub injections-first : isDone end ≡ false → Ended m end (stepsOfInjections n ys es bs base ps qs)
-    injections-first d = ended_same m end _ _ injection-steps (ended-first m _ (computing (ofInjections injecting)) end d first)
+  module _ (m : ℕ) (end : Eliminated) (first : Ended m end (computing (of_currents (solves_input n ys es base ps qs) (length es)) ++ steps_of_currents (solves_input n ys es base ps qs))) where
+    pub injections-first : is_done end ≡ false → Ended m end (steps_of_injections n ys es bs base ps qs)
+    injections-first d = ended_same m end _ _ injection-steps (ended-first m _ (computing (of_injections injecting)) end d first)
 
     module _ (left : ℕ) (d : end ≡ Done left) (us : List Float) (held : CurrentsApart n ys es base ps qs us) where
       abbrev Injected : Type 0
-      Injected = (t : ℕ) → t < length bs → T (finite (injectedP base (product n ys es (length es + 1) us (get_or bs t 0) (length es)))) × T (finite (injectedQ base (product n ys es (length es + 1) us (get_or bs t 0) (length es))))
+      Injected = (t : ℕ) → t < length bs → T (finite (injected_p base (product n ys es (length es + 1) us (get_or bs t 0) (length es)))) × T (finite (injected_q base (product n ys es (length es + 1) us (get_or bs t 0) (length es))))
 
-      as-study : (t : ℕ) → t < length bs → T (finite (injectedP base (product n ys es (length es + 1) us (get_or bs t 0) (length es)))) × T (finite (injectedQ base (product n ys es (length es + 1) us (get_or bs t 0) (length es)))) → InjectionFinite injecting some (get_or bs t 0)
-      as-study t l h = subst (λ (z : Complex). T (finite (injectedP base z)) × T (finite (injectedQ base z))) (currents-product n ys es [] bs base ps qs us held (get_or bs t 0)) h
+      as-study : (t : ℕ) → t < length bs → T (finite (injected_p base (product n ys es (length es + 1) us (get_or bs t 0) (length es)))) × T (finite (injected_q base (product n ys es (length es + 1) us (get_or bs t 0) (length es)))) → InjectionFinite injecting some (get_or bs t 0)
+      as-study t l h = subst (λ (z : Complex). T (finite (injected_p base z)) × T (finite (injected_q base z))) (currents-product n ys es [] bs base ps qs us held (get_or bs t 0)) h
 
-      as_code : (t : ℕ) → t < length bs → InjectionFinite injecting some (get_or bs t 0) → T (finite (injectedP base (product n ys es (length es + 1) us (get_or bs t 0) (length es)))) × T (finite (injectedQ base (product n ys es (length es + 1) us (get_or bs t 0) (length es))))
-      as_code t l h = subst (λ (z : Complex). T (finite (injectedP base z)) × T (finite (injectedQ base z))) (sym (currents-product n ys es [] bs base ps qs us held (get_or bs t 0))) h
+      as_code : (t : ℕ) → t < length bs → InjectionFinite injecting some (get_or bs t 0) → T (finite (injected_p base (product n ys es (length es + 1) us (get_or bs t 0) (length es)))) × T (finite (injected_q base (product n ys es (length es + 1) us (get_or bs t 0) (length es))))
+      as_code t l h = subst (λ (z : Complex). T (finite (injected_p base z)) × T (finite (injected_q base z))) (sym (currents-product n ys es [] bs base ps qs us held (get_or bs t 0))) h
 
-      begun : Ended m (Done left) (computing (ofCurrents (solvesInput n ys es base ps qs) (length es)) ++ stepsOfCurrents (solvesInput n ys es base ps qs))
-      begun = subst (λ (t : Eliminated). Ended m t (computing (ofCurrents (solvesInput n ys es base ps qs) (length es)) ++ stepsOfCurrents (solvesInput n ys es base ps qs))) d first
+      begun : Ended m (Done left) (computing (of_currents (solves_input n ys es base ps qs) (length es)) ++ steps_of_currents (solves_input n ys es base ps qs))
+      begun = subst (λ (t : Eliminated). Ended m t (computing (of_currents (solves_input n ys es base ps qs) (length es)) ++ steps_of_currents (solves_input n ys es base ps qs))) d first
 
-      pub injections-done : Injected → Ended m end (stepsOfInjections n ys es bs base ps qs)
+      pub injections-done : Injected → Ended m end (steps_of_injections n ys es bs base ps qs)
       injections-done h =
-          subst (λ (t : Eliminated). Ended m t (stepsOfInjections n ys es bs base ps qs)) (sym d)
-          (ended_same m (Done left) _ _ injection-steps (ended-then m _ (computing (ofInjections injecting)) left (Done left) begun
-          (ended-alone left (ofInjections injecting) (injections-tell injecting some λ (t : ℕ) (l : t < length bs). as-study t l (h t l)))))
+          subst (λ (t : Eliminated). Ended m t (steps_of_injections n ys es bs base ps qs)) (sym d)
+          (ended_same m (Done left) _ _ injection-steps (ended-then m _ (computing (of_injections injecting)) left (Done left) begun
+          (ended-alone left (of_injections injecting) (injections-tell injecting some λ (t : ℕ) (l : t < length bs). as-study t l (h t l)))))
 
-      pub injections-lost : (Injected → ⊥) → Ended m NotFinite (stepsOfInjections n ys es bs base ps qs)
+      pub injections-lost : (Injected → ⊥) → Ended m NotFinite (steps_of_injections n ys es bs base ps qs)
       injections-lost h =
-          ended_same m NotFinite _ _ injection-steps (ended-then m _ (computing (ofInjections injecting)) left NotFinite begun
-          (ended-lost-alone left (ofInjections injecting) (not-all (allFinite (ofInjections injecting)) λ all. h λ (t : ℕ) (l : t < length bs). as_code t l (injections-told injecting some all t l))))
+          ended_same m NotFinite _ _ injection-steps (ended-then m _ (computing (of_injections injecting)) left NotFinite begun
+          (ended-lost-alone left (of_injections injecting) (not-all (all_finite (of_injections injecting)) λ all. h λ (t : ℕ) (l : t < length bs). as_code t l (injections-told injecting some all t l))))
 
 -- ---- the entries, and what comes behind the columns
 
 module _ (n : ℕ) (ys : List Float) (es ks : List ℕ) (i : ℕ) (base : Float) (ps qs : List Float) (some : eqb (length es) 0 ≡ false) where
   abbrev whole : Study
-  whole = keptStudy n ys es ks i base ps qs
+  whole = kept_study n ys es ks i base ps qs
 
-  pub retained-kept : retained (keptStudy n ys es ks i base ps qs) ≡ ks
+  pub retained-kept : retained (kept_study n ys es ks i base ps qs) ≡ ks
   unfolding retained
   retained-kept = take-append-drop i ks
 
   module _ (ws xs : List Float) (same : xs ≡ drop (2 * (length es * (length es + 1))) ws) (held : ColumnsApart n ys es ks (length ks) ws) where
-    entry_value : (p q : ℕ) → q < length ks → lessProduct n ys es ks (length ks) xs 0 (get_or ks p 0) q
-        ≡ csub (admittance whole (get_or ks p 0) (get_or ks q 0)) (rowTimes whole (get_or ks p 0) (solvedColumn whole (get_or ks q 0)))
-    unfolding lessProduct admittance
+    entry_value : (p q : ℕ) → q < length ks → less_product n ys es ks (length ks) xs 0 (get_or ks p 0) q
+        ≡ csub (admittance whole (get_or ks p 0) (get_or ks q 0)) (row_times whole (get_or ks p 0) (solved_column whole (get_or ks q 0)))
+    unfolding less_product admittance
     entry_value p q h =
         ap (csub (entry_at n ys (get_or ks p 0) (get_or ks q 0)))
         (column-product n ys es (take i ks) (drop i ks) base ps qs (length ks) 0 (get_or ks q 0) xs q
         (λ (k : ℕ) (l : k < length es). let at : 0 + q ≡ q = omega arith in ap (entry_at (length ks) xs k) at ∙ ap (λ (u : List Float). entry_at (length ks) u k q) same ∙ held k q l h) (get_or ks p 0))
 
     abbrev Entered : Type 0
-    Entered = (p : ℕ) → p < length ks → (q : ℕ) → q < length ks → FinitePair (lessProduct n ys es ks (length ks) xs 0 (get_or ks p 0) q)
+    Entered = (p : ℕ) → p < length ks → (q : ℕ) → q < length ks → FinitePair (less_product n ys es ks (length ks) xs 0 (get_or ks p 0) q)
 
-    pub entered : Entered → T (allFinite (ofEquivalent (keptStudy n ys es ks i base ps qs)))
+    pub entered : Entered → T (all_finite (of_equivalent (kept_study n ys es ks i base ps qs)))
     entered h =
         entries-tell whole some
-        (subst (λ (l : List ℕ). (p : ℕ) → p < length l → (q : ℕ) → q < length l → Finite (csub (admittance whole (get_or l p 0) (get_or l q 0)) (rowTimes whole (get_or l p 0) (solvedColumn whole (get_or l q 0))))) (sym retained-kept)
+        (subst (λ (l : List ℕ). (p : ℕ) → p < length l → (q : ℕ) → q < length l → Finite (csub (admittance whole (get_or l p 0) (get_or l q 0)) (row_times whole (get_or l p 0) (solved_column whole (get_or l q 0))))) (sym retained-kept)
         λ (p : ℕ) (x : p < length ks) (q : ℕ) (y : q < length ks). subst Finite (entry_value p q y) (h p x q y))
 
-    pub not_entered : (Entered → ⊥) → allFinite (ofEquivalent (keptStudy n ys es ks i base ps qs)) ≡ false
+    pub not_entered : (Entered → ⊥) → all_finite (of_equivalent (kept_study n ys es ks i base ps qs)) ≡ false
     not_entered h =
-        not-all (allFinite (ofEquivalent whole)) λ all. h λ (p : ℕ) (x : p < length ks) (q : ℕ) (y : q < length ks).
+        not-all (all_finite (of_equivalent whole)) λ all. h λ (p : ℕ) (x : p < length ks) (q : ℕ) (y : q < length ks).
         subst Finite (sym (entry_value p q y))
-        (subst (λ (l : List ℕ). (p : ℕ) → p < length l → (q : ℕ) → q < length l → Finite (csub (admittance whole (get_or l p 0) (get_or l q 0)) (rowTimes whole (get_or l p 0) (solvedColumn whole (get_or l q 0))))) retained-kept (entries-told whole some all) p x q y)
+        (subst (λ (l : List ℕ). (p : ℕ) → p < length l → (q : ℕ) → q < length l → Finite (csub (admittance whole (get_or l p 0) (get_or l q 0)) (row_times whole (get_or l p 0) (solved_column whole (get_or l q 0))))) retained-kept (entries-told whole some all) p x q y)
 
-  pub behind-lost : (left : ℕ) → allFinite (ofEquivalent (keptStudy n ys es ks i base ps qs)) ≡ false → Ended left NotFinite (stepsBehind (keptStudy n ys es ks i base ps qs))
-  unfolding stepsBehind
-  behind-lost left h = parts-lost [] (ofEquivalent whole) (ofCurrents whole (length es)) (stepsOfCurrents whole) (ofInjections whole) (ofRatio (length (retained whole)) n) left left (ended-none left) h
+  pub behind-lost : (left : ℕ) → all_finite (of_equivalent (kept_study n ys es ks i base ps qs)) ≡ false → Ended left NotFinite (steps_behind (kept_study n ys es ks i base ps qs))
+  unfolding steps_behind
+  behind-lost left h = parts-lost [] (of_equivalent whole) (of_currents whole (length es)) (steps_of_currents whole) (of_injections whole) (of_ratio (length (retained whole)) n) left left (ended-none left) h
 
-  later_same : stepsOfInjections n ys es (drop i ks) base ps qs ≡ computing (ofCurrents whole (length es)) ++ (stepsOfCurrents whole ++ computing (ofInjections whole))
-  unfolding stepsOfInjections stepsOfCurrents ofInjections ofInjection ofRowTimes solvedCurrents injectionP injectionQ boundaryCurrent rowTimes yEE admittance
-  later_same = ap (λ (l : List Float). computing l ++ (stepsOfCurrents whole ++ computing (ofInjections whole))) (currents-same n ys es [] (drop i ks) (take i ks) (drop i ks) base ps qs (length es))
+  later_same : steps_of_injections n ys es (drop i ks) base ps qs ≡ computing (of_currents whole (length es)) ++ (steps_of_currents whole ++ computing (of_injections whole))
+  unfolding steps_of_injections steps_of_currents of_injections of_injection of_row_times solved_currents injection_p injection_q boundary_current row_times y_ee admittance
+  later_same = ap (λ (l : List Float). computing l ++ (steps_of_currents whole ++ computing (of_injections whole))) (currents-same n ys es [] (drop i ks) (take i ks) (drop i ks) base ps qs (length es))
 
-  pub behind-then : (left : ℕ) (r : Eliminated) → 0 < n → length ks ≤ n → n ≤ limit → T (allFinite (ofEquivalent (keptStudy n ys es ks i base ps qs)))
-      → Ended left r (stepsOfInjections n ys es (drop i ks) base ps qs) → Ended left r (stepsBehind (keptStudy n ys es ks i base ps qs))
-  unfolding stepsBehind
+  pub behind-then : (left : ℕ) (r : Eliminated) → 0 < n → length ks ≤ n → n ≤ limit → T (all_finite (of_equivalent (kept_study n ys es ks i base ps qs)))
+      → Ended left r (steps_of_injections n ys es (drop i ks) base ps qs) → Ended left r (steps_behind (kept_study n ys es ks i base ps qs))
+  unfolding steps_behind
   behind-then left r positive less few fine next =
-      parts_then [] (ofEquivalent whole) (ofCurrents whole (length es)) (stepsOfCurrents whole) (ofInjections whole) (ofRatio (length (retained whole)) n) left left r (ended-none left) fine
+      parts_then [] (of_equivalent whole) (of_currents whole (length es)) (steps_of_currents whole) (of_injections whole) (of_ratio (length (retained whole)) n) left left r (ended-none left) fine
       (ratio-finite (length (retained whole)) n positive (subst (λ (m : ℕ). m ≤ n) (sym (ap length retained-kept)) less) few) (ended_same left r _ _ later_same next)
 
   -- the whole
-  all-steps : ofEach (stepsOfColumn (columnsInput n ys es)) ks ++ stepsBehind whole ≡ steps_of whole
-  unfolding steps_of stepsBehind stepsOfColumn yEE admittance
-  all-steps = rw some (ap (λ (l : List ℕ). ofEach (stepsOfColumn whole) l ++ stepsBehind whole) (sym retained-kept))
+  all-steps : of_each (steps_of_column (columns_input n ys es)) ks ++ steps_behind whole ≡ steps_of whole
+  unfolding steps_of steps_behind steps_of_column y_ee admittance
+  all-steps = rw some (ap (λ (l : List ℕ). of_each (steps_of_column whole) l ++ steps_behind whole) (sym retained-kept))
 
-  pub all_first : (m : ℕ) (r : Eliminated) → isDone r ≡ false → Ended m r (ofEach (stepsOfColumn (columnsInput n ys es)) ks) → Ended m r (steps_of (keptStudy n ys es ks i base ps qs))
-  all_first m r d h = ended_same m r _ _ all-steps (ended-first m _ (stepsBehind whole) r d h)
+  pub all_first : (m : ℕ) (r : Eliminated) → is_done r ≡ false → Ended m r (of_each (steps_of_column (columns_input n ys es)) ks) → Ended m r (steps_of (kept_study n ys es ks i base ps qs))
+  all_first m r d h = ended_same m r _ _ all-steps (ended-first m _ (steps_behind whole) r d h)
 
-  pub all_then : (m left : ℕ) (r : Eliminated) → Ended m (Done left) (ofEach (stepsOfColumn (columnsInput n ys es)) ks) → Ended left r (stepsBehind (keptStudy n ys es ks i base ps qs)) → Ended m r (steps_of (keptStudy n ys es ks i base ps qs))
-  all_then m left r h next = ended_same m r _ _ all-steps (ended-then m _ (stepsBehind whole) left r h next)
+  pub all_then : (m left : ℕ) (r : Eliminated) → Ended m (Done left) (of_each (steps_of_column (columns_input n ys es)) ks) → Ended left r (steps_behind (kept_study n ys es ks i base ps qs)) → Ended m r (steps_of (kept_study n ys es ks i base ps qs))
+  all_then m left r h next = ended_same m r _ _ all-steps (ended-then m _ (steps_behind whole) left r h next)

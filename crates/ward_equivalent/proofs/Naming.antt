@@ -1,18 +1,18 @@
 -- The rows of a study's buses, and that 7 and 8 told from them are told from the numbers.
 use Rattle.prelude.proofs.Prelude.{◌≡◌, refl, sym, ap, ◌∙◌, subst, Bool, true, false, List, ◌++◌, ℕ, ◌+◌, ◌-◌, arith, T, length, take, drop, sub-zero, add_assoc, append_assoc, length-append, take_at, drop-drop}
 use lib.Seq.{drop_at}
-use Rattle.lists.specs.Buses.{all_below, repeats, within, rowsIn}
-use Rattle.lists.proofs.Naming.{rowsIn-append, below-within, repeats-rows}
-use Rattle.lists.proofs.Lookups.{length-rowsIn}
+use Rattle.lists.specs.Buses.{all_below, repeats, within, rows_in}
+use Rattle.lists.proofs.Naming.{rows_in-append, below-within, repeats-rows}
+use Rattle.lists.proofs.Lookups.{length-rows_in}
 use Rattle.lists.proofs.Parts.{back}
 use Rattle.ward_equivalent.specs.Ward.{retained, listed}
-use Rattle.ward_equivalent.specs.Numbers.{NumberedStudy, inRows, busRefusal}
+use Rattle.ward_equivalent.specs.Numbers.{NumberedStudy, in_rows, bus_refusal}
 
-pub listed-rows : (N : NumberedStudy) → listed (inRows N) ≡ rowsIn N.numbers (listed N.study)
-unfolding listed retained inRows
+pub listed-rows : (N : NumberedStudy) → listed (in_rows N) ≡ rows_in N.numbers (listed N.study)
+unfolding listed retained in_rows
 listed-rows N =
     let ns = N.numbers in let S = N.study in
-    sym (rowsIn-append ns S.external (S.internal ++ S.boundary) ∙ ap (λ (l : List ℕ). rowsIn ns S.external ++ l) (rowsIn-append ns S.internal S.boundary))
+    sym (rows_in-append ns S.external (S.internal ++ S.boundary) ∙ ap (λ (l : List ℕ). rows_in ns S.external ++ l) (rows_in-append ns S.internal S.boundary))
 
 -- ---- 7 and 8 told from the rows xs of the buses numbered ks
 
@@ -37,39 +37,39 @@ joined E I B X e i b he hi =
     ∙ ap (λ (F : List ℕ). F ++ drop (e + i + b) X) (append_assoc E I B)
     ∙ ap (λ (m : ℕ). (E ++ (I ++ B)) ++ drop m X) (add_assoc e i b)
 
-front-is : (ns es is bs xs rest : List ℕ) (k : ℕ) → k ≡ length es + (length is + length bs) → xs ≡ (rowsIn ns es ++ (rowsIn ns is ++ rowsIn ns bs)) ++ rest → take (k - 0) (drop 0 xs) ≡ rowsIn ns (es ++ (is ++ bs))
+front-is : (ns es is bs xs rest : List ℕ) (k : ℕ) → k ≡ length es + (length is + length bs) → xs ≡ (rows_in ns es ++ (rows_in ns is ++ rows_in ns bs)) ++ rest → take (k - 0) (drop 0 xs) ≡ rows_in ns (es ++ (is ++ bs))
 front-is ns es is bs xs rest k long h =
-    let A = rowsIn ns es ++ (rowsIn ns is ++ rowsIn ns bs) in
-    let same : A ≡ rowsIn ns (es ++ (is ++ bs)) = sym (rowsIn-append ns es (is ++ bs) ∙ ap (λ (l : List ℕ). rowsIn ns es ++ l) (rowsIn-append ns is bs)) in
-    let count : length A ≡ k = ap length same ∙ length-rowsIn ns (es ++ (is ++ bs)) ∙ rw (length-append es (is ++ bs), length-append is bs) (sym long) in
+    let A = rows_in ns es ++ (rows_in ns is ++ rows_in ns bs) in
+    let same : A ≡ rows_in ns (es ++ (is ++ bs)) = sym (rows_in-append ns es (is ++ bs) ∙ ap (λ (l : List ℕ). rows_in ns es ++ l) (rows_in-append ns is bs)) in
+    let count : length A ≡ k = ap length same ∙ length-rows_in ns (es ++ (is ++ bs)) ∙ rw (length-append es (is ++ bs), length-append is bs) (sym long) in
     ap (λ (m : ℕ). take m xs) (sub-zero k) ∙ ap (take k) h ∙ take_at A rest k count ∙ same
 
-pub front-rows : (ns es is bs xs rest : List ℕ) → xs ≡ (rowsIn ns es ++ (rowsIn ns is ++ rowsIn ns bs)) ++ rest
-    → take (length es + (length is + length bs) - 0) (drop 0 xs) ≡ rowsIn ns (es ++ (is ++ bs))
+pub front-rows : (ns es is bs xs rest : List ℕ) → xs ≡ (rows_in ns es ++ (rows_in ns is ++ rows_in ns bs)) ++ rest
+    → take (length es + (length is + length bs) - 0) (drop 0 xs) ≡ rows_in ns (es ++ (is ++ bs))
 front-rows ns es is bs xs rest h = front-is ns es is bs xs rest (length es + (length is + length bs)) refl h
 
-pub front-joined : (ns es is bs xs rest : List ℕ) → xs ≡ (rowsIn ns es ++ (rowsIn ns is ++ rowsIn ns bs)) ++ rest
-    → take (length es + length is + length bs - 0) (drop 0 xs) ≡ rowsIn ns (es ++ (is ++ bs))
+pub front-joined : (ns es is bs xs rest : List ℕ) → xs ≡ (rows_in ns es ++ (rows_in ns is ++ rows_in ns bs)) ++ rest
+    → take (length es + length is + length bs - 0) (drop 0 xs) ≡ rows_in ns (es ++ (is ++ bs))
 front-joined ns es is bs xs rest h = front-is ns es is bs xs rest (length es + length is + length bs) (add_assoc (length es) (length is) (length bs)) h
 
-there : (ns ks xs : List ℕ) (b : Bool) → xs ≡ rowsIn ns ks → all_below (length ns) xs ≡ b → within ns ks ≡ b
+there : (ns ks xs : List ℕ) (b : Bool) → xs ≡ rows_in ns ks → all_below (length ns) xs ≡ b → within ns ks ≡ b
 there ns ks xs b e h = sym (below-within ns ks) ∙ ap (all_below (length ns)) (sym e) ∙ h
 
-twice-is : (ns ks xs : List ℕ) (b : Bool) → xs ≡ rowsIn ns ks → within ns ks ≡ true → repeats xs ≡ b → repeats ks ≡ b
+twice-is : (ns ks xs : List ℕ) (b : Bool) → xs ≡ rows_in ns ks → within ns ks ≡ true → repeats xs ≡ b → repeats ks ≡ b
 twice-is ns ks xs b e w h = sym (repeats-rows ns ks (subst T (sym w) tt)) ∙ ap repeats (sym e) ∙ h
 
-pub named-lacks : (ns ks xs : List ℕ) → xs ≡ rowsIn ns ks → all_below (length ns) xs ≡ false → 7 ≡ busRefusal ns ks
-unfolding busRefusal
+pub named-lacks : (ns ks xs : List ℕ) → xs ≡ rows_in ns ks → all_below (length ns) xs ≡ false → 7 ≡ bus_refusal ns ks
+unfolding bus_refusal
 named-lacks ns ks xs e h = rw (there ns ks xs false e h)
 
-pub named-number-twice : (ns ks xs : List ℕ) → xs ≡ rowsIn ns ks → all_below (length ns) xs ≡ true → repeats ns ≡ true → 8 ≡ busRefusal ns ks
-unfolding busRefusal
+pub named-number-twice : (ns ks xs : List ℕ) → xs ≡ rows_in ns ks → all_below (length ns) xs ≡ true → repeats ns ≡ true → 8 ≡ bus_refusal ns ks
+unfolding bus_refusal
 named-number-twice ns ks xs e h d = rw (there ns ks xs true e h, d)
 
-pub named-twice : (ns ks xs : List ℕ) → xs ≡ rowsIn ns ks → all_below (length ns) xs ≡ true → repeats ns ≡ false → repeats xs ≡ true → 8 ≡ busRefusal ns ks
-unfolding busRefusal
+pub named-twice : (ns ks xs : List ℕ) → xs ≡ rows_in ns ks → all_below (length ns) xs ≡ true → repeats ns ≡ false → repeats xs ≡ true → 8 ≡ bus_refusal ns ks
+unfolding bus_refusal
 named-twice ns ks xs e h d r = rw (there ns ks xs true e h, d, twice-is ns ks xs true e (there ns ks xs true e h) r)
 
-pub named_none : (ns ks xs : List ℕ) → xs ≡ rowsIn ns ks → all_below (length ns) xs ≡ true → repeats ns ≡ false → repeats xs ≡ false → 0 ≡ busRefusal ns ks
-unfolding busRefusal
+pub named_none : (ns ks xs : List ℕ) → xs ≡ rows_in ns ks → all_below (length ns) xs ≡ true → repeats ns ≡ false → repeats xs ≡ false → 0 ≡ bus_refusal ns ks
+unfolding bus_refusal
 named_none ns ks xs e h d r = rw (there ns ks xs true e h, d, twice-is ns ks xs false e (there ns ks xs true e h) r)

@@ -2,16 +2,16 @@
 use Rattle.prelude.proofs.Prelude.{◌≡◌, refl, sym, ap, ◌∙◌, subst, cond, ◌⊎◌, inl, inr, List, ◌++◌, ℕ, ◌+◌, ◌*◌, ◌≤◌, ◌<◌, add-one, arith, ltb, length, get_or, Float, nan, map, length-map, ext_get_or, eq-or-lt_of_le, lt-ltb, le-ltb}
 use Rattle.complex.specs.{Complex, cadd, csub, cmul, entry, put, Matrix, entry_at, row, zeros}
 use Rattle.complex.proofs.Entries.{parts_same, length-put, entry-put-same, entry-put-other, entry-append-left}
-use Rattle.complex.proofs.Matrices.{entry-within, length-row, entry_row, getD-zeros}
+use Rattle.complex.proofs.Matrices.{entry-within, length-row, entry_row, get_or-zeros}
 use Rattle.solver.proofs.Passed.{Put, put-more, Stored}
-use Rattle.ward_equivalent.specs.Arithmetic.{sumUp}
-use Rattle.ward_equivalent.specs.Inner.Work.{Listing, workRow, productTo, product, lessProduct}
-use Rattle.lists.proofs.Buses.{getD-in, below_all}
+use Rattle.ward_equivalent.specs.Arithmetic.{sum_up}
+use Rattle.ward_equivalent.specs.Inner.Work.{Listing, work_row, product_to, product, less_product}
+use Rattle.lists.proofs.Buses.{get_or-in, below_all}
 use Rattle.lists.proofs.Lookups.{get_d_map}
 
 -- a listed bus is one of the matrix
 pub listed_below : (n : ℕ) (ys : List Float) (bs : List ℕ) → Listing n ys bs → (k : ℕ) → k < length bs → get_or bs k 0 < n
-listed_below n ys bs h k l = below_all n bs h.below (get_or bs k 0) (getD-in bs k l)
+listed_below n ys bs h k l = below_all n bs h.below (get_or bs k 0) (get_or-in bs k l)
 
 -- the entry between two buses of the matrix lies within its slice
 pub entry-index : (n : ℕ) (ys : List Float) → length ys ≡ 2 * (n * n) → (i j : ℕ) → i < n → j < n → 2 * (i * n + j) + 1 < length ys
@@ -32,15 +32,15 @@ put-turn ys ys' new old w i v h l p e q = (
 
 -- one more term of a product
 pub product-more : (n : ℕ) (ys : List Float) (es : List ℕ) (w : ℕ) (ws : List Float) (bus c k : ℕ)
-    → productTo n ys es w ws bus c (k + 1) ≡ cadd (productTo n ys es w ws bus c k) (cmul (entry_at n ys bus (get_or es k 0)) (entry_at w ws k c))
-unfolding productTo sumUp
+    → product_to n ys es w ws bus c (k + 1) ≡ cadd (product_to n ys es w ws bus c k) (cmul (entry_at n ys bus (get_or es k 0)) (entry_at w ws k c))
+unfolding product_to sum_up
 product-more n ys es w ws bus c k = rw add-one refl
 
 -- an entry of the equivalent from its parts, X from column 0 on
-pub less_product : (n : ℕ) (ys : List Float) (es ks : List ℕ) (w : ℕ) (ws : List Float) (i q : ℕ) (own sum : Complex)
-    → own ≡ entry_at n ys i (get_or ks q 0) → sum ≡ product n ys es w ws i q → csub own sum ≡ lessProduct n ys es ks w ws 0 i q
-unfolding lessProduct
-less_product n ys es ks w ws i q own sum a b =
+pub less_product-is : (n : ℕ) (ys : List Float) (es ks : List ℕ) (w : ℕ) (ws : List Float) (i q : ℕ) (own sum : Complex)
+    → own ≡ entry_at n ys i (get_or ks q 0) → sum ≡ product n ys es w ws i q → csub own sum ≡ less_product n ys es ks w ws 0 i q
+unfolding less_product
+less_product-is n ys es ks w ws i q own sum a b =
     let at : q ≡ 0 + q = omega arith in
     ap (λ (z : Complex). csub z sum) a ∙ ap (csub (entry_at n ys i (get_or ks q 0))) (b ∙ ap (product n ys es w ws i) at)
 
@@ -60,8 +60,8 @@ filled_row Y bus bs vs rest zs c v h e =
 
 pub augmented-row : (n : ℕ) (ys : List Float) (bs : List ℕ) (k : ℕ) (c : Complex) (zs : List Float)
     → ((j : ℕ) → j < length bs → entry zs j ≡ entry_at n ys (get_or bs k 0) (get_or bs j 0)) → entry zs (length bs) ≡ c
-    → (j : ℕ) → j < length bs + 1 → entry zs j ≡ workRow n ys bs k c j
-unfolding workRow
+    → (j : ℕ) → j < length bs + 1 → entry zs j ≡ work_row n ys bs k c j
+unfolding work_row
 augmented-row n ys bs k c zs f g j h = pick (eq-or-lt_of_le {n = j} {m = length bs} (omega arith))
   where
     pick : (j ≡ length bs) ⊎ (j < length bs) → entry zs j ≡ cond (ltb j (length bs)) (entry_at n ys (get_or bs k 0) (get_or bs j 0)) c
@@ -77,7 +77,7 @@ stored-map f bs xs old t l h p =
 
 -- a row of +0s is a product with no term
 pub cleared-row : (n : ℕ) (ys : List Float) (es : List ℕ) (w : ℕ) (ws : List Float) (bus c m r : ℕ) (zs : List Float) → zs ≡ zeros m → m ≡ 2 * r
-    → (q : ℕ) → q < r → entry zs q ≡ productTo n ys es w ws bus c 0
-unfolding productTo sumUp entry
+    → (q : ℕ) → q < r → entry zs q ≡ product_to n ys es w ws bus c 0
+unfolding product_to sum_up entry
 cleared-row n ys es w ws bus c m r zs e l q h =
-    ap (λ (us : List Float). entry us q) e ∙ parts_same (getD-zeros m (2 * q) (omega arith)) (getD-zeros m (2 * q + 1) (omega arith))
+    ap (λ (us : List Float). entry us q) e ∙ parts_same (get_or-zeros m (2 * q) (omega arith)) (get_or-zeros m (2 * q + 1) (omega arith))

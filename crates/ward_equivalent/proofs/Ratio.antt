@@ -5,14 +5,14 @@ use lib.IntN.{pos}
 use lib.Ieee.{of_int}
 use lib.Ieee.Exact.{HasValue}
 use lib.Ieee.Back.{round_whole}
-use Rattle.binary64.specs.Values.{allFinite}
+use Rattle.binary64.specs.Values.{all_finite}
 use Rattle.binary64.proofs.Magnitudes.{Beyond}
 use Rattle.complex.specs.{one, ◌⊖◌, ◌⊘◌}
 use Rattle.complex.proofs.Finite.{none, all_more}
 use Rattle.complex.proofs.Sizes.{In, in-finite, div-in, sub_in}
 use Rattle.refusals.specs.Refusals.{limit}
 use Rattle.ward_equivalent.specs.Ward.{ratio}
-use Rattle.ward_equivalent.specs.Steps.{ofRatio}
+use Rattle.ward_equivalent.specs.Steps.{of_ratio}
 
 whole_in : (x : Float) (n : ℕ) → n ≤ 256 → HasValue x false n 1 → In 8 x
 whole_in nan n h v = v
@@ -34,8 +34,8 @@ one_in : In 8 one
 unfolding one of_bits
 one_in = lit≤ tt
 
-pub ratio-finite : (r n : ℕ) → 0 < n → r ≤ n → n ≤ limit → T (allFinite (ofRatio r n))
-unfolding ofRatio ratio
+pub ratio-finite : (r n : ℕ) → 0 < n → r ≤ n → n ≤ limit → T (all_finite (of_ratio r n))
+unfolding of_ratio ratio
 ratio-finite r n some less few =
     let rs = cast_is r (omega arith) in
     let ns = cast_is n few in

@@ -30,18 +30,18 @@ pub told-true : (b : Bool) → not b ≡ false → T b
 told-true b n = subst T (sym (not-false b n)) tt
 
 -- the answers of `Tried`
-isLeft : Tried → Bool
-isLeft (Left left) = true
-isLeft Wild = false
+is_left : Tried → Bool
+is_left (Left left) = true
+is_left Wild = false
 
-leftIn : Tried → ℕ
-leftIn (Left left) = left
-leftIn Wild = 0
+left_in : Tried → ℕ
+left_in (Left left) = left
+left_in Wild = 0
 
 pub wild-left : {left : ℕ} → Wild ≡ Left left → ⊥
-unfolding isLeft
-wild-left e = subst T (sym (ap isLeft e)) tt
+unfolding is_left
+wild-left e = subst T (sym (ap is_left e)) tt
 
 pub same-tried : {k m : ℕ} → Left k ≡ Left m → k ≡ m
-unfolding leftIn
-same-tried e = ap leftIn e
+unfolding left_in
+same-tried e = ap left_in e

@@ -2,7 +2,7 @@
 use Rattle.prelude.proofs.Prelude.{◌≡◌, refl, sym, ◌∙◌, subst, Bool, true, false, not, ◌||◌, ◌⊎◌, inl, inr, ⊎_elim, ℕ, ◌+◌, ◌*◌, ◌≤◌, arith, eqb, ltb, ltb-false, eqb-true, not-false}
 use Rattle.refusals.specs.Refusals.{limit}
 use Rattle.ward_equivalent.specs.declared.lengths.Lengths.{Lengths}
-use Rattle.ward_equivalent.specs.Lengths.{overLimit, wrongLengths, unmatched, lengthRefusal}
+use Rattle.ward_equivalent.specs.Lengths.{over_limit, wrong_lengths, unmatched, length_refusal}
 use Rattle.ward_equivalent.proofs.Buses.{none_of}
 
 -- ---- lengths within the limit, and lengths that are exact
@@ -13,8 +13,8 @@ pub record Few (l : Lengths) : Type 0 where
   pub external : l.external ≤ limit
   pub boundary : l.boundary ≤ limit
 
-pub few : (l : Lengths) → overLimit l ≡ false → Few l
-unfolding overLimit
+pub few : (l : Lengths) → over_limit l ≡ false → Few l
+unfolding over_limit
 few l h =
     let a = ltb limit l.size in let b = ltb limit l.numbers in let c = ltb limit l.internal in let d = ltb limit l.external in
     let e = ltb limit l.boundary in let f = ltb limit l.p_ext in let g = ltb limit l.q_ext in
@@ -44,8 +44,8 @@ pub record Fitting (l : Lengths) : Type 0 where
 same : (a b : ℕ) → not (eqb a b) ≡ false → a ≡ b
 same a b h = eqb-true a b (not-false (eqb a b) h)
 
-fitting : (l : Lengths) → overLimit l ≡ false → wrongLengths l ≡ false → unmatched l ≡ false → Fitting l
-unfolding wrongLengths unmatched
+fitting : (l : Lengths) → over_limit l ≡ false → wrong_lengths l ≡ false → unmatched l ≡ false → Fitting l
+unfolding wrong_lengths unmatched
 fitting l t m u =
     let r = l.internal + l.boundary in
     let a = not (eqb l.given (2 * (l.size * l.size))) in let b = not (eqb l.numbers l.size) in
@@ -80,34 +80,34 @@ fitting l t m u =
 -- ---- 1, 2, 3 and what comes after
 
 pub record Refuses (l : Lengths) : Type 0 where
-  pub some : lengthRefusal l 0 ≡ 0 → ⊥
-  pub small : lengthRefusal l 0 ≤ 8
-  pub whatever : (next : ℕ) → lengthRefusal l next ≡ lengthRefusal l 0
+  pub some : length_refusal l 0 ≡ 0 → ⊥
+  pub small : length_refusal l 0 ≤ 8
+  pub whatever : (next : ℕ) → length_refusal l next ≡ length_refusal l 0
 
 pub record Passes (l : Lengths) : Type 0 where
   pub fits : Fitting l
-  pub on : (next : ℕ) → lengthRefusal l next ≡ next
+  pub on : (next : ℕ) → length_refusal l next ≡ next
 
-by_tests : (l : Lengths) (a b c : Bool) → overLimit l ≡ a → wrongLengths l ≡ b → unmatched l ≡ c → Refuses l ⊎ Passes l
-unfolding lengthRefusal
+by_tests : (l : Lengths) (a b c : Bool) → over_limit l ≡ a → wrong_lengths l ≡ b → unmatched l ≡ c → Refuses l ⊎ Passes l
+unfolding length_refusal
 by_tests l true b c t m u =
-    inl (record { some = λ (z : lengthRefusal l 0 ≡ 0). let y = simp t at z in omega arith; small = simp t (omega arith); whatever = λ (next : ℕ). simp t })
+    inl (record { some = λ (z : length_refusal l 0 ≡ 0). let y = simp t at z in omega arith; small = simp t (omega arith); whatever = λ (next : ℕ). simp t })
 by_tests l false true c t m u =
-    inl (record { some = λ (z : lengthRefusal l 0 ≡ 0). let y = simp (t, m) at z in omega arith; small = simp (t, m) (omega arith); whatever = λ (next : ℕ). simp (t, m) })
+    inl (record { some = λ (z : length_refusal l 0 ≡ 0). let y = simp (t, m) at z in omega arith; small = simp (t, m) (omega arith); whatever = λ (next : ℕ). simp (t, m) })
 by_tests l false false true t m u =
-    inl (record { some = λ (z : lengthRefusal l 0 ≡ 0). let y = simp (t, m, u) at z in omega arith; small = simp (t, m, u) (omega arith); whatever = λ (next : ℕ). simp (t, m, u) })
+    inl (record { some = λ (z : length_refusal l 0 ≡ 0). let y = simp (t, m, u) at z in omega arith; small = simp (t, m, u) (omega arith); whatever = λ (next : ℕ). simp (t, m, u) })
 by_tests l false false false t m u = inr (record { fits = fitting l t m u; on = λ (next : ℕ). simp (t, m, u) })
 
 lengths-tell : (l : Lengths) → Refuses l ⊎ Passes l
-lengths-tell l = by_tests l (overLimit l) (wrongLengths l) (unmatched l) refl refl refl
+lengths-tell l = by_tests l (over_limit l) (wrong_lengths l) (unmatched l) refl refl refl
 
-pub lengths-refuse : (l : Lengths) → (lengthRefusal l 0 ≡ 0 → ⊥) → Refuses l
+pub lengths-refuse : (l : Lengths) → (length_refusal l 0 ≡ 0 → ⊥) → Refuses l
 lengths-refuse l h = ⊎_elim (λ (r : Refuses l). r) (λ (p : Passes l). absurd (h (p.on 0))) (lengths-tell l)
 
 -- where nothing is told, the lengths fit, and nothing comes after
-pub lengths-pass : (l : Lengths) (next : ℕ) → lengthRefusal l next ≡ 0 → Passes l × (next ≡ 0)
+pub lengths-pass : (l : Lengths) (next : ℕ) → length_refusal l next ≡ 0 → Passes l × (next ≡ 0)
 lengths-pass l next z = ⊎_elim (λ (r : Refuses l). absurd (r.some (sym (r.whatever next) ∙ z))) (λ (p : Passes l). (p, sym (p.on next) ∙ z)) (lengths-tell l)
 
 -- and none of the work's numbers is among them
-pub told-most : (l : Lengths) (next : ℕ) → next ≤ 8 → lengthRefusal l next ≤ 8
+pub told-most : (l : Lengths) (next : ℕ) → next ≤ 8 → length_refusal l next ≤ 8
 told-most l next h = ⊎_elim (λ (r : Refuses l). subst (λ (k : ℕ). k ≤ 8) (sym (r.whatever next)) r.small) (λ (p : Passes l). subst (λ (k : ℕ). k ≤ 8) (sym (p.on next)) h) (lengths-tell l)

@@ -2,30 +2,30 @@
 -- input.
 use Rattle.std.specs.Prelude.{ℕ, not, ◌||◌, List, ◌++◌, T, eqb, length, Float}
 use Rattle.refusals.specs.declared.Allowance.{Allowance}
-use Rattle.refusals.specs.Refusals.{noSuchBus, busTwice, refuse, thenGiven}
-use Rattle.refusals.specs.Work.{thenWork}
-use Rattle.lists.specs.Buses.{repeats, within, rowsIn}
+use Rattle.refusals.specs.Refusals.{no_such_bus, bus_twice, refuse, then_given}
+use Rattle.refusals.specs.Work.{then_work}
+use Rattle.lists.specs.Buses.{repeats, within, rows_in}
 use Rattle.ward_equivalent.specs.declared.lengths.Lengths.{Lengths}
-use Rattle.ward_equivalent.specs.Lengths.{lengthRefusal}
+use Rattle.ward_equivalent.specs.Lengths.{length_refusal}
 use Rattle.ward_equivalent.specs.Ward.{Study, Outputs, given_of, listed, externals}
 use Rattle.ward_equivalent.specs.Extended.{ExtendedStudy, ExtendedOutputs}
-use Rattle.ward_equivalent.specs.Steps.{steps_of, stepsOfExtended}
-use Rattle.ward_equivalent.specs.Studied.{AfterWard, studied, AfterExtended, studiedExtended}
+use Rattle.ward_equivalent.specs.Steps.{steps_of, steps_of_extended}
+use Rattle.ward_equivalent.specs.Studied.{AfterWard, studied, AfterExtended, studied_extended}
 
 -- the number of each row's bus, and a study whose lists hold numbers
 pub record NumberedStudy : Type 0 where
   pub numbers : List ℕ
   pub study : Study
 
-abbrev pub numberedOf : List ℕ → Study → NumberedStudy
-numberedOf ns S = record { numbers = ns; study = S }
+abbrev pub numbered_of : List ℕ → Study → NumberedStudy
+numbered_of ns S = record { numbers = ns; study = S }
 
 -- the study with each bus as its row; a number that no row has becomes the count of rows
-unfoldable pub inRows : NumberedStudy → Study
-unfolding rowsIn
-inRows N =
+unfoldable pub in_rows : NumberedStudy → Study
+unfolding rows_in
+in_rows N =
     let S = N.study in
-    let rows = rowsIn N.numbers in
+    let rows = rows_in N.numbers in
     record {
       size = S.size;
       given = S.given;
@@ -41,8 +41,8 @@ inRows N =
 
 -- A study without voltages has neither corrections nor compensations. It is measured with as many voltages as external buses, and with as
 -- many corrections and compensations as boundary buses, so that these three tests refuse nothing.
-abbrev pub lengthsOf : NumberedStudy → Outputs → Lengths
-lengthsOf N o =
+abbrev pub lengths_of : NumberedStudy → Outputs → Lengths
+lengths_of N o =
     let S = N.study in
     record {
       size = S.size;
@@ -64,45 +64,45 @@ lengthsOf N o =
 
 -- of the numbers ns and the listed buses ks. 7: a bus outside the numbers. 8: a number that stands twice, or a bus listed twice, in one
 -- list or in two
-unfoldable pub busRefusal : List ℕ → List ℕ → ℕ
+unfoldable pub bus_refusal : List ℕ → List ℕ → ℕ
 unfolding repeats within
-busRefusal ns ks = refuse (not (within ns ks)) noSuchBus (refuse (repeats ns || repeats ks) busTwice 0)
+bus_refusal ns ks = refuse (not (within ns ks)) no_such_bus (refuse (repeats ns || repeats ks) bus_twice 0)
 
 -- by lengths and lists: 1, 2, 3, 7, 8 or 0
-unfoldable pub wardShapeRefusal : NumberedStudy → Outputs → ℕ
-unfolding lengthRefusal listed busRefusal
-wardShapeRefusal N o = lengthRefusal (lengthsOf N o) (busRefusal N.numbers (listed N.study))
+unfoldable pub ward_shape_refusal : NumberedStudy → Outputs → ℕ
+unfolding length_refusal listed bus_refusal
+ward_shape_refusal N o = length_refusal (lengths_of N o) (bus_refusal N.numbers (listed N.study))
 
 -- and last 19: a number given is not finite, also where no bus is external
-unfoldable pub wardRefusal : NumberedStudy → Outputs → ℕ
-unfolding wardShapeRefusal thenGiven given_of
-wardRefusal N o = thenGiven (wardShapeRefusal N o) (given_of N.study)
+unfoldable pub ward_refusal : NumberedStudy → Outputs → ℕ
+unfolding ward_shape_refusal then_given given_of
+ward_refusal N o = then_given (ward_shape_refusal N o) (given_of N.study)
 
 abbrev pub AcceptedStudy : NumberedStudy → Allowance → Outputs → Type 0
-AcceptedStudy N a o = T (eqb (thenWork (wardRefusal N o) a (steps_of (inRows N))) 0)
+AcceptedStudy N a o = T (eqb (then_work (ward_refusal N o) a (steps_of (in_rows N))) 0)
 
 -- ---- the calls
 
 -- the allowance is of row reductions, over all solves of the study
-unfoldable pub afterCompute : NumberedStudy → Allowance → Outputs → AfterWard
-unfolding inRows wardRefusal studied
-afterCompute N a o = studied (inRows N) a o (wardRefusal N o)
+unfoldable pub after_compute : NumberedStudy → Allowance → Outputs → AfterWard
+unfolding in_rows ward_refusal studied
+after_compute N a o = studied (in_rows N) a o (ward_refusal N o)
 
 -- with the voltages at the external buses, per unit
 pub record NumberedExtended : Type 0 where
   pub study : NumberedStudy
   pub v-ext : List Float
 
-abbrev pub numberedExtendedOf : NumberedStudy → List Float → NumberedExtended
-numberedExtendedOf N vs = record { study = N; v-ext = vs }
+abbrev pub numbered_extended_of : NumberedStudy → List Float → NumberedExtended
+numbered_extended_of N vs = record { study = N; v-ext = vs }
 
-unfoldable pub extendedInRows : NumberedExtended → ExtendedStudy
-unfolding inRows
-extendedInRows X = record { study = inRows X.study; v-ext = X.v-ext }
+unfoldable pub extended_in_rows : NumberedExtended → ExtendedStudy
+unfolding in_rows
+extended_in_rows X = record { study = in_rows X.study; v-ext = X.v-ext }
 
-abbrev pub extendedLengthsOf : NumberedExtended → ExtendedOutputs → Lengths
-extendedLengthsOf X o =
-    let l = lengthsOf X.study o.outputs in
+abbrev pub extended_lengths_of : NumberedExtended → ExtendedOutputs → Lengths
+extended_lengths_of X o =
+    let l = lengths_of X.study o.outputs in
     record {
       size = l.size;
       given = l.given;
@@ -121,17 +121,17 @@ extendedLengthsOf X o =
       work = l.work;
     }
 
-unfoldable pub extendedShapeRefusal : NumberedExtended → ExtendedOutputs → ℕ
-unfolding lengthRefusal listed busRefusal
-extendedShapeRefusal X o = lengthRefusal (extendedLengthsOf X o) (busRefusal X.study.numbers (listed X.study.study))
+unfoldable pub extended_shape_refusal : NumberedExtended → ExtendedOutputs → ℕ
+unfolding length_refusal listed bus_refusal
+extended_shape_refusal X o = length_refusal (extended_lengths_of X o) (bus_refusal X.study.numbers (listed X.study.study))
 
-unfoldable pub extendedRefusal : NumberedExtended → ExtendedOutputs → ℕ
-unfolding extendedShapeRefusal thenGiven given_of
-extendedRefusal X o = thenGiven (extendedShapeRefusal X o) (given_of X.study.study ++ X.v-ext)
+unfoldable pub extended_refusal : NumberedExtended → ExtendedOutputs → ℕ
+unfolding extended_shape_refusal then_given given_of
+extended_refusal X o = then_given (extended_shape_refusal X o) (given_of X.study.study ++ X.v-ext)
 
 abbrev pub AcceptedExtended : NumberedExtended → Allowance → ExtendedOutputs → Type 0
-AcceptedExtended X a o = T (eqb (thenWork (extendedRefusal X o) a (stepsOfExtended (extendedInRows X))) 0)
+AcceptedExtended X a o = T (eqb (then_work (extended_refusal X o) a (steps_of_extended (extended_in_rows X))) 0)
 
-unfoldable pub afterComputeExtended : NumberedExtended → Allowance → ExtendedOutputs → AfterExtended
-unfolding extendedInRows extendedRefusal studiedExtended
-afterComputeExtended X a o = studiedExtended (extendedInRows X) a o (extendedRefusal X o)
+unfoldable pub after_compute_extended : NumberedExtended → Allowance → ExtendedOutputs → AfterExtended
+unfolding extended_in_rows extended_refusal studied_extended
+after_compute_extended X a o = studied_extended (extended_in_rows X) a o (extended_refusal X o)

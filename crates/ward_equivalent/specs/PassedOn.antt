@@ -7,25 +7,25 @@ use Rattle.complex.specs.declared.Pair.{Pair}
 use Rattle.complex.specs.declared.Pair.TheVariants.{Finite}
 use Rattle.complex.specs.Constants.{plus0}
 use Rattle.complex.specs.Leaves.{pair, product, sum, difference, passing}
-use Rattle.ward_equivalent.specs.Ward.{Study, externals, externalAt, admittance, solvedColumn, equivalent}
-use Rattle.ward_equivalent.specs.Ward.{solvedCurrents, boundaryCurrent}
-use Rattle.ward_equivalent.specs.Steps.{ofRowTimes, ofEquivalentEntry}
+use Rattle.ward_equivalent.specs.Ward.{Study, externals, external_at, admittance, solved_column, equivalent}
+use Rattle.ward_equivalent.specs.Ward.{solved_currents, boundary_current}
+use Rattle.ward_equivalent.specs.Steps.{of_row_times, of_equivalent_entry}
 
 -- a 0 x 0 + .. + a (n - 1) x (n - 1), from (0, 0) upward
-unfoldable pub sumAnswer : ℕ → (ℕ → Complex) → (ℕ → Complex) → Pair
+unfoldable pub sum_answer : ℕ → (ℕ → Complex) → (ℕ → Complex) → Pair
 unfolding plus0 product sum passing
-sumAnswer zero a x = Finite (record { re = plus0; im = plus0 })
-sumAnswer (suc n) a x = passing (sumAnswer n a x) (λ (s : Complex). passing (product (a n) (x n)) (λ (p : Complex). sum s p))
+sum_answer zero a x = Finite (record { re = plus0; im = plus0 })
+sum_answer (suc n) a x = passing (sum_answer n a x) (λ (s : Complex). passing (product (a n) (x n)) (λ (p : Complex). sum s p))
 
 -- row i of Y_re times a vector
-unfoldable pub rowAnswer : Study → ℕ → (ℕ → Complex) → Pair
-unfolding sumAnswer admittance
-rowAnswer S i x = sumAnswer (externals S) (λ (k : ℕ). admittance S i (externalAt S k)) x
+unfoldable pub row_answer : Study → ℕ → (ℕ → Complex) → Pair
+unfolding sum_answer admittance
+row_answer S i x = sum_answer (externals S) (λ (k : ℕ). admittance S i (external_at S k)) x
 
 -- each is answered exactly where every number in its list is finite
 pub record StudyPassedOn : Type 0 where
   pub entries : (S : Study) → T (not (eqb (externals S) 0)) → (i j : ℕ)
-      → passing (rowAnswer S i (solvedColumn S j)) (λ (s : Complex). difference (admittance S i j) s)
-      ≡ pair (ofEquivalentEntry S i j) (equivalent S i j)
+      → passing (row_answer S i (solved_column S j)) (λ (s : Complex). difference (admittance S i j) s)
+      ≡ pair (of_equivalent_entry S i j) (equivalent S i j)
   pub boundary-currents : (S : Study) (i : ℕ)
-      → rowAnswer S i (solvedCurrents S) ≡ pair (ofRowTimes S i (solvedCurrents S)) (boundaryCurrent S i)
+      → row_answer S i (solved_currents S) ≡ pair (of_row_times S i (solved_currents S)) (boundary_current S i)

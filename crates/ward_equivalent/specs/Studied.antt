@@ -3,13 +3,13 @@ use Rattle.std.specs.Prelude.{ℕ, zero, suc, cond, List, map, eqb, length, Floa
 use Rattle.complex.specs.Constants.{plus0}
 use Rattle.complex.specs.Matrices.{rows, zeros}
 use Rattle.refusals.specs.declared.Allowance.{Allowance}
-use Rattle.refusals.specs.Work.{reductions, thenWork}
+use Rattle.refusals.specs.Work.{reductions, then_work}
 use Rattle.ward_equivalent.specs.declared.answers.WardSummary.{WardSummary}
 use Rattle.ward_equivalent.specs.declared.answers.WardAnswer.{WardAnswer}
 use Rattle.ward_equivalent.specs.declared.answers.WardAnswer.TheVariants.{Done, Refused}
-use Rattle.ward_equivalent.specs.Ward.{Study, Outputs, externals, retained, equivalent, injectionP, injectionQ, ratio}
-use Rattle.ward_equivalent.specs.Extended.{ExtendedStudy, ExtendedOutputs, voltageCorrection, qCompensation}
-use Rattle.ward_equivalent.specs.Steps.{steps_of, stepsOfExtended}
+use Rattle.ward_equivalent.specs.Ward.{Study, Outputs, externals, retained, equivalent, injection_p, injection_q, ratio}
+use Rattle.ward_equivalent.specs.Extended.{ExtendedStudy, ExtendedOutputs, voltage_correction, q_compensation}
+use Rattle.ward_equivalent.specs.Steps.{steps_of, steps_of_extended}
 
 -- ---- the answer
 
@@ -25,48 +25,48 @@ summary S =
     }
 
 -- the answer of a study with this refusal
-unfoldable pub wardAnswer : ℕ → WardSummary → WardAnswer
-wardAnswer zero s = Done s
-wardAnswer (suc k) s = Refused (suc k)
+unfoldable pub ward_answer : ℕ → WardSummary → WardAnswer
+ward_answer zero s = Done s
+ward_answer (suc k) s = Refused (suc k)
 
 -- the number of an answer
-unfoldable pub wardNumber : WardAnswer → ℕ
-wardNumber (Done s) = 0
-wardNumber (Refused k) = k
+unfoldable pub ward_number : WardAnswer → ℕ
+ward_number (Done s) = 0
+ward_number (Refused k) = k
 
 -- ---- the slices
 
 -- the outputs of an accepted study
-unfoldable pub acceptedOutputs : Study → List Float → Outputs
-unfolding equivalent injectionP injectionQ retained rows
-acceptedOutputs S ws =
+unfoldable pub accepted_outputs : Study → List Float → Outputs
+unfolding equivalent injection_p injection_q retained rows
+accepted_outputs S ws =
     record {
       y-ward = rows (equivalent S) (retained S) (retained S);
-      p-ward = map (injectionP S) S.boundary;
-      q-ward = map (injectionQ S) S.boundary;
+      p-ward = map (injection_p S) S.boundary;
+      q-ward = map (injection_q S) S.boundary;
       work = ws;
     }
 
 -- the work slice: +0 unless the input was refused
-unfoldable pub workAfter : ℕ → List Float → List Float
+unfoldable pub work_after : ℕ → List Float → List Float
 unfolding zeros
-workAfter told ws = cond (eqb told 0) (zeros (length ws)) ws
+work_after told ws = cond (eqb told 0) (zeros (length ws)) ws
 
 -- by the refusal from the input and the call's: outputs are written only where the call is not refused
-unfoldable pub outputsAfter : Study → ℕ → ℕ → Outputs → Outputs
-unfolding acceptedOutputs workAfter
-outputsAfter S told number o =
+unfoldable pub outputs_after : Study → ℕ → ℕ → Outputs → Outputs
+unfolding accepted_outputs work_after
+outputs_after S told number o =
     cond (eqb number 0)
-    (acceptedOutputs S (workAfter told o.work))
-    (record { y-ward = o.y-ward; p-ward = o.p-ward; q-ward = o.q-ward; work = workAfter told o.work })
+    (accepted_outputs S (work_after told o.work))
+    (record { y-ward = o.y-ward; p-ward = o.p-ward; q-ward = o.q-ward; work = work_after told o.work })
 
-unfoldable pub extendedOutputsAfter : ExtendedStudy → ℕ → ℕ → ExtendedOutputs → ExtendedOutputs
-unfolding outputsAfter voltageCorrection qCompensation
-extendedOutputsAfter S told number o =
+unfoldable pub extended_outputs_after : ExtendedStudy → ℕ → ℕ → ExtendedOutputs → ExtendedOutputs
+unfolding outputs_after voltage_correction q_compensation
+extended_outputs_after S told number o =
     record {
-      outputs = outputsAfter S.study told number o.outputs;
-      correction = cond (eqb number 0) (map (voltageCorrection S) S.study.boundary) o.correction;
-      compensation = cond (eqb number 0) (map (qCompensation S) S.study.boundary) o.compensation;
+      outputs = outputs_after S.study told number o.outputs;
+      correction = cond (eqb number 0) (map (voltage_correction S) S.study.boundary) o.correction;
+      compensation = cond (eqb number 0) (map (q_compensation S) S.study.boundary) o.compensation;
     }
 
 -- ---- both, after the refusal `told` from the input
@@ -76,17 +76,17 @@ pub record AfterWard : Type 0 where
   pub outputs : Outputs
 
 unfoldable pub studied : Study → Allowance → Outputs → ℕ → AfterWard
-unfolding thenWork steps_of wardAnswer summary outputsAfter
+unfolding then_work steps_of ward_answer summary outputs_after
 studied S allowance o told =
-    let number = thenWork told allowance (steps_of S) in
-    record { answer = wardAnswer number (summary S); outputs = outputsAfter S told number o }
+    let number = then_work told allowance (steps_of S) in
+    record { answer = ward_answer number (summary S); outputs = outputs_after S told number o }
 
 pub record AfterExtended : Type 0 where
   pub answer : WardAnswer
   pub outputs : ExtendedOutputs
 
-unfoldable pub studiedExtended : ExtendedStudy → Allowance → ExtendedOutputs → ℕ → AfterExtended
-unfolding thenWork stepsOfExtended wardAnswer summary extendedOutputsAfter
-studiedExtended X allowance o told =
-    let number = thenWork told allowance (stepsOfExtended X) in
-    record { answer = wardAnswer number (summary X.study); outputs = extendedOutputsAfter X told number o }
+unfoldable pub studied_extended : ExtendedStudy → Allowance → ExtendedOutputs → ℕ → AfterExtended
+unfolding then_work steps_of_extended ward_answer summary extended_outputs_after
+studied_extended X allowance o told =
+    let number = then_work told allowance (steps_of_extended X) in
+    record { answer = ward_answer number (summary X.study); outputs = extended_outputs_after X told number o }

@@ -7,7 +7,7 @@ use Rattle.complex.specs.declared.Complex.{Complex}
 use Rattle.complex.specs.Constants.{plus0, one}
 use Rattle.complex.specs.Arithmetic.{◌⊖◌, ◌⊘◌, csub, cmul}
 use Rattle.complex.specs.Matrices.{Matrix, entry_at}
-use Rattle.ward_equivalent.specs.Arithmetic.{sumUp, current, injectedP, injectedQ}
+use Rattle.ward_equivalent.specs.Arithmetic.{sum_up, current, injected_p, injected_q}
 use Rattle.solver.specs.Solving.{solve}
 
 -- what is given: base in MVA, injections at the external buses in MW and MVAr; the lists name rows here, and numbers in a `NumberedStudy`
@@ -46,8 +46,8 @@ listed S = S.external ++ retained S
 abbrev pub externals : Study → ℕ
 externals S = length S.external
 
-abbrev pub externalAt : Study → ℕ → ℕ
-externalAt S k = get_or S.external k 0
+abbrev pub external_at : Study → ℕ → ℕ
+external_at S k = get_or S.external k 0
 
 -- the given admittance between two buses
 unfoldable pub admittance : Study → Matrix
@@ -56,44 +56,44 @@ admittance S = entry_at S.size S.given
 -- ---- Ward's formula
 
 -- Y_ee, by place in the external list
-unfoldable pub yEE : Study → Matrix
+unfoldable pub y_ee : Study → Matrix
 unfolding admittance
-yEE S k l = admittance S (externalAt S k) (externalAt S l)
+y_ee S k l = admittance S (external_at S k) (external_at S l)
 
 -- X: the solution of Y_ee x = the column of bus j in Y_er
-unfoldable pub solvedColumn : Study → ℕ → ℕ → Complex
-unfolding yEE admittance
-solvedColumn S j k = solve (externals S) (yEE S) (λ (l : ℕ). admittance S (externalAt S l) j) k
+unfoldable pub solved_column : Study → ℕ → ℕ → Complex
+unfolding y_ee admittance
+solved_column S j k = solve (externals S) (y_ee S) (λ (l : ℕ). admittance S (external_at S l) j) k
 
 -- row i of Y_re times a vector over the external buses
-unfoldable pub rowTimes : Study → ℕ → (ℕ → Complex) → Complex
-unfolding sumUp admittance
-rowTimes S i x = sumUp (externals S) (λ (k : ℕ). cmul (admittance S i (externalAt S k)) (x k))
+unfoldable pub row_times : Study → ℕ → (ℕ → Complex) → Complex
+unfolding sum_up admittance
+row_times S i x = sum_up (externals S) (λ (k : ℕ). cmul (admittance S i (external_at S k)) (x k))
 
 -- Y_rr - Y_re X, by bus; with no external bus the given matrix
 unfoldable pub equivalent : Study → Matrix
-unfolding rowTimes solvedColumn admittance
-equivalent S i j = cond (eqb (externals S) 0) (admittance S i j) (csub (admittance S i j) (rowTimes S i (solvedColumn S j)))
+unfolding row_times solved_column admittance
+equivalent S i j = cond (eqb (externals S) 0) (admittance S i j) (csub (admittance S i j) (row_times S i (solved_column S j)))
 
 -- ---- injections
 
 -- x: the solution of Y_ee x = the currents
-unfoldable pub solvedCurrents : Study → ℕ → Complex
-unfolding yEE current
-solvedCurrents S k = solve (externals S) (yEE S) (λ (l : ℕ). current S.base (get_or S.p-ext l nan) (get_or S.q-ext l nan)) k
+unfoldable pub solved_currents : Study → ℕ → Complex
+unfolding y_ee current
+solved_currents S k = solve (externals S) (y_ee S) (λ (l : ℕ). current S.base (get_or S.p-ext l nan) (get_or S.q-ext l nan)) k
 
 -- Y_be x at boundary bus i
-unfoldable pub boundaryCurrent : Study → ℕ → Complex
-unfolding rowTimes solvedCurrents
-boundaryCurrent S i = rowTimes S i (solvedCurrents S)
+unfoldable pub boundary_current : Study → ℕ → Complex
+unfolding row_times solved_currents
+boundary_current S i = row_times S i (solved_currents S)
 
-unfoldable pub injectionP : Study → ℕ → Float
-unfolding plus0 injectedP boundaryCurrent
-injectionP S i = cond (eqb (externals S) 0) plus0 (injectedP S.base (boundaryCurrent S i))
+unfoldable pub injection_p : Study → ℕ → Float
+unfolding plus0 injected_p boundary_current
+injection_p S i = cond (eqb (externals S) 0) plus0 (injected_p S.base (boundary_current S i))
 
-unfoldable pub injectionQ : Study → ℕ → Float
-unfolding plus0 injectedQ boundaryCurrent
-injectionQ S i = cond (eqb (externals S) 0) plus0 (injectedQ S.base (boundaryCurrent S i))
+unfoldable pub injection_q : Study → ℕ → Float
+unfolding plus0 injected_q boundary_current
+injection_q S i = cond (eqb (externals S) 0) plus0 (injected_q S.base (boundary_current S i))
 
 -- 1 - r / n, in binary64: the share of the n buses that r retained ones leave out
 unfoldable pub ratio : ℕ → ℕ → Float

@@ -20,7 +20,7 @@ pub enum WardAnswer {
 
 // The refusal's number, 0 where there is none.
 pub fn number_of(answer: WardAnswer) -> u32
-    ensures { result ≡ studied.wardNumber answer }
+    ensures { result ≡ studied.ward_number answer }
 {
     match answer {
         WardAnswer::Done(_) => 0,

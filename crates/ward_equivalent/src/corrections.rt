@@ -36,9 +36,9 @@ fn over_ties(
     base: f64,
 ) -> TieSums
     requires { (Listing n y.now outer.now) × (bus < n) × (length voltages.now ≡ length outer.now) }
-    ensures { (result.weights ≡ ward.weightSum (listed.correctionInput n y.now outer.now voltages.now base) bus)
-        × (result.weighted ≡ ward.weightedSum (listed.correctionInput n y.now outer.now voltages.now base) bus)
-        × (result.reactive ≡ ward.qCompensation (listed.correctionInput n y.now outer.now voltages.now base)
+    ensures { (result.weights ≡ ward.weight_sum (listed.correction_input n y.now outer.now voltages.now base) bus)
+        × (result.weighted ≡ ward.weighted_sum (listed.correction_input n y.now outer.now voltages.now base) bus)
+        × (result.reactive ≡ ward.q_compensation (listed.correction_input n y.now outer.now voltages.now base)
         bus) }
 {
     let mut weights = 0.0;
@@ -79,7 +79,7 @@ fn finite_tie(s: TieSums, mean: f64) -> bool
 
 // The mean of the deviations. A weight sum not above 1e-12 leaves 0.
 fn mean(weights: f64, weighted: f64) -> f64
-    ensures { result ≡ ward.meanOf weights weighted }
+    ensures { result ≡ ward.mean_of weights weighted }
 {
     if weights > SMALL_MAGNITUDE {
         return weighted / weights;
@@ -104,12 +104,12 @@ fn corrections(
         × (length correction.old ≡ length boundary.now)
         × (length compensation.old ≡ length boundary.now) }
     ensures { (sequence.Tells result ((t : ℕ) → t < length boundary.now → listed.CorrectionFinite
-        (listed.correctionInput n y.now outer.now voltages.now base) (get_or boundary.now t 0)))
+        (listed.correction_input n y.now outer.now voltages.now base) (get_or boundary.now t 0)))
         × (T result → correction.new
-        ≡ map (ward.voltageCorrection (listed.correctionInput n y.now outer.now voltages.now base))
+        ≡ map (ward.voltage_correction (listed.correction_input n y.now outer.now voltages.now base))
         boundary.now)
         × (T result → compensation.new
-        ≡ map (ward.qCompensation (listed.correctionInput n y.now outer.now voltages.now base))
+        ≡ map (ward.q_compensation (listed.correction_input n y.now outer.now voltages.now base))
         boundary.now) }
 {
     let mut t = 0;
@@ -148,18 +148,18 @@ fn corrected_in(
     cs: &mut [f64],
     ks: &mut [f64],
 ) -> WardAnswer
-    requires { (listed.CheckedStudy n y.now buses.now e f p.now q.now (spec.outputsOf to.old active.old reactive.old work.old))
+    requires { (listed.CheckedStudy n y.now buses.now e f p.now q.now (spec.outputs_of to.old active.old reactive.old work.old))
         × (length voltages.now ≡ e)
         × (length correction.old ≡ length buses.now - f)
         × (length compensation.old ≡ length buses.now - f)
         × (length cs.old ≡ length buses.now - f)
         × (length ks.old ≡ length buses.now - f) }
-    ensures { spec.afterExtended result (spec.outputsOf to.new active.new reactive.new work.new)
+    ensures { spec.after_extended result (spec.outputs_of to.new active.new reactive.new work.new)
         correction.new compensation.new
-        ≡ studied.studiedExtended
-        (listed.extendedOf (listed.cut n y.now buses.now e f base p.now q.now)
+        ≡ studied.studied_extended
+        (listed.extended_of (listed.cut n y.now buses.now e f base p.now q.now)
         voltages.now) (Rows allowed)
-        (spec.extendedOutputsOf (spec.outputsOf to.old active.old reactive.old work.old)
+        (spec.extended_outputs_of (spec.outputs_of to.old active.old reactive.old work.old)
         correction.old compensation.old) 0 }
 {
     let k = buses.len();
@@ -197,16 +197,16 @@ pub fn corrected(
     compensation: &mut [f64],
     work: &mut [f64],
 ) -> WardAnswer
-    requires { (listed.CheckedStudy n y.now buses.now e f p.now q.now (spec.outputsOf to.old active.old reactive.old work.old))
+    requires { (listed.CheckedStudy n y.now buses.now e f p.now q.now (spec.outputs_of to.old active.old reactive.old work.old))
         × (length voltages.now ≡ e)
         × (length correction.old ≡ length buses.now - f)
         × (length compensation.old ≡ length buses.now - f) }
-    ensures { spec.afterExtended result (spec.outputsOf to.new active.new reactive.new work.new)
+    ensures { spec.after_extended result (spec.outputs_of to.new active.new reactive.new work.new)
         correction.new compensation.new
-        ≡ studied.studiedExtended
-        (listed.extendedOf (listed.cut n y.now buses.now e f base p.now q.now)
+        ≡ studied.studied_extended
+        (listed.extended_of (listed.cut n y.now buses.now e f base p.now q.now)
         voltages.now) (Rows allowed)
-        (spec.extendedOutputsOf (spec.outputsOf to.old active.old reactive.old work.old)
+        (spec.extended_outputs_of (spec.outputs_of to.old active.old reactive.old work.old)
         correction.old compensation.old) 0 }
 {
     let b = buses.len() - f;

@@ -1,12 +1,12 @@
 // Whether the numbers that a study is given are finite: told last of its input, with 19.
 ghost use Rattle.std.specs.Prelude.{◌≡◌, ◌∷◌, ◌++◌};
-ghost use Rattle.binary64.specs.Values.{allFinite};
+ghost use Rattle.binary64.specs.Values.{all_finite};
 
 use binary64::finite::{all_finite, finite};
 
 // The matrix, also for buses in no list, the base and the injections.
 pub fn given_finite(y: &[f64], base: f64, p: &[f64], q: &[f64]) -> bool
-    ensures { result ≡ allFinite (y.now ++ (base ∷ (p.now ++ q.now))) }
+    ensures { result ≡ all_finite (y.now ++ (base ∷ (p.now ++ q.now))) }
 {
     if !all_finite(y) {
         return false;
@@ -22,7 +22,7 @@ pub fn given_finite(y: &[f64], base: f64, p: &[f64], q: &[f64]) -> bool
 
 // The voltages too.
 pub fn extended_finite(y: &[f64], base: f64, p: &[f64], q: &[f64], voltages: &[f64]) -> bool
-    ensures { result ≡ allFinite (y.now ++ (base ∷ (p.now ++ q.now)) ++ voltages.now) }
+    ensures { result ≡ all_finite (y.now ++ (base ∷ (p.now ++ q.now)) ++ voltages.now) }
 {
     if !given_finite(y, base, p, q) {
         return false;

@@ -27,7 +27,7 @@ pub struct Lengths {
 
 // More buses than the limit, or a longer list.
 fn over_limit(l: Lengths) -> bool
-    ensures { result ≡ spec.overLimit l }
+    ensures { result ≡ spec.over_limit l }
 {
     if l.size > LIMIT {
         return true;
@@ -55,8 +55,8 @@ fn over_limit(l: Lengths) -> bool
 
 // A slice not of its exact length, or not one number a bus.
 fn wrong_lengths(l: Lengths) -> bool
-    requires { spec.overLimit l ≡ false }
-    ensures { result ≡ spec.wrongLengths l }
+    requires { spec.over_limit l ≡ false }
+    ensures { result ≡ spec.wrong_lengths l }
 {
     let n = l.size;
     let e = l.external;
@@ -103,7 +103,7 @@ fn unmatched(l: Lengths) -> bool
 
 // The refusals 1, 2 and 3, or 0.
 pub fn length_refusal(l: Lengths) -> u32
-    ensures { result ≡ spec.lengthRefusal l 0 }
+    ensures { result ≡ spec.length_refusal l 0 }
 {
     if over_limit(l) {
         return TOO_MANY;

@@ -41,11 +41,11 @@ pub fn compute(
     q_ward: &mut [f64],
     work: &mut [f64],
 ) -> WardAnswer
-    ensures { (spec.afterWard result y_ward.new p_ward.new q_ward.new work.new
-        ≡ ward.afterCompute (ward.numberedOf numbers.now
-        (spec.studyOf n y.now internal.now external.now boundary.now base_mva
+    ensures { (spec.after_ward result y_ward.new p_ward.new q_ward.new work.new
+        ≡ ward.after_compute (ward.numbered_of numbers.now
+        (spec.study_of n y.now internal.now external.now boundary.now base_mva
         p_ext.now q_ext.now)) allowance
-        (spec.outputsOf y_ward.old p_ward.old q_ward.old work.old))
+        (spec.outputs_of y_ward.old p_ward.old q_ward.old work.old))
         × F64s y.now }
 {
     let told = length_refusal(Lengths {
@@ -118,14 +118,14 @@ pub fn compute_extended(
     q_compensation: &mut [f64],
     work: &mut [f64],
 ) -> WardAnswer
-    ensures { (spec.afterExtended result (spec.outputsOf y_ward.new p_ward.new q_ward.new work.new)
+    ensures { (spec.after_extended result (spec.outputs_of y_ward.new p_ward.new q_ward.new work.new)
         voltage_correction.new q_compensation.new
-        ≡ ward.afterComputeExtended
-        (ward.numberedExtendedOf
-        (ward.numberedOf numbers.now
-        (spec.studyOf n y.now internal.now external.now boundary.now base_mva
+        ≡ ward.after_compute_extended
+        (ward.numbered_extended_of
+        (ward.numbered_of numbers.now
+        (spec.study_of n y.now internal.now external.now boundary.now base_mva
         p_ext.now q_ext.now)) v_ext.now) allowance
-        (spec.extendedOutputsOf (spec.outputsOf y_ward.old p_ward.old q_ward.old work.old)
+        (spec.extended_outputs_of (spec.outputs_of y_ward.old p_ward.old q_ward.old work.old)
         voltage_correction.old q_compensation.old))
         × F64s y.now }
 {

@@ -27,8 +27,8 @@ fn repeats(list: &[usize]) -> bool
 // The rows of the external, the internal and the boundary buses one after the other, at the front of a longer list; the rest of it stays.
 fn join_rows(ns: &[u32], internal: &[u32], external: &[u32], boundary: &[u32], rows: &mut [usize])
     requires { length external.now + (length internal.now + length boundary.now) ≤ length rows.old }
-    ensures { rows.new ≡ (buses.rowsIn ns.now external.now ++
-        (buses.rowsIn ns.now internal.now ++ buses.rowsIn ns.now boundary.now))
+    ensures { rows.new ≡ (buses.rows_in ns.now external.now ++
+        (buses.rows_in ns.now internal.now ++ buses.rows_in ns.now boundary.now))
         ++ drop (length external.now + (length internal.now + length boundary.now)) rows.old }
 {
     let e = external.len();
@@ -48,10 +48,10 @@ pub fn placed(
     rows: &mut [usize],
 ) -> u32
     requires { length external.now + (length internal.now + length boundary.now) ≤ length rows.old }
-    ensures { (rows.new ≡ (buses.rowsIn ns.now external.now ++
-        (buses.rowsIn ns.now internal.now ++ buses.rowsIn ns.now boundary.now))
+    ensures { (rows.new ≡ (buses.rows_in ns.now external.now ++
+        (buses.rows_in ns.now internal.now ++ buses.rows_in ns.now boundary.now))
         ++ drop (length external.now + (length internal.now + length boundary.now)) rows.old)
-        × (result ≡ ward.busRefusal ns.now (external.now ++ (internal.now ++ boundary.now))) }
+        × (result ≡ ward.bus_refusal ns.now (external.now ++ (internal.now ++ boundary.now))) }
 {
     join_rows(ns, internal, external, boundary, rows);
     let k = external.len() + (internal.len() + boundary.len());

@@ -53,7 +53,7 @@ fn fill_at(y: &[f64], n: usize, buses: &[usize], e: usize, k: usize, c: Complex,
         × (k < e)
         × (length work.old ≡ 2 * (e * (length buses.now + 1))) }
     ensures { (r j : ℕ) → j < length buses.now + 1 → matrices.entry_at (length buses.now + 1) work.new r j
-        ≡ with_row k (spec.workRow n y.now buses.now k c)
+        ≡ with_row k (spec.work_row n y.now buses.now k c)
         (matrices.entry_at (length buses.now + 1) work.old) r j }
 {
     let w = buses.len() + 1;
@@ -78,7 +78,7 @@ pub fn fill(
         × (length q.now ≡ e)
         × (length work.old ≡ 2 * (e * (length buses.now + 1))) }
     ensures { (k j : ℕ) → k < e → j < length buses.now + 1 → matrices.entry_at (length buses.now + 1) work.new k j
-        ≡ spec.workMatrix n y.now buses.now base p.now q.now k j }
+        ≡ spec.work_matrix n y.now buses.now base p.now q.now k j }
 {
     let mut k = 0;
     while k < e {
@@ -96,7 +96,7 @@ pub fn fill_column(y: &[f64], n: usize, outer: &[usize], bus: usize, front: &mut
     requires { (spec.Listing n y.now outer.now) × (bus < n) × (length front.old ≡ 2 * (length outer.now * (length outer.now + 1))) }
     ensures { (k j : ℕ) → k < length outer.now → j < length outer.now + 1
         → matrices.entry_at (length outer.now + 1) front.new k j
-        ≡ spec.workRow n y.now outer.now k
+        ≡ spec.work_row n y.now outer.now k
         (matrices.entry_at n y.now (get_or outer.now k 0) bus) j }
 {
     let e = outer.len();
@@ -169,7 +169,7 @@ fn add_products(
         × (spec.ExternalRows outer.now w work.now)
         × (first + r ≤ w)
         × (length to.old ≡ 2 * r)
-        × ((q : ℕ) → q < r → entry to.old q ≡ spec.productTo n y.now outer.now w work.now bus (first + q) 0) }
+        × ((q : ℕ) → q < r → entry to.old q ≡ spec.product_to n y.now outer.now w work.now bus (first + q) 0) }
     ensures { (q : ℕ) → q < r → entry to.new q
         ≡ spec.product n y.now outer.now w work.now bus (first + q) }
 {
@@ -214,7 +214,7 @@ fn reduce_row(
         × (first + length kept.now ≤ w)
         × (length to.old ≡ 2 * length kept.now) }
     ensures { (q : ℕ) → q < length kept.now → entry to.new q
-        ≡ spec.lessProduct n y.now outer.now kept.now w work.now first bus q }
+        ≡ spec.less_product n y.now outer.now kept.now w work.now first bus q }
 {
     clear(to);
     add_products(y, n, bus, outer, work, w, first, kept.len(), to);
@@ -240,7 +240,7 @@ fn reduce_at(
         × (p < length kept.now)
         × (length to.old ≡ 2 * (length kept.now * length kept.now)) }
     ensures { (r q : ℕ) → q < length kept.now → matrices.entry_at (length kept.now) to.new r q
-        ≡ with_row p (spec.lessProduct n y.now outer.now kept.now w work.now first
+        ≡ with_row p (spec.less_product n y.now outer.now kept.now w work.now first
         (get_or kept.now p 0)) (matrices.entry_at (length kept.now) to.old) r q }
 {
     let r = kept.len();
@@ -276,7 +276,7 @@ pub fn reduced(
         × (length to.old ≡ 2 * (length kept.now * length kept.now)) }
     ensures { (p q : ℕ) → p < length kept.now → q < length kept.now → matrices.entry_at (length kept.now)
         to.new p q
-        ≡ spec.lessProduct n y.now outer.now kept.now w work.now first
+        ≡ spec.less_product n y.now outer.now kept.now w work.now first
         (get_or kept.now p 0) q }
 {
     let mut p = 0;
@@ -291,7 +291,7 @@ fn pick_at(y: &[f64], n: usize, kept: &[usize], p: usize, to: &mut [f64])
         × (p < length kept.now)
         × (length to.old ≡ 2 * (length kept.now * length kept.now)) }
     ensures { (r q : ℕ) → q < length kept.now → matrices.entry_at (length kept.now) to.new r q
-        ≡ with_row p (spec.pickedRow n y.now kept.now p)
+        ≡ with_row p (spec.picked_row n y.now kept.now p)
         (matrices.entry_at (length kept.now) to.old) r q }
 {
     let r = kept.len();
@@ -355,10 +355,10 @@ pub fn injections(
         × (length active.old ≡ length boundary.now)
         × (length reactive.old ≡ length boundary.now) }
     ensures { (active.new ≡ map
-        (λ (i : ℕ). ward.injectedP base (spec.product n y.now outer.now w work.now i c))
+        (λ (i : ℕ). ward.injected_p base (spec.product n y.now outer.now w work.now i c))
         boundary.now)
         × (reactive.new
-        ≡ map (λ (i : ℕ). ward.injectedQ base (spec.product n y.now outer.now w work.now i c))
+        ≡ map (λ (i : ℕ). ward.injected_q base (spec.product n y.now outer.now w work.now i c))
         boundary.now) }
 {
     let mut t = 0;

@@ -4,7 +4,7 @@
 // right side; behind it the solved columns are kept, e rows of one entry a retained bus.
 ghost use Rattle.std.specs.Prelude.{◌≡◌, cond, ◌++◌, ℕ, ◌+◌, ◌*◌, ◌-◌, ◌<◌, ◌≤◌, T, eqb, length, get_or, take, drop};
 ghost use Rattle.std.specs.Float.Ieee.Scale as scale;
-ghost use Rattle.binary64.specs.Values.{allFinite};
+ghost use Rattle.binary64.specs.Values.{all_finite};
 ghost use Rattle.complex.specs.Entries.{entry};
 ghost use Rattle.complex.specs.Matrices.{entry_at, zeros};
 ghost use Rattle.refusals.specs.Refusals.{limit};
@@ -16,7 +16,7 @@ ghost use Rattle.ward_equivalent.specs.declared.sequence.Decided.TheVariants.{Re
 ghost use Rattle.ward_equivalent.specs.Arithmetic as ward;
 ghost use Rattle.ward_equivalent.specs.Steps as steps;
 ghost use Rattle.ward_equivalent.specs.Calls as spec;
-ghost use Rattle.ward_equivalent.specs.Inner.Work.{Listing, ExternalRows, product, lessProduct};
+ghost use Rattle.ward_equivalent.specs.Inner.Work.{Listing, ExternalRows, product, less_product};
 ghost use Rattle.ward_equivalent.specs.Inner.Listed as listed;
 ghost use Rattle.ward_equivalent.specs.Inner.Sequence as sequence;
 
@@ -60,11 +60,11 @@ fn solve_column(
         × (length outer.now ≤ limit)
         × (length front.old ≡ 2 * (length outer.now * (length outer.now + 1)))
         × (length solution.old ≡ 2 * length outer.now)
-        × T (allFinite y.now) }
-    ensures { (Ended left result (steps.stepsOfColumn (sequence.columnsInput n y.now outer.now) bus))
+        × T (all_finite y.now) }
+    ensures { (Ended left result (steps.steps_of_column (sequence.columns_input n y.now outer.now) bus))
         × ((rest : ℕ) → result ≡ Done rest → (k : ℕ) → k < length outer.now → entry solution.new k
-        ≡ solve (length outer.now) (sequence.externalPart n y.now outer.now)
-        (sequence.externalColumn n y.now outer.now bus) k) }
+        ≡ solve (length outer.now) (sequence.external_part n y.now outer.now)
+        (sequence.external_column n y.now outer.now bus) k) }
 {
     let e = outer.len();
     let w = e + 1;
@@ -95,14 +95,14 @@ fn keep_column(
         × (q < r)
         × (r ≤ limit)
         × (length work.old ≡ 2 * (length outer.now * (length outer.now + 1)) + 2 * (length outer.now * r))
-        × T (allFinite y.now)
+        × T (all_finite y.now)
         × (length solution.old ≡ 2 * length outer.now) }
-    ensures { (Ended left result (steps.stepsOfColumn (sequence.columnsInput n y.now outer.now) bus))
+    ensures { (Ended left result (steps.steps_of_column (sequence.columns_input n y.now outer.now) bus))
         × ((rest : ℕ) → result ≡ Done rest → (k c : ℕ) → k < length outer.now → c < r
         → entry_at r (drop (2 * (length outer.now * (length outer.now + 1))) work.new) k c
         ≡ cond (eqb c q)
-        (solve (length outer.now) (sequence.externalPart n y.now outer.now)
-        (sequence.externalColumn n y.now outer.now bus) k)
+        (solve (length outer.now) (sequence.external_part n y.now outer.now)
+        (sequence.external_column n y.now outer.now bus) k)
         (entry_at r (drop (2 * (length outer.now * (length outer.now + 1))) work.old) k c)) }
 {
     let e = outer.len();
@@ -131,10 +131,10 @@ fn keep_columns(
         × (length outer.now ≤ limit)
         × (length kept.now ≤ limit)
         × (length work.old ≡ 2 * (length outer.now * (length outer.now + 1)) + 2 * (length outer.now * length kept.now))
-        × T (allFinite y.now)
+        × T (all_finite y.now)
         × (length solution.old ≡ 2 * length outer.now) }
     ensures { (Ended allowed result
-        (steps.ofEach (steps.stepsOfColumn (sequence.columnsInput n y.now outer.now)) kept.now))
+        (steps.of_each (steps.steps_of_column (sequence.columns_input n y.now outer.now)) kept.now))
         × ((rest : ℕ) → result ≡ Done rest
         → sequence.ColumnsApart n y.now outer.now kept.now (length kept.now) work.new) }
 {
@@ -176,7 +176,7 @@ fn row_finite(
         × (ExternalRows outer.now w work.now)
         × (length kept.now ≤ w) }
     ensures { sequence.Tells result ((q : ℕ) → q < length kept.now → sequence.FinitePair
-        (lessProduct n y.now outer.now kept.now w work.now 0 bus q)) }
+        (less_product n y.now outer.now kept.now w work.now 0 bus q)) }
 {
     let mut q = 0;
     while q < kept.len() {
@@ -207,7 +207,7 @@ fn entries_finite(
         × (ExternalRows outer.now w work.now)
         × (length kept.now ≤ w) }
     ensures { sequence.Tells result ((p : ℕ) → p < length kept.now → (q : ℕ) → q < length kept.now → sequence.FinitePair
-        (lessProduct n y.now outer.now kept.now w work.now 0 (get_or kept.now p 0) q)) }
+        (less_product n y.now outer.now kept.now w work.now 0 (get_or kept.now p 0) q)) }
 {
     let mut p = 0;
     while p < kept.len() {
@@ -235,11 +235,11 @@ fn solve_currents(
         × (length p.now ≡ length outer.now)
         × (length q.now ≡ length outer.now)
         × (length front.old ≡ 2 * (length outer.now * (length outer.now + 1)))
-        × T (allFinite y.now) }
+        × T (all_finite y.now) }
     ensures { (Ended left result
-        (computing (steps.ofCurrents (sequence.solvesInput n y.now outer.now base p.now q.now)
+        (computing (steps.of_currents (sequence.solves_input n y.now outer.now base p.now q.now)
         (length outer.now))
-        ++ steps.stepsOfCurrents (sequence.solvesInput n y.now outer.now base p.now q.now)))
+        ++ steps.steps_of_currents (sequence.solves_input n y.now outer.now base p.now q.now)))
         × ((rest : ℕ) → result ≡ Done rest
         → sequence.CurrentsApart n y.now outer.now base p.now q.now front.new) }
 {
@@ -267,9 +267,9 @@ fn injections_finite(
         × (ExternalRows outer.now w work.now)
         × (c < w) }
     ensures { sequence.Tells result ((t : ℕ) → t < length boundary.now →
-        T (scale.finite (ward.injectedP base
+        T (scale.finite (ward.injected_p base
         (product n y.now outer.now w work.now (get_or boundary.now t 0) c)))
-        × T (scale.finite (ward.injectedQ base
+        × T (scale.finite (ward.injected_q base
         (product n y.now outer.now w work.now (get_or boundary.now t 0) c)))) }
 {
     let mut t = 0;
@@ -305,9 +305,9 @@ fn with_injections(
         × (length p.now ≡ length outer.now)
         × (length q.now ≡ length outer.now)
         × (length front.old ≡ 2 * (length outer.now * (length outer.now + 1)))
-        × T (allFinite y.now) }
+        × T (all_finite y.now) }
     ensures { (Ended left result
-        (sequence.stepsOfInjections n y.now outer.now boundary.now base p.now q.now))
+        (sequence.steps_of_injections n y.now outer.now boundary.now base p.now q.now))
         × ((rest : ℕ) → result ≡ Done rest
         → sequence.CurrentsApart n y.now outer.now base p.now q.now front.new) }
 {
@@ -344,10 +344,10 @@ fn behind_columns(
         × (length p.now ≡ length outer.now)
         × (length q.now ≡ length outer.now)
         × (length work.old ≡ 2 * (length outer.now * (length outer.now + 1)) + 2 * (length outer.now * length kept.now))
-        × T (allFinite y.now)
+        × T (all_finite y.now)
         × sequence.ColumnsApart n y.now outer.now kept.now (length kept.now) work.old }
     ensures { (Ended left result
-        (sequence.stepsBehind (sequence.keptStudy n y.now outer.now kept.now i base p.now
+        (sequence.steps_behind (sequence.kept_study n y.now outer.now kept.now i base p.now
         q.now)))
         × ((rest : ℕ) → result ≡ Done rest
         → sequence.ColumnsApart n y.now outer.now kept.now (length kept.now) work.new
@@ -385,9 +385,9 @@ fn one_by_one(
         × (length p.now ≡ length outer.now)
         × (length q.now ≡ length outer.now)
         × (length work.old ≡ 2 * (length outer.now * (length outer.now + 1)) + 2 * (length outer.now * length kept.now))
-        × T (allFinite y.now) }
+        × T (all_finite y.now) }
     ensures { (Ended allowed result
-        (steps.steps_of (sequence.keptStudy n y.now outer.now kept.now i base p.now
+        (steps.steps_of (sequence.kept_study n y.now outer.now kept.now i base p.now
         q.now)))
         × ((rest : ℕ) → result ≡ Done rest
         → sequence.ColumnsApart n y.now outer.now kept.now (length kept.now) work.new

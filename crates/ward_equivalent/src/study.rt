@@ -32,10 +32,10 @@ fn unreduced(
     reactive: &mut [f64],
     work: &mut [f64],
 ) -> WardAnswer
-    requires { listed.CheckedStudy n y.now buses.now 0 f p.now q.now (spec.outputsOf to.old active.old reactive.old work.old) }
-    ensures { spec.afterWard result to.new active.new reactive.new work.new
+    requires { listed.CheckedStudy n y.now buses.now 0 f p.now q.now (spec.outputs_of to.old active.old reactive.old work.old) }
+    ensures { spec.after_ward result to.new active.new reactive.new work.new
         ≡ ward.studied (listed.cut n y.now buses.now 0 f base p.now q.now) (Rows allowed)
-        (spec.outputsOf to.old active.old reactive.old work.old) 0 }
+        (spec.outputs_of to.old active.old reactive.old work.old) 0 }
 {
     rows::submatrix(y, n, buses, to);
     clear(active);
@@ -83,10 +83,10 @@ fn filled(
     reactive: &mut [f64],
     work: &mut [f64],
 ) -> WardAnswer
-    requires { (listed.StudySlices n y.now buses.now e f (spec.outputsOf to.old active.old reactive.old work.old))
+    requires { (listed.StudySlices n y.now buses.now e f (spec.outputs_of to.old active.old reactive.old work.old))
         × (listed.HeldIn (length buses.now) e held (length work.old)) }
-    ensures { spec.afterWard result to.new active.new reactive.new work.new
-        ≡ listed.outputsFrom n y.now buses.now e f base reduced (length work.old)
+    ensures { spec.after_ward result to.new active.new reactive.new work.new
+        ≡ listed.outputs_from n y.now buses.now e f base reduced (length work.old)
         (drop held.start work.old) held.v held.first (take held.end work.old) held.w held.c }
 {
     let k = buses.len();
@@ -142,10 +142,10 @@ fn eliminated(
     work: &mut [f64],
 ) -> WardAnswer
     requires { (0 < e)
-        × (listed.CheckedStudy n y.now buses.now e f p.now q.now (spec.outputsOf to.old active.old reactive.old work.old)) }
-    ensures { spec.afterWard result to.new active.new reactive.new work.new
+        × (listed.CheckedStudy n y.now buses.now e f p.now q.now (spec.outputs_of to.old active.old reactive.old work.old)) }
+    ensures { spec.after_ward result to.new active.new reactive.new work.new
         ≡ ward.studied (listed.cut n y.now buses.now e f base p.now q.now) (Rows allowed)
-        (spec.outputsOf to.old active.old reactive.old work.old) 0 }
+        (spec.outputs_of to.old active.old reactive.old work.old) 0 }
 {
     let k = buses.len();
     let a = 2 * (e * (e + 1));
@@ -195,7 +195,7 @@ pub fn uncorrected(
     work: &mut [f64],
 ) -> WardAnswer
     requires { listed.StudyGiven n y.now buses.now e f p.now q.now work.old }
-    ensures { (result ≡ listed.uncorrectedAnswer
+    ensures { (result ≡ listed.uncorrected_answer
         (meets allowed (steps_of (listed.cut n y.now buses.now e f base p.now q.now))))
         × (work.new ≡ zeros (length work.old)) }
 {
@@ -228,10 +228,10 @@ pub fn study(
     reactive: &mut [f64],
     work: &mut [f64],
 ) -> WardAnswer
-    requires { listed.CheckedStudy n y.now buses.now e f p.now q.now (spec.outputsOf to.old active.old reactive.old work.old) }
-    ensures { spec.afterWard result to.new active.new reactive.new work.new
+    requires { listed.CheckedStudy n y.now buses.now e f p.now q.now (spec.outputs_of to.old active.old reactive.old work.old) }
+    ensures { spec.after_ward result to.new active.new reactive.new work.new
         ≡ ward.studied (listed.cut n y.now buses.now e f base p.now q.now) (Rows allowed)
-        (spec.outputsOf to.old active.old reactive.old work.old) 0 }
+        (spec.outputs_of to.old active.old reactive.old work.old) 0 }
 {
     if e == 0 {
         return unreduced(

@@ -2,14 +2,14 @@
 use Rattle.prelude.proofs.Prelude.{sym, ◌∙◌, needs, length}
 use Rattle.refusals.proofs.Answering.{outcome-refused, outcome-done, held-refused, held-done}
 use Rattle.admittance.specs.Building.{data_of}
-use Rattle.admittance.specs.Inner.ByRows.{listsOutput}
+use Rattle.admittance.specs.Inner.ByRows.{lists_output}
 use Rattle.admittance.proofs.Accepting.{lengths-accepted}
 use Rattle.admittance.proofs.Building.{lists-ready, by-rows-is, branches-ready, shunts-ready, left}
 use Rattle.admittance.proofs.build_by.Statement.{statement}
 use Rattle.admittance.proofs.build_by.Tie as tie
 
 returns : tie.Need-returns
-unfolding listsOutput
+unfolding lists_output
 returns c =
     let s = c.before.before.before.before.before.before.before.before.before.before.before.before.before.before.before.before.before.before.before.before.before.before.before.before.before.before in
     let D = data_of s.args.numbers.now s.args.from.now s.args.to.now s.args.status.now s.args.r.now s.args.x.now s.args.b.now s.args.tap.now s.args.shift.now s.args.gs.now s.args.bs.now s.args.base in
@@ -29,7 +29,7 @@ add-shunts-requires c κs =
     shunts-ready D _ s.requires.0 _ _ c.before.before.before.before.before.before.before.before.before.before.before.before.before.before.before.before.before.before.before.before.before.rows_of_lem.ensures c.before.before.before.before.before.before.before.before.before.before.before.before.before.before.before.before.before.rows-of2.ensures _ c.before.before.before.before.before.before.before.before.before.before.before.before.lists-refusal.ensures c.before.before.before.before.before.before.before.before.before.before.before.if1.false _ c.before.before.before.before.before.before.before.before.before.clear.ensures _ c.before.before.before.add-branches.ensures
 
 returns-2 : tie.Need-returns-2
-unfolding listsOutput
+unfolding lists_output
 returns-2 c =
     let s = c.before.before.before.before.before.before.before.before.before.before.before.before.before.before.before.before.before.before.before.before.before.before.before.before.before.before.before.before.before.before.before.before.before.before.before.before.before.before.before.before in
     let D = data_of s.args.numbers.now s.args.from.now s.args.to.now s.args.status.now s.args.r.now s.args.x.now s.args.b.now s.args.tap.now s.args.shift.now s.args.gs.now s.args.bs.now s.args.base in

@@ -1,21 +1,21 @@
 -- `admittance::build_y_bus` meets its contract: the lengths, then the rest.
 use Rattle.prelude.proofs.Prelude.{sym, ◌∙◌, arith, needs, length}
 use Rattle.refusals.proofs.Answering.{outcome-refused, held-refused}
-use Rattle.admittance.specs.Building.{data_of, buildRefusal, builtOutput}
-use Rattle.admittance.specs.Inner.ByRows.{listsOutput}
+use Rattle.admittance.specs.Building.{data_of, build_refusal, built_output}
+use Rattle.admittance.specs.Inner.ByRows.{lists_output}
 use Rattle.admittance.proofs.Accepting.{lengths-accepted, exact-size}
 use Rattle.admittance.proofs.Steps.{told-first, told-rest, output-rest}
 use Rattle.admittance.proofs.build_y_bus.Statement.{statement}
 use Rattle.admittance.proofs.build_y_bus.Tie as tie
 
 returns : tie.Need-returns
-unfolding buildRefusal builtOutput
+unfolding build_refusal built_output
 returns c =
     let e = told-first _ _ _ c.before.lengths-refusal.ensures c.if1.true in
     (outcome-refused _ _ e c.if1.true, held-refused _ _ _ _ e c.if1.true)
 
 returns-2 : tie.Need-returns-2
-unfolding buildRefusal builtOutput listsOutput
+unfolding build_refusal built_output lists_output
 returns-2 c =
     let z = sym c.before.before.before.before.before.before.before.before.before.lengths-refusal.ensures ∙ c.before.before.before.before.before.before.before.before.if1.false in
     (told-rest _ _ _ z c.before.before.before.before.build-by.ensures.0, output-rest _ _ _ _ _ z c.before.before.before.before.build-by.ensures.1)

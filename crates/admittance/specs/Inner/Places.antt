@@ -5,39 +5,39 @@ use Rattle.complex.specs.declared.Complex.{Complex}
 use Rattle.complex.specs.Arithmetic.{cadd}
 use Rattle.complex.specs.Entries.{entry, put}
 use Rattle.admittance.specs.declared.branch.Terms.{Terms}
-use Rattle.admittance.specs.Branch.{termsOf}
-use Rattle.admittance.specs.Sums.{serves, hasShunt, shunt}
+use Rattle.admittance.specs.Branch.{terms_of}
+use Rattle.admittance.specs.Sums.{serves, has_shunt, shunt}
 
 -- c added to the number in place p
 unfoldable pub plus : List Float → ℕ → Complex → List Float
 plus ys p c = put ys p (cadd (entry ys p) c)
 
 -- a branch between rows i and j, which begin at f and t
-unfoldable pub joinedAt : List Float → ℕ → ℕ → ℕ → ℕ → Terms → List Float
-joinedAt ys f t i j terms =
+unfoldable pub joined_at : List Float → ℕ → ℕ → ℕ → ℕ → Terms → List Float
+joined_at ys f t i j terms =
     plus (plus (plus (plus ys (f + i) terms.from) (t + j) terms.to) (f + j) terms.across) (t + i) terms.across
 
 -- one of n rows, added where it is in service
-unfoldable pub addBranch : ℕ → List Float → Bool → ℕ → ℕ → Terms → List Float
-addBranch n ys on f t terms = cond on (joinedAt ys (f * n) (t * n) f t terms) ys
+unfoldable pub add_branch : ℕ → List Float → Bool → ℕ → ℕ → Terms → List Float
+add_branch n ys on f t terms = cond on (joined_at ys (f * n) (t * n) f t terms) ys
 
 -- the first k branches
-unfoldable pub branchesAt : ℕ → List Float → List ℕ → List ℕ → List Bool → List Float → List Float → List Float → List Float → ℕ
+unfoldable pub branches_at : ℕ → List Float → List ℕ → List ℕ → List Bool → List Float → List Float → List Float → List Float → ℕ
     → List Float
-branchesAt n ys froms tos status r x b tap zero = ys
-branchesAt n ys froms tos status r x b tap (suc k) =
-    addBranch n (branchesAt n ys froms tos status r x b tap k) (serves status k) (get_or froms k 0) (get_or tos k 0)
-    (termsOf (get_or r k nan) (get_or x k nan) (get_or b k nan) (get_or tap k nan))
+branches_at n ys froms tos status r x b tap zero = ys
+branches_at n ys froms tos status r x b tap (suc k) =
+    add_branch n (branches_at n ys froms tos status r x b tap k) (serves status k) (get_or froms k 0) (get_or tos k 0)
+    (terms_of (get_or r k nan) (get_or x k nan) (get_or b k nan) (get_or tap k nan))
 
 -- a shunt, where there is one
-unfoldable pub plusShunt : List Float → ℕ → Bool → Complex → List Float
-plusShunt ys p some c = cond some (plus ys p c) ys
+unfoldable pub plus_shunt : List Float → ℕ → Bool → Complex → List Float
+plus_shunt ys p some c = cond some (plus ys p c) ys
 
 -- the first i shunts
-unfoldable pub shuntsAt : ℕ → List Float → List Float → List Float → Float → ℕ → List Float
-shuntsAt n ys gs bs base zero = ys
-shuntsAt n ys gs bs base (suc i) =
-    plusShunt (shuntsAt n ys gs bs base i) (i * n + i) (hasShunt gs bs base i) (shunt gs bs base i)
+unfoldable pub shunts_at : ℕ → List Float → List Float → List Float → Float → ℕ → List Float
+shunts_at n ys gs bs base zero = ys
+shunts_at n ys gs bs base (suc i) =
+    plus_shunt (shunts_at n ys gs bs base i) (i * n + i) (has_shunt gs bs base i) (shunt gs bs base i)
 
 -- lists as long as the first
 abbrev pub Alike : ℕ → ℕ → ℕ → ℕ → ℕ → ℕ → ℕ → Type 0

@@ -1,7 +1,7 @@
 -- `bytes::put_half` meets its contract.
 use Rattle.prelude.proofs.Prelude.{arith, needs, length-set}
 use native.Mathlib.Numerals.{towards_suc}
-use Rattle.bytes.specs.Bytes.{bytes_of, putWord}
+use Rattle.bytes.specs.Bytes.{bytes_of, put_word}
 use Rattle.bytes.proofs.put_half.Statement.{statement}
 use Rattle.bytes.proofs.put_half.Tie as tie
 
@@ -15,7 +15,7 @@ slice-write-s-4 : tie.Need-slice-write-s-4
 slice-write-s-4 c = simp length-set (omega arith)
 
 returns : tie.Need-returns
-unfolding putWord bytes_of
+unfolding put_word bytes_of
 returns c = simp towards_suc
 
 pub put-half-spec : {M : Type 1} → statement M

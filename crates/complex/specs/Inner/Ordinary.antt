@@ -5,17 +5,17 @@ use Rattle.std.specs.Float.{binary64}
 use Rattle.std.specs.Float.Ieee.{of_bits, lt, neg}
 
 -- 2^200
-unfoldable pub ordinaryLimit : Float
-ordinaryLimit = of_bits binary64 0x4c70000000000000
+unfoldable pub ordinary_limit : Float
+ordinary_limit = of_bits binary64 0x4c70000000000000
 
 -- 2^-400
-unfoldable pub ordinarySquare : Float
-ordinarySquare = of_bits binary64 0x26f0000000000000
+unfoldable pub ordinary_square : Float
+ordinary_square = of_bits binary64 0x26f0000000000000
 
 -- below 2^200 in absolute value
 unfoldable pub ordinary : Float → Bool
-ordinary x = lt x ordinaryLimit && lt (neg ordinaryLimit) x
+ordinary x = lt x ordinary_limit && lt (neg ordinary_limit) x
 
-unfoldable pub allOrdinary : List Float → Bool
-allOrdinary [] = true
-allOrdinary (x ∷ xs) = ordinary x && allOrdinary xs
+unfoldable pub all_ordinary : List Float → Bool
+all_ordinary [] = true
+all_ordinary (x ∷ xs) = ordinary x && all_ordinary xs

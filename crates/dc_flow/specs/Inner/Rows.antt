@@ -4,7 +4,7 @@ use Rattle.std.specs.Prelude.{ℕ, ◌<◌, Bool, cond, ◌≡◌, List, eqb, le
 use Rattle.std.specs.Float.{nan}
 use Rattle.complex.specs.Arithmetic.{◌⊖◌}
 use Rattle.lists.specs.Buses.{mem}
-use Rattle.dc_flow.specs.Dc.{outageFactor}
+use Rattle.dc_flow.specs.Dc.{outage_factor}
 
 -- the mark of bus k: whether the list names it
 unfoldable pub mark_of : List ℕ → ℕ → ℕ
@@ -14,13 +14,13 @@ abbrev pub Marked : List ℕ → List ℕ → Type 0
 Marked list marks = (k : ℕ) → k < length marks → get_or marks k 0 ≡ mark_of list k
 
 -- what the branch with this row takes of a transfer from bus i to bus j
-abbrev pub rowTransfer : List Float → ℕ → ℕ → Float
-rowTransfer row i j = get_or row i nan ⊖ get_or row j nan
+abbrev pub row_transfer : List Float → ℕ → ℕ → Float
+row_transfer row i j = get_or row i nan ⊖ get_or row j nan
 
 -- the factor of the branch with this row for the outage of branch k, from the denominators; `same` tells that it is that branch
-abbrev pub rowFactor : Bool → List Float → List ℕ → List ℕ → List Float → ℕ → Float
-rowFactor same row froms tos ds k = outageFactor same (rowTransfer row (get_or froms k 0) (get_or tos k 0)) (get_or ds k nan)
+abbrev pub row_factor : Bool → List Float → List ℕ → List ℕ → List Float → ℕ → Float
+row_factor same row froms tos ds k = outage_factor same (row_transfer row (get_or froms k 0) (get_or tos k 0)) (get_or ds k nan)
 
 -- the factor of branch l for the outage of branch k, from row l and the denominators
-unfoldable pub rowOutage : ℕ → List Float → List ℕ → List ℕ → List Float → ℕ → Float
-rowOutage l row froms tos ds k = rowFactor (eqb l k) row froms tos ds k
+unfoldable pub row_outage : ℕ → List Float → List ℕ → List ℕ → List Float → ℕ → Float
+row_outage l row froms tos ds k = row_factor (eqb l k) row froms tos ds k

@@ -1,7 +1,7 @@
 -- `kron_reduction::active_buses` meets its contract.
 use Rattle.prelude.proofs.Prelude.{◌≡◌, sym, ap, ◌∙◌, arith, needs, length, take}
 use Rattle.refusals.specs.Refusals.{limit}
-use Rattle.kron_reduction.specs.Reading.{activeRefusal}
+use Rattle.kron_reduction.specs.Reading.{active_refusal}
 use Rattle.kron_reduction.proofs.Active.{Accepted, active-refused, active-accepted, active-done}
 use Rattle.kron_reduction.proofs.active_buses.Statement.{statement}
 use Rattle.kron_reduction.proofs.active_buses.Tie as tie
@@ -15,7 +15,7 @@ returns c =
 full : (c : tie.Start) → length c.args.r.active_buses ≡ limit
 full c = search needs
 
-accepted : (c : tie.After-active-refusal) → c.active-refusal.result ≡ 0 → activeRefusal c.before.before.args.r (length c.before.before.args.out.now) ≡ 0
+accepted : (c : tie.After-active-refusal) → c.active-refusal.result ≡ 0 → active_refusal c.before.before.args.r (length c.before.before.args.out.now) ≡ 0
 accepted c e = sym c.active-refusal.ensures ∙ e
 
 -- an accepted call

@@ -2,7 +2,7 @@
 use Rattle.prelude.proofs.Prelude.{◌≡◌, refl, sym, ◌∙◌, needs, length}
 use Rattle.refusals.specs.Refusals.{limit}
 use Rattle.refusals.proofs.Numbers.{given-before, given-not, given-all}
-use Rattle.kron_reduction.specs.Reading.{readingRefusal}
+use Rattle.kron_reduction.specs.Reading.{reading_refusal}
 use Rattle.kron_reduction.proofs.Reading.{reading-holds}
 use Rattle.kron_reduction.proofs.reading_refusal.Statement.{statement}
 use Rattle.kron_reduction.proofs.reading_refusal.Tie as tie
@@ -11,7 +11,7 @@ full : (c : tie.Start) → length c.args.r.active_buses ≡ limit
 full c = search needs
 
 returns : tie.Need-returns
-unfolding readingRefusal
+unfolding reading_refusal
 returns c = given-before _ _ _ (c.before.reading-shape-refusal.ensures _ refl) c.if1.true
 
 front-finite-requires : tie.Need-front-finite-requires
@@ -21,13 +21,13 @@ front-finite-requires c κs =
     (h.room, h.fits)
 
 returns-2 : tie.Need-returns-2
-unfolding readingRefusal
+unfolding reading_refusal
 returns-2 c =
     let t = c.before.before in
     given-all _ _ _ (t.before.reading-shape-refusal.ensures _ refl) t.if1.false (sym c.before.front-finite.ensures ∙ c.if2.true)
 
 returns-3 : tie.Need-returns-3
-unfolding readingRefusal
+unfolding reading_refusal
 returns-3 c =
     let t = c.before.before in
     given-not _ _ _ (t.before.reading-shape-refusal.ensures _ refl) t.if1.false (sym c.before.front-finite.ensures ∙ c.if2.false)

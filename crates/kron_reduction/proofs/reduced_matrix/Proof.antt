@@ -1,7 +1,7 @@
 -- `kron_reduction::reduced_matrix` meets its contract: the input is refused, or the present rows are copied.
 use Rattle.prelude.proofs.Prelude.{◌≡◌, sym, ◌∙◌, needs, length}
 use Rattle.refusals.specs.Refusals.{limit}
-use Rattle.kron_reduction.specs.Reading.{readingRefusal}
+use Rattle.kron_reduction.specs.Reading.{reading_refusal}
 use Rattle.kron_reduction.proofs.Reading.{matrix-refused, matrix-holds, matrix-same, matrix-done}
 use Rattle.kron_reduction.proofs.reduced_matrix.Statement.{statement}
 use Rattle.kron_reduction.proofs.reduced_matrix.Tie as tie
@@ -16,7 +16,7 @@ full : (c : tie.Start) → length c.args.r.active_buses ≡ limit
 full c = search needs
 
 accepted : (c : tie.After-reading-refusal) → c.reading-refusal.result ≡ 0
-    → readingRefusal 2 c.before.before.before.args.r c.before.before.before.args.y.now (length c.before.before.before.args.out.now) ≡ 0
+    → reading_refusal 2 c.before.before.before.args.r c.before.before.before.args.y.now (length c.before.before.before.args.out.now) ≡ 0
 accepted c e = sym c.reading-refusal.ensures ∙ e
 
 copy-rows-requires : tie.Need-copy-rows-requires

@@ -5,17 +5,17 @@ use borrow.Rule.Slice.PartMut.{same_len_mid}
 use Rattle.complex.specs.{zeros}
 use Rattle.lists.proofs.Parts.{back}
 use Rattle.refusals.specs.Refusals.{limit}
-use Rattle.lists.specs.Buses.{rowsIn}
-use Rattle.lists.proofs.Lookups.{length-rowsIn}
+use Rattle.lists.specs.Buses.{rows_in}
+use Rattle.lists.proofs.Lookups.{length-rows_in}
 use Rattle.kron_reduction.specs.Inner.Removal.{RemovedAll}
 use Rattle.kron_reduction.specs.declared.KronReducer.{KronReducer}
-use Rattle.kron_reduction.specs.Reducer.{reducerOf, numbersOf, rows_of}
+use Rattle.kron_reduction.specs.Reducer.{reducer_of, numbers_of, rows_of}
 use Rattle.kron_reduction.proofs.Calls.{Accepts, accepts-has, accepted-holds, buses-fewer, buses-none, buses-room, buses-some}
 use Rattle.kron_reduction.proofs.remove_accepted.Statement.{statement}
 use Rattle.kron_reduction.proofs.remove_accepted.Tie as tie
 
 abbrev parts : tie.Start → KronReducer
-parts s = reducerOf s.args.made s.args.n s.args.active.now s.args.numbers.now
+parts s = reducer_of s.args.made s.args.n s.args.active.now s.args.numbers.now
 
 has : (s : tie.Start) → Accepts (parts s) s.args.y.now (length s.args.buses.now)
 has s = accepts-has (parts s) s.args.y.now (length s.args.buses.now) s.requires.2
@@ -60,12 +60,12 @@ module _ (t : tie.After-remove-list) where
 
   -- the rows that were looked up
   looked : t.before.before.before.before.before.before.before.rows_of_lem.last.1.1.0 ≡ rows_of r ks
-  looked = t.before.before.before.before.before.before.before.rows_of_lem.ensures ∙ ap (λ (w : ℕ). rowsIn (take w r.numbers) ks) (sub-zero r.made)
+  looked = t.before.before.before.before.before.before.before.rows_of_lem.ensures ∙ ap (λ (w : ℕ). rows_in (take w r.numbers) ks) (sub-zero r.made)
 
   -- what the list of rows was, and what its removal left
   took : RemovedAll r.n_buses r.active_buses ys (rows_of r ks) t.remove-list.result bs zs
   took =
-      front (length ks) t.before.before.before.before.before.before.before.rows_of_lem.last.1.1.0 (drop (length ks - 0) (replicate limit 0)) (rows_of r ks) (ap length looked ∙ length-rowsIn (numbersOf r) ks) looked
+      front (length ks) t.before.before.before.before.before.before.before.rows_of_lem.last.1.1.0 (drop (length ks - 0) (replicate limit 0)) (rows_of r ks) (ap length looked ∙ length-rows_in (numbers_of r) ks) looked
       (λ (rs : List ℕ). RemovedAll r.n_buses r.active_buses ys rs t.remove-list.result bs zs) t.remove-list.ensures
 
   abbrev rest : ℕ

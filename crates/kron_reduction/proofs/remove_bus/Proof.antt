@@ -1,12 +1,12 @@
 -- `kron_reduction::remove_bus` meets its contract: it is a list of one.
 use Rattle.prelude.proofs.Prelude.{ap, needs}
 use Rattle.kron_reduction.specs.declared.AfterRemovals.{AfterRemovals}
-use Rattle.kron_reduction.specs.Reducer.{afterBus, afterBuses}
+use Rattle.kron_reduction.specs.Reducer.{after_bus, after_buses}
 use Rattle.kron_reduction.proofs.remove_bus.Statement.{statement}
 use Rattle.kron_reduction.proofs.remove_bus.Tie as tie
 
 returns : tie.Need-returns
-unfolding afterBus afterBuses
+unfolding after_bus after_buses
 returns c =
     let run = c.before.before.before.before in
     (ap (λ (t : AfterRemovals). record { answer = t.removals.answer; rec = t.rec }) run.remove-buses.ensures.0, run.remove-buses.ensures.1)

@@ -1,8 +1,8 @@
 -- `kron_reduction::remove_buses` meets its contract: the input is refused, by its shapes or by its numbers, or accepted and the list worked off.
 use Rattle.prelude.proofs.Prelude.{◌≡◌, refl, sym, ap, ◌∙◌, subst, ℕ, ◌-◌, arith, needs, T, length, not-true, not-false}
 use Rattle.refusals.specs.declared.Outcome.{Outcome}
-use Rattle.refusals.specs.Refusals.{limit, givenNotFinite}
-use Rattle.kron_reduction.specs.Reducer.{inputShapeRefusal, reducerOf}
+use Rattle.refusals.specs.Refusals.{limit, given_not_finite}
+use Rattle.kron_reduction.specs.Reducer.{input_shape_refusal, reducer_of}
 use Rattle.kron_reduction.specs.Inner.Removal.{Holds}
 use Rattle.kron_reduction.proofs.Calls.{shaped-holds, told-shape, told-not, told_none, buses-refused}
 use Rattle.kron_reduction.proofs.remove_buses.Statement.{statement}
@@ -19,7 +19,7 @@ module _ (c : tie.After-input-shape-refusal) where
   abbrev start : tie.Start
   start = c.before.before.before.before.before.before.before
 
-  told : c.input-shape-refusal.result ≡ inputShapeRefusal start.args.r start.args.y.now (length start.args.buses.now)
+  told : c.input-shape-refusal.result ≡ input_shape_refusal start.args.r start.args.y.now (length start.args.buses.now)
   told = c.input-shape-refusal.ensures start.args.y.now refl
 
 returns : tie.Need-returns
@@ -53,7 +53,7 @@ module _ (c : tie.After-given-finite) where
 returns-2 : tie.Need-returns-2
 returns-2 c =
     let g = c.before.before in let e = test g in let s = begun e in
-    let both = buses-refused s.args.r s.args.y.now s.args.buses.now givenNotFinite (λ (z : ◌≡◌ {A = ℕ} 19 0). omega arith)
+    let both = buses-refused s.args.r s.args.y.now s.args.buses.now given_not_finite (λ (z : ◌≡◌ {A = ℕ} 19 0). omega arith)
     (told-not s.args.r s.args.y.now (length s.args.buses.now) _ (told e.before) e.if1.left (sym g.given-finite.ensures ∙ not-true g.given-finite.result c.before.if2.true)) in
     (c.none-removed2.ensures ∙ both.0, both.1)
 
@@ -72,7 +72,7 @@ returns-3 c =
     let s = begun (test run.before.before.before.before.before) in
     let ran = run.remove-accepted.result in
     let after = run.remove-accepted.ensures in (
-      ap (λ (a : Outcome). record { removals = record { answer = a; removed = ran.done }; rec = reducerOf s.args.r.made (s.args.r.n_buses - ran.done) run.remove-accepted.new.1.1.0 s.args.r.numbers }) c.answer-of.ensures
+      ap (λ (a : Outcome). record { removals = record { answer = a; removed = ran.done }; rec = reducer_of s.args.r.made (s.args.r.n_buses - ran.done) run.remove-accepted.new.1.1.0 s.args.r.numbers }) c.answer-of.ensures
           ∙ after.1,
       after.2,
     )

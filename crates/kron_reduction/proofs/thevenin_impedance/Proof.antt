@@ -2,10 +2,10 @@
 use Rattle.prelude.proofs.Prelude.{◌≡◌, sym, ◌∙◌, ℕ, ◌≤◌, needs, T, length}
 use Rattle.refusals.specs.Refusals.{limit}
 use Rattle.lists.specs.declared.Found.TheVariants.{At}
-use Rattle.lists.specs.Buses.{foundIn}
-use Rattle.kron_reduction.specs.Reducer.{activeOf, sound, row_of}
+use Rattle.lists.specs.Buses.{found_in}
+use Rattle.kron_reduction.specs.Reducer.{active_of, sound, row_of}
 use Rattle.kron_reduction.specs.Inner.Removal.{Holds}
-use Rattle.kron_reduction.specs.Reading.{readingRefusal}
+use Rattle.kron_reduction.specs.Reading.{reading_refusal}
 use Rattle.kron_reduction.proofs.Taking.{took_lt}
 use Rattle.kron_reduction.proofs.Across.{impedance-refused, impedance-first, impedance-second, impedance-found, impedance-holds, impedance-room, impedance-sound, impedance-finite}
 use Rattle.kron_reduction.proofs.thevenin_impedance.Statement.{statement}
@@ -22,7 +22,7 @@ module _ (c : tie.Else1) where
   abbrev begun : tie.Start
   begun = c.before.before.before.before
 
-  accepted : readingRefusal 4 begun.args.r begun.args.y.now (length begun.args.work.now) ≡ 0
+  accepted : reading_refusal 4 begun.args.r begun.args.y.now (length begun.args.work.now) ≡ 0
   accepted = sym c.before.reading-refusal.ensures ∙ c.if1.false
 
   holds : Holds begun.args.r.n_buses begun.args.r.active_buses begun.args.y.now
@@ -49,7 +49,7 @@ module _ (c : tie.After-known-told) where
   abbrev first : ℕ
   first = c.before.i.given.0.0
 
-  found : foundIn (row_of start.args.r start.args.bus-i) (activeOf start.args.r) ≡ At first
+  found : found_in (row_of start.args.r start.args.bus-i) (active_of start.args.r) ≡ At first
   found = sym c.before.before.before.find-number.ensures ∙ c.before.i.given.1
 
 find-number-requires-2 : tie.Need-find-number-requires-2
@@ -68,7 +68,7 @@ module _ (c : tie.After-known-told2) where
   abbrev second : ℕ
   second = c.before.j.given.0.0
 
-  found-too : foundIn (row_of (start one).args.r (start one).args.bus-j) (activeOf (start one).args.r) ≡ At second
+  found-too : found_in (row_of (start one).args.r (start one).args.bus-j) (active_of (start one).args.r) ≡ At second
   found-too = sym c.before.before.before.find-number2.ensures ∙ c.before.j.given.1
 
 impedance-between-requires : tie.Need-impedance-between-requires

@@ -5,31 +5,31 @@ use Rattle.reduce_text.specs.declared.Answer.TheVariants.{Written}
 use Rattle.text_numbers.specs.Bytes.{Bytes}
 use Rattle.text_numbers.specs.Inner.Writing.{written}
 use Rattle.reduce_text.specs.Reading.{most}
-use Rattle.reduce_text.specs.Reduce.{printed, matrixLength, outputLength, AfterReduce}
+use Rattle.reduce_text.specs.Reduce.{printed, matrix_length, output_length, AfterReduce}
 use Rattle.reduce_text.proofs.ReduceLaws.{after-output, after-matrix, after_both, whole_is, text-is, printed-room, on-cleared}
 use Rattle.reduce_text.proofs.reduce.Statement.{statement}
 use Rattle.reduce_text.proofs.reduce.Tie as tie
 
 returns : tie.Need-returns
-unfolding most matrixLength outputLength
+unfolding most matrix_length output_length
 returns c =
     let s = c.before.before.before.before in
     let e = after-output s.args.input.now s.args.output.now s.args.matrix.now c.if1.true in
     (sym (ap (λ (a : AfterReduce). a.answer) e), sym (ap (λ (a : AfterReduce). a.output) e), sym (ap (λ (a : AfterReduce). a.matrix) e))
 
 returns-2 : tie.Need-returns-2
-unfolding most matrixLength outputLength
+unfolding most matrix_length output_length
 returns-2 c =
     let f = c.before in let s = f.before.before.before.before in
     let e = after-matrix s.args.input.now s.args.output.now s.args.matrix.now f.if1.false c.if2.true in
     (sym (ap (λ (a : AfterReduce). a.answer) e), sym (ap (λ (a : AfterReduce). a.output) e), sym (ap (λ (a : AfterReduce). a.matrix) e))
 
 read-requires : tie.Need-read-requires
-unfolding most matrixLength outputLength
+unfolding most matrix_length output_length
 read-requires c κs = omega (arith, c.before.if2.false)
 
 print-requires : tie.Need-print-requires
-unfolding most matrixLength outputLength
+unfolding most matrix_length output_length
 print-requires c κs =
     let b = c.before.before.before.before in let r = b.before.before.before.before in let g = r.before.before in
     let s = g.before.before.before.before.before in
@@ -40,7 +40,7 @@ print-requires c κs =
     )
 
 returns-3 : tie.Need-returns-3
-unfolding most matrixLength outputLength
+unfolding most matrix_length output_length
 returns-3 c =
     let n = c.before.before in let p = n.before.before.before.before in let b = p.before.before.before.before.before in
     let r = b.before.before.before.before in let g = r.before.before in let s = g.before.before.before.before.before in
@@ -51,7 +51,7 @@ returns-3 c =
       p.print.ensures.there
           ∙ ap (written b.bytes.new.0 0) t
           ∙ ap (λ (o : Bytes). written o 0 (printed input)) (b.bytes.ensures ∙ ap (λ (k : ℕ). replicate k 0) g.before.if1.false)
-          ∙ on-cleared outputLength (printed input)
+          ∙ on-cleared output_length (printed input)
           ∙ sym (ap (λ (a : AfterReduce). a.output) e),
       n.clear.ensures ∙ ap zeros (r.read.auto.1.0 ∙ g.if2.false) ∙ sym (ap (λ (a : AfterReduce). a.matrix) e),
     )

@@ -1,14 +1,14 @@
 -- `rei_equivalent::compute` meets its contract.
 use Rattle.prelude.proofs.Prelude.{◌∙◌, ℕ, ◌≡◌, arith, needs, not-true, not-false}
 use Rattle.complex.specs.{one}
-use Rattle.rei_equivalent.specs.Rei.{reiShapeRefusal, reiSize, reiBuses, spokesOf}
+use Rattle.rei_equivalent.specs.Rei.{rei_shape_refusal, rei_size, rei_buses, spokes_of}
 use Rattle.rei_equivalent.proofs.ReiAnswers.{shape-refused, given-refused, computed-refused, none-refused, after-refused, after-done, rei-accepted}
 use Rattle.rei_equivalent.proofs.ReiNumbers.{rei-told}
 use Rattle.rei_equivalent.proofs.compute.Statement.{statement}
 use Rattle.rei_equivalent.proofs.compute.Tie as tie
 
 returns-2 : tie.Need-returns-2
-unfolding reiShapeRefusal reiSize
+unfolding rei_shape_refusal rei_size
 returns-2 c =
     let told = c.before.before.before.refusal in let given = c.before.given-finite in
     after-refused _ 19 (given-refused _ told.result told.ensures c.before.before.if1.false given.result given.ensures (not-true given.result c.if2.true))
@@ -20,7 +20,7 @@ computed-finite-requires c κs =
     (g.6, g.0, g.1)
 
 returns-3 : tie.Need-returns-3
-unfolding reiShapeRefusal reiSize
+unfolding rei_shape_refusal rei_size
 returns-3 c =
     let told = c.before.before.before.before.before.before.before.refusal in let given = c.before.before.before.before.before.given-finite in let computed = c.before.computed-finite in
     after-refused _ 20 (computed-refused _ told.result told.ensures c.before.before.before.before.before.before.if1.false given.result given.ensures
@@ -39,7 +39,7 @@ tie-all-requires c κs =
     ((g.0, g.1, c.before.before.before.before.before.before.before.before.before.join-lists.auto.1.1.0 ∙ g.2), (g.4, g.5))
 
 returns-4 : tie.Need-returns-4
-unfolding reiShapeRefusal reiSize reiBuses spokesOf one
+unfolding rei_shape_refusal rei_size rei_buses spokes_of one
 returns-4 c =
     let tested = c.before.before.before.before.before.before.before.before.before.before.before.before.before.before.before.before.before in let told = tested.before.before.before.before.before.before.refusal in let given = tested.before.before.before.before.given-finite in let computed = tested.computed-finite in
     let p = tested.before.before.sum.ensures in let q = tested.before.sum2.ensures in
@@ -49,7 +49,7 @@ returns-4 c =
     p q c.before.before.before.before.before.before.before.before.before.before.before.before.before.before.join-lists.ensures c.before.before.before.before.before.before.before.before.before.before.spoke-all.ensures c.before.before.before.before.tie-all.ensures
 
 pub compute-spec : {M : Type 1} → statement M
-unfolding reiShapeRefusal reiSize
+unfolding rei_shape_refusal rei_size
 compute-spec = tie.close (tie.spec (λ c. search needs) (λ c κs. search needs)
     (λ c. after-refused _ c.before.refusal.result (shape-refused _ c.before.refusal.result c.before.refusal.ensures c.if1.true) c.if1.true)
     (λ c κs. search needs) returns-2 (λ c κs. search needs) (λ c κs. search needs) computed-finite-requires returns-3

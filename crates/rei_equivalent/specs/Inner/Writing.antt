@@ -2,17 +2,17 @@
 use Rattle.std.specs.Prelude.{ℕ, ◌+◌, ◌*◌, ◌-◌, ◌≡◌, List, ◌++◌, length, replicate, Float}
 use Rattle.std.proofs.lemmas.List.Edits.{sets}
 use Rattle.complex.specs.Matrices.{zeros}
-use Rattle.rei_equivalent.specs.Rei.{Tie, tieEnds, tieParts, tieRoom, allTies}
+use Rattle.rei_equivalent.specs.Rei.{Tie, tie_ends, tie_parts, tie_room, all_ties}
 
 -- ties written from place `from` on: the place behind them, and the two slices at exit
 pub record RowWritten (ts : List Tie) (from : ℕ) (ends : List ℕ) (ties : List Float) (r : ℕ) (endsAfter : List ℕ) (tiesAfter : List Float)
     : Type 0 where
   pub behind : r ≡ from + length ts
-  pub endsAre : endsAfter ≡ sets ends (2 * from) (tieEnds ts)
-  pub tiesAre : tiesAfter ≡ sets ties (2 * from) (tieParts ts)
+  pub ends_are : endsAfter ≡ sets ends (2 * from) (tie_ends ts)
+  pub ties_are : tiesAfter ≡ sets ties (2 * from) (tie_parts ts)
 
 -- all ties of n buses, at the front, zeros behind
 pub record TiesWritten (n : ℕ) (entries : List Float) (buses : List ℕ) (r : ℕ) (ends : List ℕ) (ties : List Float) : Type 0 where
-  pub counted : r ≡ length (allTies n entries buses)
-  pub endsAre : ends ≡ tieEnds (allTies n entries buses) ++ replicate (tieRoom n - 2 * length (allTies n entries buses)) 0
-  pub tiesAre : ties ≡ tieParts (allTies n entries buses) ++ zeros (tieRoom n - 2 * length (allTies n entries buses))
+  pub counted : r ≡ length (all_ties n entries buses)
+  pub ends_are : ends ≡ tie_ends (all_ties n entries buses) ++ replicate (tie_room n - 2 * length (all_ties n entries buses)) 0
+  pub ties_are : ties ≡ tie_parts (all_ties n entries buses) ++ zeros (tie_room n - 2 * length (all_ties n entries buses))

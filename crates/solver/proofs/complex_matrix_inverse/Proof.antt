@@ -3,13 +3,13 @@ use Rattle.prelude.proofs.Prelude.{refl, sym, ◌∙◌, needs, ne_eqb}
 use Rattle.refusals.specs.Refusals.{outcome}
 use Rattle.refusals.proofs.Answering.{outcome-refused}
 use Rattle.refusals.proofs.Work.{work-told, work-met}
-use Rattle.solver.specs.Calls.{afterElimination, afterInverse}
+use Rattle.solver.specs.Calls.{after_elimination, after_inverse}
 use Rattle.solver.proofs.Accepted.{inverse-accepted}
 use Rattle.solver.proofs.complex_matrix_inverse.Statement.{statement}
 use Rattle.solver.proofs.complex_matrix_inverse.Tie as tie
 
 returns : tie.Need-returns
-unfolding afterInverse afterElimination
+unfolding after_inverse after_elimination
 returns c =
     let n = c.if1.true in
     rw (← c.before.inverse-refusal.ensures, work-told _ _ _ n, ne_eqb _ 0 n) (outcome-refused _ _ refl n, refl, refl)
@@ -20,14 +20,14 @@ inverted-requires c κs =
     (k.size, k.room, k.matrix, k.out, f)
 
 returns-2 : tie.Need-returns-2
-unfolding afterInverse afterElimination
+unfolding after_inverse after_elimination
 returns-2 c =
     let x = c.before.before.before.before.before in let t = x.before.before.before in let e = x.inverted.ensures in
     let told = sym t.before.inverse-refusal.ensures ∙ t.if1.false in
     rw (work-met _ _ _ told, told, ← e.0) (outcome-refused _ _ refl c.if2.true, e.1, e.2)
 
 returns-3 : tie.Need-returns-3
-unfolding afterInverse afterElimination outcome
+unfolding after_inverse after_elimination outcome
 returns-3 c =
     let x = c.before.before.before.before.before in let t = x.before.before.before in let e = x.inverted.ensures in
     let told = sym t.before.inverse-refusal.ensures ∙ t.if1.false in

@@ -4,21 +4,21 @@ use Rattle.complex.specs.{entry, entry_at}
 use Rattle.refusals.specs.declared.Counted.{Counted}
 use Rattle.refusals.specs.declared.Counted.TheVariants.{Reduced}
 use Rattle.refusals.specs.Refusals.{counted}
-use Rattle.refusals.specs.Work.{reductions, allowedRows}
+use Rattle.refusals.specs.Work.{reductions, allowed_rows}
 use Rattle.refusals.proofs.Answering.{counted-refused}
 use Rattle.refusals.proofs.Work.{work-told}
 use Rattle.solver.specs.declared.elimination.Eliminated.{Eliminated}
 use Rattle.solver.specs.declared.elimination.Eliminated.TheVariants.{Done}
-use Rattle.solver.specs.Steps.{stepsOfSolve}
+use Rattle.solver.specs.Steps.{steps_of_solve}
 use Rattle.solver.specs.Inner.Work.{number_of, Ended}
-use Rattle.solver.specs.Calls.{AfterElimination, solveRefusal, afterElimination, afterSolve}
+use Rattle.solver.specs.Calls.{AfterElimination, solve_refusal, after_elimination, after_solve}
 use Rattle.solver.proofs.Accepted.{solve-accepted}
 use Rattle.solver.proofs.Allowances.{solve-after}
 use Rattle.solver.proofs.solve_linear.Statement.{statement}
 use Rattle.solver.proofs.solve_linear.Tie as tie
 
 returns : tie.Need-returns
-unfolding afterSolve afterElimination
+unfolding after_solve after_elimination
 returns c =
     let n = c.if1.true in
     rw (← c.before.solve-refusal.ensures, work-told _ _ _ n, ne_eqb _ 0 n) (counted-refused _ _ _ refl n, refl, refl)
@@ -38,18 +38,18 @@ module _ (c : tie.After-solved) where
   abbrev start : tie.Start
   start = test.before.before.before.before.before.before
 
-  accepted : solveRefusal start.args.n start.args.a.now start.args.b.now (length start.args.x.now) (length start.args.work.now) ≡ 0
+  accepted : solve_refusal start.args.n start.args.a.now start.args.b.now (length start.args.x.now) (length start.args.work.now) ≡ 0
   accepted = sym test.before.solve-refusal.ensures ∙ test.if1.left
 
   abbrev count : ℕ
-  count = reductions (stepsOfSolve start.args.n (entry_at start.args.n start.args.a.now) (entry start.args.b.now))
+  count = reductions (steps_of_solve start.args.n (entry_at start.args.n start.args.a.now) (entry start.args.b.now))
 
-  ended : Ended (allowedRows start.args.allowance) c.solved.result (stepsOfSolve start.args.n (entry_at start.args.n start.args.a.now) (entry start.args.b.now))
-  ended = subst (λ (m : ℕ). Ended m c.solved.result (stepsOfSolve start.args.n (entry_at start.args.n start.args.a.now) (entry start.args.b.now))) c.before.before.before.allowed-rows.ensures c.solved.ensures.0
+  ended : Ended (allowed_rows start.args.allowance) c.solved.result (steps_of_solve start.args.n (entry_at start.args.n start.args.a.now) (entry start.args.b.now))
+  ended = subst (λ (m : ℕ). Ended m c.solved.result (steps_of_solve start.args.n (entry_at start.args.n start.args.a.now) (entry start.args.b.now))) c.before.before.before.allowed-rows.ensures c.solved.ensures.0
 
   -- what the call answers and leaves, by how the elimination ended
   after : (end : Eliminated) → c.solved.result ≡ end → (answer : Counted) → answer ≡ counted count (number_of end)
-      → let r = afterSolve start.args.n start.args.a.now start.args.b.now start.args.allowance start.args.x.now start.args.work.now in
+      → let r = after_solve start.args.n start.args.a.now start.args.b.now start.args.allowance start.args.x.now start.args.work.now in
       (answer ≡ r.answer) × (c.solved.new.1.1.1.1.0 ≡ r.output) × (c.solved.new.1.1.1.1.1.0 ≡ r.work)
   after end e answer a =
       let r = solve-after start.args.n start.args.a.now start.args.b.now start.args.allowance start.args.x.now start.args.work.now accepted (solve-accepted _ _ _ _ _ accepted).shape.size c.solved.result ended in

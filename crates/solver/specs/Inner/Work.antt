@@ -1,19 +1,19 @@
 -- The work slice of an elimination: n rows of w entries, what one column does to it, and blocks of columns put in or taken out.
 use Rattle.std.specs.Prelude.{ℕ, suc, ◌+◌, ◌*◌, ◌-◌, ◌<◌, ◌≤◌, ◌≡◌, Bool, true, false, ◌&&◌, cond, List, [], ◌∷◌, ◌++◌, T, eqb, leb, ltb, length, Float}
 use Rattle.std.specs.Float.Ieee.{neg}
-use Rattle.binary64.specs.Values.{allFinite}
+use Rattle.binary64.specs.Values.{all_finite}
 use Rattle.complex.specs.declared.Complex.{Complex}
 use Rattle.complex.specs.Arithmetic.{unit}
 use Rattle.complex.specs.Entries.{entry}
 use Rattle.complex.specs.Matrices.{Matrix, entry_at, grid}
 use Rattle.lists.specs.Buses.{up_to}
-use Rattle.refusals.specs.Refusals.{singular, beyondAllowance, computedNotFinite}
-use Rattle.refusals.specs.Work.{Step, pivotTooSmall, computing, reductions, meets}
+use Rattle.refusals.specs.Refusals.{singular, beyond_allowance, computed_not_finite}
+use Rattle.refusals.specs.Work.{Step, pivot_too_small, computing, reductions, meets}
 use Rattle.solver.specs.declared.elimination.Eliminated.{Eliminated}
 use Rattle.solver.specs.declared.elimination.Eliminated.TheVariants.{Done, Small, Exceeded, NotFinite}
-use Rattle.solver.specs.GaussJordan.{pivoted, scaled, cleared, gaussJordan}
+use Rattle.solver.specs.GaussJordan.{pivoted, scaled, cleared, gauss_jordan}
 use Rattle.solver.specs.Solving.{operations}
-use Rattle.solver.specs.Steps.{workings, ofSearch, ofScaling, stepsOfRows, stepsOfRun}
+use Rattle.solver.specs.Steps.{workings, of_search, of_scaling, steps_of_rows, steps_of_run}
 
 -- a slice of this length holds n rows of w entries, the system's n columns among them
 pub record WorkRows (n w long : ℕ) : Type 0 where
@@ -38,21 +38,21 @@ pub record BesideTurned (w : ℕ) (row : List Float) : Type 0 where
   pub halves : (q : ℕ) → q < w → entry row (w + q) ≡ turned (entry row q)
 
 -- each row less its factor in column c times the pivot row
-unfoldable pub lessFactor : ℕ → (ℕ → Complex) → Matrix → Matrix
-lessFactor c pivot A i j = operations.minus (A i j) (operations.times (A i c) (pivot j))
+unfoldable pub less_factor : ℕ → (ℕ → Complex) → Matrix → Matrix
+less_factor c pivot A i j = operations.minus (A i j) (operations.times (A i c) (pivot j))
 
-unfoldable pub isDone : Eliminated → Bool
-isDone (Done left) = true
-isDone Small = false
-isDone Exceeded = false
-isDone NotFinite = false
+unfoldable pub is_done : Eliminated → Bool
+is_done (Done left) = true
+is_done Small = false
+is_done Exceeded = false
+is_done NotFinite = false
 
 -- the refusal that an end stands for
 unfoldable pub number_of : Eliminated → ℕ
 number_of (Done left) = 0
 number_of Small = singular
-number_of Exceeded = beyondAllowance
-number_of NotFinite = computedNotFinite
+number_of Exceeded = beyond_allowance
+number_of NotFinite = computed_not_finite
 
 -- How work of these steps ends with so many row reductions allowed: by the refusal that it meets first, or done, with what is left.
 pub record Ended (allowed : ℕ) (answered : Eliminated) (steps : List Step) : Type 0 where
@@ -63,33 +63,33 @@ pub record Ended (allowed : ℕ) (answered : Eliminated) (steps : List Step) : T
 -- is not finite stays in the slice, or ends the work.
 pub record Told (allowed : ℕ) (steps : List Step) (before after : List Float) (answered : Eliminated) : Type 0 where
   -- where all is finite in the end, all was before, and the end is the one that the steps meet
-  pub finite : T (allFinite after) → T (allFinite before) × (meets allowed steps ≡ number_of answered)
+  pub finite : T (all_finite after) → T (all_finite before) × (meets allowed steps ≡ number_of answered)
   -- where all was finite and something is not in the end, the steps meet 20
-  pub lost : T (allFinite before) → allFinite after ≡ false → meets allowed steps ≡ computedNotFinite
+  pub lost : T (all_finite before) → all_finite after ≡ false → meets allowed steps ≡ computed_not_finite
   -- what is left of the allowance
   pub count : (left : ℕ) → answered ≡ Done left → reductions steps + left ≡ allowed
 
 -- what a column's turn computes once its pivot is found large enough: the pivot's inverse, its row scaled, and the other rows
-unfoldable pub stepsOfClearing : ℕ → ℕ → ℕ → Matrix → List Step
-unfolding scaled ofScaling stepsOfRows up_to computing
-stepsOfClearing n w c B =
-    computing (workings.ofInverse (B c c) ++ ofScaling operations workings B c (up_to w))
-    ++ stepsOfRows operations workings (scaled operations c B) c (up_to n) (up_to w)
+unfoldable pub steps_of_clearing : ℕ → ℕ → ℕ → Matrix → List Step
+unfolding scaled of_scaling steps_of_rows up_to computing
+steps_of_clearing n w c B =
+    computing (workings.of_inverse (B c c) ++ of_scaling operations workings B c (up_to w))
+    ++ steps_of_rows operations workings (scaled operations c B) c (up_to n) (up_to w)
 
 -- column c's turn
-unfoldable pub stepsOfColumn : ℕ → ℕ → ℕ → Matrix → List Step
-unfolding pivoted ofSearch computing stepsOfClearing
-stepsOfColumn n w c A =
+unfoldable pub steps_of_column : ℕ → ℕ → ℕ → Matrix → List Step
+unfolding pivoted of_search computing steps_of_clearing
+steps_of_column n w c A =
     let B = pivoted operations n c A in
-    computing (ofSearch operations workings A c c (suc c) (n - suc c) ++ workings.ofWeight (B c c))
-    ++ cond (operations.small (B c c)) (pivotTooSmall ∷ []) (stepsOfClearing n w c B)
+    computing (of_search operations workings A c c (suc c) (n - suc c) ++ workings.of_weight (B c c))
+    ++ cond (operations.small (B c c)) (pivot_too_small ∷ []) (steps_of_clearing n w c B)
 
 -- Column c's turn. What the slice holds is said where the column is done, and where its pivot is too small. It is free, but for its length,
 -- in two cases, here and in the whole elimination. At 18 row c is scaled, and of the others those above the one that would exceed the
 -- allowance have had their turn, the rest not. At 20 it is what the columns left, to whichever end they came, with or without numbers that
 -- are not finite. No answer depends on it then: the calls that are offered leave +0. The room for a row is free at every end.
 pub record ColumnDone (n w c allowed : ℕ) (answered : Eliminated) (before after : List Float) : Type 0 where
-  pub told : Told allowed (stepsOfColumn n w c (entry_at w before)) before after answered
+  pub told : Told allowed (steps_of_column n w c (entry_at w before)) before after answered
   pub entries : (left : ℕ) → answered ≡ Done left → let B = pivoted operations n c (entry_at w before) in
       (operations.small (B c c) ≡ false) × ((i j : ℕ) → i < n → j < w → entry_at w after i j ≡ cleared operations c B i j)
   -- the two rows have changed places, and no more
@@ -98,22 +98,22 @@ pub record ColumnDone (n w c allowed : ℕ) (answered : Eliminated) (before afte
 
 -- all columns' turn, before the slice is looked at
 pub record Ran (n w allowed : ℕ) (answered : Eliminated) (before after : List Float) : Type 0 where
-  pub told : Told allowed (stepsOfRun operations workings n w (entry_at w before)) before after answered
-  pub entries : (left : ℕ) → answered ≡ Done left → after ≡ grid n w (gaussJordan operations n (entry_at w before)).left
-  pub small : answered ≡ Small → after ≡ grid n w (gaussJordan operations n (entry_at w before)).left
+  pub told : Told allowed (steps_of_run operations workings n w (entry_at w before)) before after answered
+  pub entries : (left : ℕ) → answered ≡ Done left → after ≡ grid n w (gauss_jordan operations n (entry_at w before)).left
+  pub small : answered ≡ Small → after ≡ grid n w (gauss_jordan operations n (entry_at w before)).left
 
 -- an elimination that is done: how many row reductions are left, and what the slice holds
 pub record Finished (n w allowed left : ℕ) (before after : List Float) : Type 0 where
-  pub count : reductions (stepsOfRun operations workings n w (entry_at w before)) + left ≡ allowed
-  pub entries : after ≡ grid n w (gaussJordan operations n (entry_at w before)).left
-  pub finite : T (allFinite after)
+  pub count : reductions (steps_of_run operations workings n w (entry_at w before)) + left ≡ allowed
+  pub entries : after ≡ grid n w (gauss_jordan operations n (entry_at w before)).left
+  pub finite : T (all_finite after)
 
 pub record Met (n w allowed : ℕ) (answered : Eliminated) (before after : List Float) : Type 0 where
   -- the refusal that the work meets first, 0 where it is done
-  pub number : number_of answered ≡ meets allowed (stepsOfRun operations workings n w (entry_at w before))
+  pub number : number_of answered ≡ meets allowed (steps_of_run operations workings n w (entry_at w before))
   pub done : (left : ℕ) → answered ≡ Done left → Finished n w allowed left before after
   -- at 13 the slice holds the matrix where the work ended, and all of it is finite: where something is not, 20 is told in its stead
-  pub small : answered ≡ Small → (after ≡ grid n w (gaussJordan operations n (entry_at w before)).left) × T (allFinite after)
+  pub small : answered ≡ Small → (after ≡ grid n w (gauss_jordan operations n (entry_at w before)).left) × T (all_finite after)
   pub length-kept : length after ≡ length before
 
 -- ---- blocks of m columns from column `at` on
@@ -136,9 +136,9 @@ unfoldable pub placed : ℕ → ℕ → Matrix → Matrix → Matrix
 placed at m B A i j = cond (leb at j && ltb j (at + m)) (B i (j - at)) (A i j)
 
 -- the columns from `at` on
-unfoldable pub rightSides : ℕ → Matrix → Matrix
-rightSides at A i j = A i (at + j)
+unfoldable pub right_sides : ℕ → Matrix → Matrix
+right_sides at A i j = A i (at + j)
 
 -- the ones of an identity that begins in column `at`
-unfoldable pub withIdentity : ℕ → Matrix → Matrix
-withIdentity at A i j = cond (eqb j (at + i)) unit (A i j)
+unfoldable pub with_identity : ℕ → Matrix → Matrix
+with_identity at A i j = cond (eqb j (at + i)) unit (A i j)

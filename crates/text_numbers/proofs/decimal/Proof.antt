@@ -1,12 +1,12 @@
 -- `text_numbers::decimal` meets its contract: what is read so far, and the digits left, make the number of the whole word.
 use Rattle.prelude.proofs.Prelude.{◌≡◌, sym, ◌∙◌, ◌-◌, ◌≤◌, ◌<◌, arith, needs, length, drop, ◌^◌}
-use Rattle.text_numbers.specs.Words.{digit, spare, decimalFrom, decimalOf}
+use Rattle.text_numbers.specs.Words.{digit, spare, decimal_from, decimal_of}
 use Rattle.text_numbers.proofs.WordLaws.{decimal-spare, decimal-plain, decimal-no, decimal-over, decimal-more, decimal-end}
 use Rattle.text_numbers.proofs.decimal.Statement.{statement}
 use Rattle.text_numbers.proofs.decimal.Tie as tie
 
 abbrev invariant-loop : tie.invariant-loop
-invariant-loop word v₀ i₀ v i = (i ≤ length word) × (v < 2 ^ 32) × (decimalOf word ≡ decimalFrom v (drop i word))
+invariant-loop word v₀ i₀ v i = (i ≤ length word) × (v < 2 ^ 32) × (decimal_of word ≡ decimal_from v (drop i word))
 
 abbrev decreases-loop : tie.decreases-loop
 decreases-loop word v₀ i₀ v i = length word - i

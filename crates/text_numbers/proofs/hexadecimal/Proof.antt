@@ -1,13 +1,13 @@
 -- `text_numbers::hexadecimal` meets its contract: what is read so far, and the digits left, make the word.
 use Rattle.prelude.proofs.Prelude.{◌≡◌, sym, ◌∙◌, subst, ℕ, ◌+◌, ◌-◌, ◌*◌, ◌≤◌, ◌<◌, arith, needs, length, drop, ◌^◌, lt_of_lt_of_le}
 use lib.Pow.{pow_mono, pow-add}
-use Rattle.text_numbers.specs.Words.{digit, hexFrom, hexOf}
+use Rattle.text_numbers.specs.Words.{digit, hex_from, hex_of}
 use Rattle.text_numbers.proofs.WordLaws.{hex-short, hex-long, hex-no, hex-more, hex-end}
 use Rattle.text_numbers.proofs.hexadecimal.Statement.{statement}
 use Rattle.text_numbers.proofs.hexadecimal.Tie as tie
 
 abbrev invariant-loop : tie.invariant-loop
-invariant-loop word v₀ i₀ v i = (i ≤ length word) × (v < 2 ^ (4 * i)) × (hexOf word ≡ hexFrom v (drop i word))
+invariant-loop word v₀ i₀ v i = (i ≤ length word) × (v < 2 ^ (4 * i)) × (hex_of word ≡ hex_from v (drop i word))
 
 abbrev decreases-loop : tie.decreases-loop
 decreases-loop word v₀ i₀ v i = length word - i

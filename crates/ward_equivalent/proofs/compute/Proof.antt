@@ -1,14 +1,14 @@
 -- `ward_equivalent::compute` meets its contract.
 use Rattle.prelude.proofs.Prelude.{◌≡◌, sym, ap, ◌∙◌, subst, true, ◌+◌, ◌-◌, ◌*◌, ◌≤◌, ◌∷◌, ◌++◌, ℕ, arith, needs, T, length, take, drop, not-true, not-false}
-use Rattle.binary64.specs.Values.{allFinite}
+use Rattle.binary64.specs.Values.{all_finite}
 use Rattle.complex.proofs.Finite.{all_left}
 use Rattle.refusals.specs.Refusals.{limit}
-use Rattle.lists.specs.Buses.{rowsIn}
+use Rattle.lists.specs.Buses.{rows_in}
 use Rattle.ward_equivalent.specs.declared.lengths.Lengths.{Lengths}
 use Rattle.ward_equivalent.specs.Ward.{Study, Outputs, given_of, retained, listed}
 use Rattle.ward_equivalent.specs.Studied.{studied}
-use Rattle.ward_equivalent.specs.Calls.{studyOf, outputsOf}
-use Rattle.ward_equivalent.specs.Numbers.{NumberedStudy, numberedOf, lengthsOf, inRows, wardShapeRefusal}
+use Rattle.ward_equivalent.specs.Calls.{study_of, outputs_of}
+use Rattle.ward_equivalent.specs.Numbers.{NumberedStudy, numbered_of, lengths_of, in_rows, ward_shape_refusal}
 use Rattle.refusals.specs.declared.Allowance.TheVariants.{Rows}
 use Rattle.ward_equivalent.proofs.Allowances.{allowed-study}
 use Rattle.ward_equivalent.proofs.Told.{Fitting, lengths-pass}
@@ -20,16 +20,16 @@ use Rattle.ward_equivalent.proofs.compute.Tie as tie
 -- what is given, the slices at entry, and all lengths
 module _ (s : tie.Start) where
   abbrev given : NumberedStudy
-  given = numberedOf s.args.numbers.now (studyOf s.args.n s.args.y.now s.args.internal.now s.args.external.now s.args.boundary.now s.args.base-mva s.args.p-ext.now s.args.q-ext.now)
+  given = numbered_of s.args.numbers.now (study_of s.args.n s.args.y.now s.args.internal.now s.args.external.now s.args.boundary.now s.args.base-mva s.args.p-ext.now s.args.q-ext.now)
 
   abbrev outputs : Outputs
-  outputs = outputsOf s.args.y-ward.now s.args.p-ward.now s.args.q-ward.now s.args.work.now
+  outputs = outputs_of s.args.y-ward.now s.args.p-ward.now s.args.q-ward.now s.args.work.now
 
   abbrev lengths : Lengths
-  lengths = lengthsOf given outputs
+  lengths = lengths_of given outputs
 
 returns : tie.Need-returns
-unfolding wardShapeRefusal
+unfolding ward_shape_refusal
 returns c =
     let s = c.before.before.before.before.before.before.before.before.before.before.before.before.before in
     let e = told-first (lengths s) s.args.numbers.now (listed (given s).study) c.before.length-refusal.result c.before.length-refusal.ensures c.if1.true in
@@ -51,8 +51,8 @@ module _ (c : tie.After-placed) where
   abbrev test : tie.Else1
   test = c.before.before
 
-  told : c.placed.result ≡ wardShapeRefusal (given (start test)) (outputs (start test))
-  unfolding wardShapeRefusal listed retained
+  told : c.placed.result ≡ ward_shape_refusal (given (start test)) (outputs (start test))
+  unfolding ward_shape_refusal listed retained
   told = told-then (lengths (start test)) (start test).args.numbers.now (listed (given (start test)).study) test.before.length-refusal.result test.before.length-refusal.ensures test.if1.left c.placed.result c.placed.ensures.1
 
 returns-2 : tie.Need-returns-2
@@ -69,7 +69,7 @@ module _ (c : tie.Else2) where
   begun = start (test placed)
 
   rows : take (length begun.args.external.now + length begun.args.internal.now + length begun.args.boundary.now - 0) (drop 0 placed.placed.last.1.1.1.1.0)
-      ≡ rowsIn begun.args.numbers.now (begun.args.external.now ++ (begun.args.internal.now ++ begun.args.boundary.now))
+      ≡ rows_in begun.args.numbers.now (begun.args.external.now ++ (begun.args.internal.now ++ begun.args.boundary.now))
   rows = front-joined begun.args.numbers.now begun.args.external.now begun.args.internal.now begun.args.boundary.now placed.placed.last.1.1.1.1.0 _ placed.placed.ensures.0
 
 returns-3 : tie.Need-returns-3
@@ -83,11 +83,11 @@ module _ (c : tie.Else3) where
   abbrev named : tie.Else2
   named = c.before.before
 
-  numbers : allFinite (given_of (given (begun named)).study) ≡ true
+  numbers : all_finite (given_of (given (begun named)).study) ≡ true
   unfolding given_of
   numbers = sym c.before.given-finite.ensures ∙ not-false _ c.if3.false
 
-  matrix : T (allFinite (begun named).args.y.now)
+  matrix : T (all_finite (begun named).args.y.now)
   unfolding given_of
   matrix = let a = (begun named).args in all_left a.y.now (a.base-mva ∷ (a.p-ext.now ++ a.q-ext.now)) (subst T (sym numbers) tt)
 
@@ -101,7 +101,7 @@ returns-4 c =
     let n = c.before.before.before.before.before.before.before.before.before.before.before.before.before.before.before.before in let e = named n in let s = begun e in (
       c.before.before.before.before.before.before.before.before.study.ensures
           ∙ ap (λ (S : Study). studied S (Rows c.before.before.before.before.before.before.before.before.before.before.before.before.before.allowed-rows.result) (outputs s) 0) (cut-rows (given s) _ (rows e))
-          ∙ ap (λ (m : ℕ). studied (inRows (given s)) (Rows m) (outputs s) 0) c.before.before.before.before.before.before.before.before.before.before.before.before.before.allowed-rows.ensures
+          ∙ ap (λ (m : ℕ). studied (in_rows (given s)) (Rows m) (outputs s) 0) c.before.before.before.before.before.before.before.before.before.before.before.before.before.allowed-rows.ensures
           ∙ allowed-study (given s) (outputs s) (fits (test (placed e))) s.args.allowance
           ∙ answered (given s) s.args.allowance (outputs s) (placed e).placed.result (told (placed e)) e.if2.left (numbers n),
       c.before.before.before.before.before.before.before.before.before.before.before.before.before.before.before.before.before.before.before.before.before.before.before.before.before.before.before.before.before.before.before.before.before.before.shared-slice-known.given,

@@ -1,41 +1,41 @@
 -- `ward_equivalent::compute_extended` meets its contract.
 use Rattle.prelude.proofs.Prelude.{◌≡◌, sym, ap, ◌∙◌, subst, true, ◌+◌, ◌-◌, ◌*◌, ◌≤◌, ◌∷◌, ◌++◌, ℕ, arith, needs, T, length, take, drop, not-true, not-false}
-use Rattle.binary64.specs.Values.{allFinite}
+use Rattle.binary64.specs.Values.{all_finite}
 use Rattle.complex.proofs.Finite.{all_left}
 use Rattle.refusals.specs.Refusals.{limit}
-use Rattle.lists.specs.Buses.{rowsIn}
+use Rattle.lists.specs.Buses.{rows_in}
 use Rattle.ward_equivalent.specs.declared.lengths.Lengths.{Lengths}
 use Rattle.ward_equivalent.specs.Ward.{Study, given_of, retained, listed}
 use Rattle.ward_equivalent.specs.Extended.{ExtendedOutputs}
-use Rattle.ward_equivalent.specs.Studied.{studiedExtended}
-use Rattle.ward_equivalent.specs.Calls.{studyOf, outputsOf, extendedOutputsOf}
-use Rattle.ward_equivalent.specs.Inner.Listed.{extendedOf}
-use Rattle.ward_equivalent.specs.Numbers.{NumberedExtended, numberedOf, numberedExtendedOf, extendedLengthsOf, extendedInRows, extendedShapeRefusal}
+use Rattle.ward_equivalent.specs.Studied.{studied_extended}
+use Rattle.ward_equivalent.specs.Calls.{study_of, outputs_of, extended_outputs_of}
+use Rattle.ward_equivalent.specs.Inner.Listed.{extended_of}
+use Rattle.ward_equivalent.specs.Numbers.{NumberedExtended, numbered_of, numbered_extended_of, extended_lengths_of, extended_in_rows, extended_shape_refusal}
 use Rattle.refusals.specs.declared.Allowance.TheVariants.{Rows}
 use Rattle.ward_equivalent.proofs.Allowances.{allowed-extended}
 use Rattle.ward_equivalent.proofs.Told.{Fitting, lengths-pass}
 use Rattle.ward_equivalent.proofs.Naming.{front-joined}
-use Rattle.ward_equivalent.proofs.Named.{without, rows-listed, rows-boundary, cut-rows, told-first, told-then, answeredX, answered-lostX, answered-refusedX}
+use Rattle.ward_equivalent.proofs.Named.{without, rows-listed, rows-boundary, cut-rows, told-first, told-then, answered_x, answered-lost_x, answered-refused_x}
 use Rattle.ward_equivalent.proofs.compute_extended.Statement.{statement}
 use Rattle.ward_equivalent.proofs.compute_extended.Tie as tie
 
 -- what is given, the slices at entry, and all lengths
 module _ (s : tie.Start) where
   abbrev given : NumberedExtended
-  given = numberedExtendedOf (numberedOf s.args.numbers.now (studyOf s.args.n s.args.y.now s.args.internal.now s.args.external.now s.args.boundary.now s.args.base-mva s.args.p-ext.now s.args.q-ext.now)) s.args.v-ext.now
+  given = numbered_extended_of (numbered_of s.args.numbers.now (study_of s.args.n s.args.y.now s.args.internal.now s.args.external.now s.args.boundary.now s.args.base-mva s.args.p-ext.now s.args.q-ext.now)) s.args.v-ext.now
 
   abbrev outputs : ExtendedOutputs
-  outputs = extendedOutputsOf (outputsOf s.args.y-ward.now s.args.p-ward.now s.args.q-ward.now s.args.work.now) s.args.voltage-correction.now s.args.q-compensation.now
+  outputs = extended_outputs_of (outputs_of s.args.y-ward.now s.args.p-ward.now s.args.q-ward.now s.args.work.now) s.args.voltage-correction.now s.args.q-compensation.now
 
   abbrev lengths : Lengths
-  lengths = extendedLengthsOf given outputs
+  lengths = extended_lengths_of given outputs
 
 returns : tie.Need-returns
-unfolding extendedShapeRefusal
+unfolding extended_shape_refusal
 returns c =
     let s = c.before.before.before.before.before.before.before.before.before.before.before.before.before.before.before.before in
     let e = told-first (lengths s) s.args.numbers.now (listed (given s).study.study) c.before.length-refusal.result c.before.length-refusal.ensures c.if1.true in
-    (answered-refusedX (given s) s.args.allowance (outputs s) c.before.length-refusal.result e c.if1.true, c.before.before.before.before.before.before.before.before.before.before.before.before.before.before.before.shared-slice-known.given)
+    (answered-refused_x (given s) s.args.allowance (outputs s) c.before.length-refusal.result e c.if1.true, c.before.before.before.before.before.before.before.before.before.before.before.before.before.before.before.shared-slice-known.given)
 
 -- where the lengths are right
 module _ (c : tie.Else1) where
@@ -53,14 +53,14 @@ module _ (c : tie.After-placed) where
   abbrev test : tie.Else1
   test = c.before.before
 
-  told : c.placed.result ≡ extendedShapeRefusal (given (start test)) (outputs (start test))
-  unfolding extendedShapeRefusal listed retained
+  told : c.placed.result ≡ extended_shape_refusal (given (start test)) (outputs (start test))
+  unfolding extended_shape_refusal listed retained
   told = told-then (lengths (start test)) (start test).args.numbers.now (listed (given (start test)).study.study) test.before.length-refusal.result test.before.length-refusal.ensures test.if1.left c.placed.result c.placed.ensures.1
 
 returns-2 : tie.Need-returns-2
 returns-2 c =
     let p = c.before.before in let s = start (test p) in
-    (answered-refusedX (given s) s.args.allowance (outputs s) p.placed.result (told p) c.if2.true, c.before.before.before.before.before.before.before.before.before.before.before.before.before.before.before.before.before.before.before.shared-slice-known.given)
+    (answered-refused_x (given s) s.args.allowance (outputs s) p.placed.result (told p) c.if2.true, c.before.before.before.before.before.before.before.before.before.before.before.before.before.before.before.before.before.before.before.shared-slice-known.given)
 
 -- and no bus is refused
 module _ (c : tie.Else2) where
@@ -71,25 +71,25 @@ module _ (c : tie.Else2) where
   begun = start (test placed)
 
   rows : take (length begun.args.external.now + length begun.args.internal.now + length begun.args.boundary.now - 0) (drop 0 placed.placed.last.1.1.1.1.0)
-      ≡ rowsIn begun.args.numbers.now (begun.args.external.now ++ (begun.args.internal.now ++ begun.args.boundary.now))
+      ≡ rows_in begun.args.numbers.now (begun.args.external.now ++ (begun.args.internal.now ++ begun.args.boundary.now))
   rows = front-joined begun.args.numbers.now begun.args.external.now begun.args.internal.now begun.args.boundary.now placed.placed.last.1.1.1.1.0 _ placed.placed.ensures.0
 
 returns-3 : tie.Need-returns-3
 unfolding given_of
 returns-3 c =
     let e = c.before.before in let s = begun e in
-    (answered-lostX (given s) s.args.allowance (outputs s) (placed e).placed.result (told (placed e)) e.if2.false (sym c.before.extended-finite.ensures ∙ not-true _ c.if3.true), c.before.before.before.before.before.before.before.before.before.before.before.before.before.before.before.before.before.before.before.before.before.shared-slice-known.given)
+    (answered-lost_x (given s) s.args.allowance (outputs s) (placed e).placed.result (told (placed e)) e.if2.false (sym c.before.extended-finite.ensures ∙ not-true _ c.if3.true), c.before.before.before.before.before.before.before.before.before.before.before.before.before.before.before.before.before.before.before.before.before.shared-slice-known.given)
 
 -- and all numbers are finite
 module _ (c : tie.Else3) where
   abbrev named : tie.Else2
   named = c.before.before
 
-  numbers : allFinite (given_of (given (begun named)).study.study ++ (given (begun named)).v-ext) ≡ true
+  numbers : all_finite (given_of (given (begun named)).study.study ++ (given (begun named)).v-ext) ≡ true
   unfolding given_of
   numbers = sym c.before.extended-finite.ensures ∙ not-false _ c.if3.false
 
-  matrix : T (allFinite (begun named).args.y.now)
+  matrix : T (all_finite (begun named).args.y.now)
   unfolding given_of
   matrix =
       let a = (begun named).args in
@@ -102,14 +102,14 @@ corrected-requires c κs =
     (rows-listed (given s).study (outputs s).outputs _ (without (given s) (outputs s) F) (matrix n) (sym (placed e).placed.ensures.1 ∙ e.if2.left) (rows e), F.v-ext, F.correction ∙ t, F.compensation ∙ t)
 
 returns-4 : tie.Need-returns-4
-unfolding extendedInRows
+unfolding extended_in_rows
 returns-4 c =
     let n = c.before.before.before.before.before.before.before.before.before.before.before.before.before.before.before.before.before.before.before.before.before.before in let e = named n in let s = begun e in (
       c.before.before.before.before.before.before.before.before.before.before.before.before.corrected.ensures
-          ∙ ap (λ (S : Study). studiedExtended (extendedOf S s.args.v-ext.now) (Rows c.before.before.before.before.before.before.before.before.before.before.before.before.before.before.before.before.before.before.before.allowed-rows.result) (outputs s) 0) (cut-rows (given s).study _ (rows e))
-          ∙ ap (λ (m : ℕ). studiedExtended (extendedInRows (given s)) (Rows m) (outputs s) 0) c.before.before.before.before.before.before.before.before.before.before.before.before.before.before.before.before.before.before.before.allowed-rows.ensures
+          ∙ ap (λ (S : Study). studied_extended (extended_of S s.args.v-ext.now) (Rows c.before.before.before.before.before.before.before.before.before.before.before.before.before.before.before.before.before.before.before.allowed-rows.result) (outputs s) 0) (cut-rows (given s).study _ (rows e))
+          ∙ ap (λ (m : ℕ). studied_extended (extended_in_rows (given s)) (Rows m) (outputs s) 0) c.before.before.before.before.before.before.before.before.before.before.before.before.before.before.before.before.before.before.before.allowed-rows.ensures
           ∙ allowed-extended (given s) (outputs s) (without (given s) (outputs s) (fits (test (placed e)))) s.args.allowance
-          ∙ answeredX (given s) s.args.allowance (outputs s) (placed e).placed.result (told (placed e)) e.if2.left (numbers n),
+          ∙ answered_x (given s) s.args.allowance (outputs s) (placed e).placed.result (told (placed e)) e.if2.left (numbers n),
       c.before.before.before.before.before.before.before.before.before.before.before.before.before.before.before.before.before.before.before.before.before.before.before.before.before.before.before.before.before.before.before.before.before.before.before.before.before.before.before.before.before.before.before.shared-slice-known.given,
     )
 

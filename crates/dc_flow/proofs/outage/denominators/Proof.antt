@@ -3,14 +3,14 @@ use Rattle.prelude.proofs.Prelude.{◌≡◌, refl, sym, ap, ◌∙◌, ◌++◌
 use Rattle.complex.specs.{◌⊖◌, one}
 use Rattle.complex.proofs.Matrices.{row_within}
 use Rattle.lists.proofs.Ends.{below_at}
-use Rattle.dc_flow.specs.Dc.{realRow, denominator}
-use Rattle.dc_flow.proofs.OutageLaws.{length_part, realRow-step, realRow-all, to_below, ends, row-transfer-part}
+use Rattle.dc_flow.specs.Dc.{real_row, denominator}
+use Rattle.dc_flow.proofs.OutageLaws.{length_part, real_row-step, real_row-all, to_below, ends, row-transfer-part}
 use Rattle.dc_flow.proofs.outage.denominators.Statement.{statement}
 use Rattle.dc_flow.proofs.outage.denominators.Tie as tie
 
 abbrev invariant-loop : tie.invariant-loop
 invariant-loop n ptdf froms tos ds₀ k₀ a₀ ds k a =
-    (k ≤ length froms) × (a ≡ k * n) × (length ds ≡ length ds₀) × (ds ≡ realRow (denominator n ptdf froms tos) k ++ drop k ds₀)
+    (k ≤ length froms) × (a ≡ k * n) × (length ds ≡ length ds₀) × (ds ≡ real_row (denominator n ptdf froms tos) k ++ drop k ds₀)
 
 abbrev decreases-loop : tie.decreases-loop
 decreases-loop n ptdf froms tos ds₀ k₀ a₀ ds k a = length froms - k
@@ -38,12 +38,12 @@ loop-again c =
       omega arith,
       rw (l.invariant.1, add-one, suc-mul),
       length-set l.ds l.k _ ∙ l.invariant.2,
-      realRow-step _ l.k a.ds.now l.ds _ l.invariant.3 (ap (λ (x : Float). one ⊖ x) (c.row-transfer.ensures ∙ part)) (omega (arith, s.requires)),
+      real_row-step _ l.k a.ds.now l.ds _ l.invariant.3 (ap (λ (x : Float). one ⊖ x) (c.row-transfer.ensures ∙ part)) (omega (arith, s.requires)),
     )
 
 pub denominators-spec : {M : Type 1} → statement M
-unfolding realRow
+unfolding real_row
 denominators-spec = tie.close (tie.spec invariant-loop decreases-loop (λ c. (omega arith, sym (zero-mul _), refl, refl)) (λ c. omega (arith, room c))
     (λ c. omega (arith, room c)) (λ c. omega (arith, room c)) (λ c. omega (arith, room c)) (λ c. omega (arith, room c)) (λ c. search needs)
     (λ c. search needs) (λ c. search needs) (λ c. search needs) row-transfer-requires (λ c. search needs) (λ c. search needs)
-    (λ c. search needs) (λ c. search needs) loop-again (λ c. search needs) (λ c. search realRow-all))
+    (λ c. search needs) (λ c. search needs) loop-again (λ c. search needs) (λ c. search real_row-all))

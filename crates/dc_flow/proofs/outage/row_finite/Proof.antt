@@ -1,24 +1,24 @@
 -- `dc_flow::outage::row_finite` meets its contract: the factors passed are finite.
 use Rattle.prelude.proofs.Prelude.{◌≡◌, sym, subst, ◌∙◌, Float, ℕ, ◌-◌, ◌≤◌, ◌<◌, arith, needs, T, length, finite, not-true, not-false}
-use Rattle.dc_flow.specs.Inner.Rows.{rowOutage}
+use Rattle.dc_flow.specs.Inner.Rows.{row_outage}
 use Rattle.dc_flow.proofs.OutageLaws.{ends}
 use Rattle.dc_flow.proofs.OutageFinite.{row-passed, row-failed, one-more-finite}
 use Rattle.dc_flow.proofs.outage.row_finite.Statement.{statement}
 use Rattle.dc_flow.proofs.outage.row_finite.Tie as tie
 
 abbrev invariant-loop : tie.invariant-loop
-invariant-loop l t froms tos ds k₀ k = (k ≤ length froms) × ((j : ℕ) → j < k → T (finite (rowOutage l t froms tos ds j)))
+invariant-loop l t froms tos ds k₀ k = (k ≤ length froms) × ((j : ℕ) → j < k → T (finite (row_outage l t froms tos ds j)))
 
 abbrev decreases-loop : tie.decreases-loop
 decreases-loop l t froms tos ds k₀ k = length froms - k
 
 module _ (c : tie.After-finite invariant-loop decreases-loop) where
   factors : ℕ → Float
-  factors = let a = c.before.before.before.before.before.before.before.before.before.before.before.before.args in rowOutage a.l a.t.now a.froms.now a.tos.now a.ds.now
+  factors = let a = c.before.before.before.before.before.before.before.before.before.before.before.before.args in row_outage a.l a.t.now a.froms.now a.tos.now a.ds.now
 
   -- what was tested
   told : c.finite.result ≡ finite (factors c.before.before.before.before.before.before.before.loop.k)
-  unfolding factors rowOutage
+  unfolding factors row_outage
   told = rw (c.finite.ensures, c.before.outage-factor.ensures, c.before.before.before.row-transfer.ensures)
 
 returns : tie.Need-returns invariant-loop decreases-loop

@@ -1,13 +1,13 @@
 -- `dc_flow::refusal::lodf_shape_refusal` meets its contract: each test is the definition's.
 use Rattle.prelude.proofs.Prelude.{needs}
 use Rattle.refusals.proofs.Refusing.{refusing}
-use Rattle.dc_flow.specs.Dc.{lodfShapeRefusal}
+use Rattle.dc_flow.specs.Dc.{lodf_shape_refusal}
 use Rattle.lists.proofs.Within.{within}
 use Rattle.dc_flow.proofs.refusal.lodf_shape_refusal.Statement.{statement}
 use Rattle.dc_flow.proofs.refusal.lodf_shape_refusal.Tie as tie
 
 pub lodf-shape-refusal-spec : {M : Type 1} → statement M
-unfolding lodfShapeRefusal
+unfolding lodf_shape_refusal
 lodf-shape-refusal-spec = tie.close (tie.spec (λ c κs. search needs) (λ c. search refusing depth 9) (λ c. search within)
     (λ c. search refusing depth 9) (λ c. search within) (λ c. search refusing depth 9) (λ c. search refusing depth 9) (λ c κs. search needs)
     (λ c. search refusing depth 12))

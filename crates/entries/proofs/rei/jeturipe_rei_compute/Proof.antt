@@ -8,7 +8,7 @@ returns c =
     let e = c.before.before.before.before.before.before.before.before.before.before.before.before.before.before.before.compute.ensures in
     record {
       told = rw (← e.answer) c.number_of_lem.ensures;
-      left = record { answer = refl; spokeBusesAre = e.spokeBusesAre; spokesAre = e.spokesAre; tieBusesAre = e.tieBusesAre; tiesAre = e.tiesAre };
+      left = record { answer = refl; spoke_buses_are = e.spoke_buses_are; spokes_are = e.spokes_are; tie_buses_are = e.tie_buses_are; ties_are = e.ties_are };
       summed = rw (← e.answer) c.before.give-equivalent.ensures;
     }
 

@@ -1,7 +1,7 @@
 -- `entries::scalars::jeturipe_cadd` meets its contract.
 use Rattle.prelude.proofs.Prelude.{◌++◌, needs}
-use Rattle.complex.specs.{cadd, ofParts, ofSum}
-use Rattle.complex.specs.Arithmetic.{complexOf}
+use Rattle.complex.specs.{cadd, of_parts, of_sum}
+use Rattle.complex.specs.Arithmetic.{complex_of}
 use Rattle.complex.specs.Leaves.{sum}
 use Rattle.entries.proofs.SinglesLaws.{pair-told, given-of-sum}
 use Rattle.entries.proofs.scalars.jeturipe_cadd.Statement.{statement}
@@ -11,8 +11,8 @@ returns : tie.Need-returns
 unfolding sum
 returns c =
     let x = c.before.before.before.before.before.args in
-    let a = complexOf x.a_re x.a-im in let b = complexOf x.b-re x.b-im in
-    pair-told (ofParts a ++ ofParts b) (ofSum a b) (given-of-sum a b) (cadd a b) _ _ _ _ _ c.before.before.before.before.cadd.ensures
+    let a = complex_of x.a_re x.a-im in let b = complex_of x.b-re x.b-im in
+    pair-told (of_parts a ++ of_parts b) (of_sum a b) (given-of-sum a b) (cadd a b) _ _ _ _ _ c.before.before.before.before.cadd.ensures
     c.before.before.before.pairs-finite.ensures c.give-pair.ensures.0 c.give-pair.ensures.1
 
 pub jeturipe-cadd-spec : {M : Type 1} → statement M

@@ -1,7 +1,7 @@
 -- `entries::scalars::jeturipe_cdiv` meets its contract.
 use Rattle.prelude.proofs.Prelude.{◌++◌, needs}
-use Rattle.complex.specs.{cdiv, ofParts, ofQuotient}
-use Rattle.complex.specs.Arithmetic.{complexOf}
+use Rattle.complex.specs.{cdiv, of_parts, of_quotient}
+use Rattle.complex.specs.Arithmetic.{complex_of}
 use Rattle.complex.specs.Leaves.{quotient}
 use Rattle.entries.proofs.SinglesLaws.{pair-told, given-of-quotient}
 use Rattle.entries.proofs.scalars.jeturipe_cdiv.Statement.{statement}
@@ -11,8 +11,8 @@ returns : tie.Need-returns
 unfolding quotient
 returns c =
     let x = c.before.before.before.before.before.args in
-    let a = complexOf x.a_re x.a-im in let b = complexOf x.b-re x.b-im in
-    pair-told (ofParts a ++ ofParts b) (ofQuotient a b) (given-of-quotient a b) (cdiv a b) _ _ _ _ _ c.before.before.before.before.cdiv.ensures
+    let a = complex_of x.a_re x.a-im in let b = complex_of x.b-re x.b-im in
+    pair-told (of_parts a ++ of_parts b) (of_quotient a b) (given-of-quotient a b) (cdiv a b) _ _ _ _ _ c.before.before.before.before.cdiv.ensures
     c.before.before.before.pairs-finite.ensures c.give-pair.ensures.0 c.give-pair.ensures.1
 
 pub jeturipe-cdiv-spec : {M : Type 1} → statement M

@@ -1,7 +1,7 @@
 -- `entries::scalars::jeturipe_cmul` meets its contract.
 use Rattle.prelude.proofs.Prelude.{◌++◌, needs}
-use Rattle.complex.specs.{cmul, ofParts, ofProduct}
-use Rattle.complex.specs.Arithmetic.{complexOf}
+use Rattle.complex.specs.{cmul, of_parts, of_product}
+use Rattle.complex.specs.Arithmetic.{complex_of}
 use Rattle.complex.specs.Leaves.{product}
 use Rattle.entries.proofs.SinglesLaws.{pair-told, given-of-product}
 use Rattle.entries.proofs.scalars.jeturipe_cmul.Statement.{statement}
@@ -11,8 +11,8 @@ returns : tie.Need-returns
 unfolding product
 returns c =
     let x = c.before.before.before.before.before.args in
-    let a = complexOf x.a_re x.a-im in let b = complexOf x.b-re x.b-im in
-    pair-told (ofParts a ++ ofParts b) (ofProduct a b) (given-of-product a b) (cmul a b) _ _ _ _ _ c.before.before.before.before.cmul.ensures
+    let a = complex_of x.a_re x.a-im in let b = complex_of x.b-re x.b-im in
+    pair-told (of_parts a ++ of_parts b) (of_product a b) (given-of-product a b) (cmul a b) _ _ _ _ _ c.before.before.before.before.cmul.ensures
     c.before.before.before.pairs-finite.ensures c.give-pair.ensures.0 c.give-pair.ensures.1
 
 pub jeturipe-cmul-spec : {M : Type 1} → statement M

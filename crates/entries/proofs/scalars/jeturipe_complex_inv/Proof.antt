@@ -1,7 +1,7 @@
 -- `entries::scalars::jeturipe_complex_inv` meets its contract.
 use Rattle.prelude.proofs.Prelude.{sym, ◌∙◌, needs}
-use Rattle.complex.specs.{unit, complexInv, ofParts, ofQuotient}
-use Rattle.complex.specs.Arithmetic.{complexOf}
+use Rattle.complex.specs.{unit, complex_inv, of_parts, of_quotient}
+use Rattle.complex.specs.Arithmetic.{complex_of}
 use Rattle.complex.specs.Leaves.{quotient, inverse}
 use Rattle.complex.proofs.Leaves.{parts-finite}
 use Rattle.entries.proofs.SinglesLaws.{pair-told, given-of-inverse}
@@ -9,11 +9,11 @@ use Rattle.entries.proofs.scalars.jeturipe_complex_inv.Statement.{statement}
 use Rattle.entries.proofs.scalars.jeturipe_complex_inv.Tie as tie
 
 returns : tie.Need-returns
-unfolding inverse quotient complexInv
+unfolding inverse quotient complex_inv
 returns c =
     let x = c.before.before.before.before.before.args in
-    let a = complexOf x.a_re x.a-im in
-    pair-told (ofParts a) (ofQuotient unit a) (given-of-inverse a) (complexInv a) _ _ _ _ _ c.before.before.before.before.complex-inv.ensures
+    let a = complex_of x.a_re x.a-im in
+    pair-told (of_parts a) (of_quotient unit a) (given-of-inverse a) (complex_inv a) _ _ _ _ _ c.before.before.before.before.complex-inv.ensures
     (c.before.before.before.both-finite.ensures ∙ sym (parts-finite a)) c.give-pair.ensures.0 c.give-pair.ensures.1
 
 pub jeturipe-complex-inv-spec : {M : Type 1} → statement M

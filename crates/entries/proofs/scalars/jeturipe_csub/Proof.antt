@@ -1,7 +1,7 @@
 -- `entries::scalars::jeturipe_csub` meets its contract.
 use Rattle.prelude.proofs.Prelude.{◌++◌, needs}
-use Rattle.complex.specs.{csub, ofParts, ofDifference}
-use Rattle.complex.specs.Arithmetic.{complexOf}
+use Rattle.complex.specs.{csub, of_parts, of_difference}
+use Rattle.complex.specs.Arithmetic.{complex_of}
 use Rattle.complex.specs.Leaves.{difference}
 use Rattle.entries.proofs.SinglesLaws.{pair-told, given-of-difference}
 use Rattle.entries.proofs.scalars.jeturipe_csub.Statement.{statement}
@@ -11,8 +11,8 @@ returns : tie.Need-returns
 unfolding difference
 returns c =
     let x = c.before.before.before.before.before.args in
-    let a = complexOf x.a_re x.a-im in let b = complexOf x.b-re x.b-im in
-    pair-told (ofParts a ++ ofParts b) (ofDifference a b) (given-of-difference a b) (csub a b) _ _ _ _ _ c.before.before.before.before.csub.ensures
+    let a = complex_of x.a_re x.a-im in let b = complex_of x.b-re x.b-im in
+    pair-told (of_parts a ++ of_parts b) (of_difference a b) (given-of-difference a b) (csub a b) _ _ _ _ _ c.before.before.before.before.csub.ensures
     c.before.before.before.pairs-finite.ensures c.give-pair.ensures.0 c.give-pair.ensures.1
 
 pub jeturipe-csub-spec : {M : Type 1} → statement M

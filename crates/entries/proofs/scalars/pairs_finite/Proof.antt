@@ -1,6 +1,6 @@
 -- `entries::scalars::pairs_finite` meets its contract.
 use Rattle.prelude.proofs.Prelude.{◌≡◌, refl, sym, ◌∙◌, Bool, true, false, ◌&&◌, needs, finite}
-use Rattle.binary64.specs.Values.{allFinite}
+use Rattle.binary64.specs.Values.{all_finite}
 use Rattle.entries.proofs.scalars.pairs_finite.Statement.{statement}
 use Rattle.entries.proofs.scalars.pairs_finite.Tie as tie
 
@@ -12,14 +12,14 @@ four true false r s = refl
 four false q r s = refl
 
 returns : tie.Need-returns
-unfolding allFinite
+unfolding all_finite
 returns c =
     let a = c.before.before.before.args.a in let b = c.before.before.before.args.b in
     rw (four (finite a.re) (finite a.im) (finite b.re) (finite b.im), sym c.before.before.both-finite.ensures ∙ c.before.if1.true)
     c.both-finite2.ensures
 
 returns-2 : tie.Need-returns-2
-unfolding allFinite
+unfolding all_finite
 returns-2 c =
     let a = c.before.before.args.a in let b = c.before.before.args.b in
     rw (four (finite a.re) (finite a.im) (finite b.re) (finite b.im), sym c.before.both-finite.ensures ∙ c.if1.false)

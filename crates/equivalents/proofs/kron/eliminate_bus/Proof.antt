@@ -8,7 +8,7 @@ use Rattle.prelude.proofs.Prelude.{◌≡◌, refl, ap, List, [], ◌∷◌, ℕ
 use Rattle.equivalents.proofs.Walks.{Ura, full_share, named, w32, Val, vint, vptr, SProp, ent, sep, emp, via, fst∗, id⊢, Lft, Share, GName, ftrue, fat, flft, fobs, fbor, Memory, Routine, Calls, Loops, WpFn, sem, Fun, fact, Body, FmC}
 use Rattle.equivalents.proofs.Walks.{‵, raw, some, later, ◌⊛◌, ⋆, ◌$◌, ◌∵◌, !, qed, by, move, keep, drop, use1, use2, split, join, pick, rewrite, fsplit, fsplit3, fjoin, fjoin3, feq_l, feq_i, suffices, frame, await, done, look, look_raw, init, store_raw, forget, stop, hop, fld, from, load, addr, of_opd, and_then, no_more, assigns, land, returns, enter, alloc1, alloc0, params1, pass1, pass0, free1, free0, agg, whole, sub, look_in}
 use Rattle.equivalents.proofs.Walks.{owns, mem, Is, shows, uint_Makes, uint_vals, uint_Tells, u32, f64, RefT, MutRef, ptr-vals, mut_Tells, slice_val, MutSlice, Room, finally, slice-vals, mut_slice_Tells, only, opens, closes, owned, peeks, heard, nothing, spelt, on_entry, triple_of, Contract, Triple, calls_at, ensured, lasts, says, Stays, stay_ref, gave_slice, stay_none, walk_of, Goes-ref, Goes-gave_slice, Goes-none, Walks, ends_at, walked, yes, plain}
-use Rattle.equivalents.proofs.Walks.{KronReducer, AfterRemoval, afterBus, rec-val, walk-enters}
+use Rattle.equivalents.proofs.Walks.{KronReducer, AfterRemoval, after_bus, rec-val, walk-enters}
 use denote.Struct.Laws as LL
 use denote.Enum.Laws as EL
 use Rattle.kron_reduction.specs.contracts.KronReducer as T
@@ -74,7 +74,7 @@ module _ {M : Type 1} {𝓤 : Ura M} (𝓛 : Logic 𝓤) (at_mem : Memory → SP
       qed 𝓛 ((‵ (flft κ' q') ⊛ ‵ ftrue) ∷ ‵ ((MutSlice (named 0) κ' f64).own_val x (s ∷ [])) ∷ []) ∵ nothing ! $ owned ! u32 (Is u32) (uint_Makes 𝓛 w32) n _ (refl, n-fits) $ fjoin ! $ move ! (2 ∷ 0 ∷ []) $ fjoin ! $
       owned ! T.the_row (Is T.the_row) (LL.makes T.the_type T'.the_plain 𝓛) h _ is $ fjoin ! $ move ! (1 ∷ 0 ∷ []) $ join ! $ frame ! $ done !
 
-  exits : (u : AfterRemoval) (zs : List Float) → Is An.the_row u.answer (answer-val u ∷ []) → (u ≡ (afterBus h ys n).out) × (zs ≡ (afterBus h ys n).slice) → length zs ≡ length ys
+  exits : (u : AfterRemoval) (zs : List Float) → Is An.the_row u.answer (answer-val u ∷ []) → (u ≡ (after_bus h ys n).out) × (zs ≡ (after_bus h ys n).slice) → length zs ≡ length ys
       → ent 𝓤 (⋆ 𝓛 (‵ (fobs γ ((T.the_row).coded.code u.rec)) ∷ ‵ (fbor κ (Body (mem T.the_row) b o γ)) ∷ ‵ (flft κ q) ∷ (‵ (flft κ' q') ⊛ ‵ ftrue) ∷ ‵ (finally f64 γ' zs) ∷ [])) (Post (answer-val u))
   exits u zs is e l =
       qed 𝓛 (‵ (fobs γ ((T.the_row).coded.code u.rec)) ∷ ‵ (fbor κ (Body (mem T.the_row) b o γ)) ∷ ‵ (flft κ q) ∷ (‵ (flft κ' q') ⊛ ‵ ftrue) ∷ ‵ (finally f64 γ' zs) ∷ []) ∵
@@ -104,8 +104,8 @@ module _ {M : Type 1} {𝓤 : Ura M} (𝓛 : Logic 𝓤) (at_mem : Memory → SP
         calls_at ! fm (G 𝓛 at_mem run) known to-g (and_then ! (load ! (from ! (stop !)) (look ! 11 refl)) (and_then ! (load ! (from ! (stop !)) (look ! 7 refl)) (and_then ! (load ! (from ! (stop !)) (look ! 15 refl)) (no_more !)))) (λ w.
         use1 𝓛 (later (some (λ (u : AfterRemoval). ((‵ (flft κ' q') ⊛ ‵ ftrue) ⊛ ‵ ((Rm.the_row).own_val u (w ∷ []))) ⊛ raw (ensured 𝓛 remove-bus.ended (remove-bus.clauses 𝓛 at_mem run) (κ', tt) (h, (x, (n, tt))) tt u)))) (id⊢ 𝓤 _) $ await ! tt $ pick ! (λ u.
         -- what the callee ensures, at some last list
-        split ! $ move ! (1 ∷ []) $ use1 𝓛 (some (λ (zs : Unit {0} × (List Float × (Unit {0} × Unit {0}))). ‵ (lasts remove-bus.ended (κ', tt) (h, (x, (n, tt))) zs) ⊛ raw (fact 𝓤 ((u ≡ (afterBus h ys n).out) × (zs.1.0 ≡ (afterBus h ys n).slice))))) (id⊢ 𝓤 _) $ pick ! (λ zs.
-        split ! $ move ! (1 ∷ []) $ heard ! ((u ≡ (afterBus h ys n).out) × (zs.1.0 ≡ (afterBus h ys n).slice)) (λ e. fsplit ! $ drop ! $ fsplit ! $ fsplit ! $ move ! (1 ∷ []) $ feq_l ! (λ l.
+        split ! $ move ! (1 ∷ []) $ use1 𝓛 (some (λ (zs : Unit {0} × (List Float × (Unit {0} × Unit {0}))). ‵ (lasts remove-bus.ended (κ', tt) (h, (x, (n, tt))) zs) ⊛ raw (fact 𝓤 ((u ≡ (after_bus h ys n).out) × (zs.1.0 ≡ (after_bus h ys n).slice))))) (id⊢ 𝓤 _) $ pick ! (λ zs.
+        split ! $ move ! (1 ∷ []) $ heard ! ((u ≡ (after_bus h ys n).out) × (zs.1.0 ≡ (after_bus h ys n).slice)) (λ e. fsplit ! $ drop ! $ fsplit ! $ fsplit ! $ move ! (1 ∷ []) $ feq_l ! (λ l.
         move ! (2 ∷ []) $ split ! $ move ! (1 ∷ []) $ peeks ! Rm.the_row (Is Rm.the_row) (shows 𝓛 Rm.the_row) u (w ∷ []) (λ out.
         -- [what the AfterRemoval owns; y's token; the last list; …; what bus owns; the cell 5; what the KronReducer owned; the open borrow; obs; auth; _7 at 10; _6 12; _5 14; _4 16; _3 18; _2 20; _1 22; room for _0 24]
         land ! (from ! (stop !)) (init ! 16 refl ((LL.lawful Rm.the_type Rm'.the_laws 𝓛).typed u _ out).0) $ rewrite ! 16 (λ (v : Val). ‵ (fat full_share Rm'.mir l₄ 0 v)) (ap only (LL.tells Rm.the_type Rm'.the_laws u _ out)) refl $

@@ -8,7 +8,7 @@ use Rattle.prelude.proofs.Prelude.{◌≡◌, refl, ap, List, [], ◌∷◌, ℕ
 use Rattle.equivalents.proofs.Walks.{Ura, full_share, named, Val, vptr, SProp, ent, sep, emp, via, fst∗, id⊢, Lft, Share, GName, ftrue, fat, flft, fobs, fbor, Fml, Memory, Routine, Calls, Loops, WpFn, sem, Fun, fact, Body, FmC}
 use Rattle.equivalents.proofs.Walks.{‵, raw, some, later, ◌⊛◌, ⋆, ◌$◌, ◌∵◌, !, qed, by, move, keep, drop, use1, split, join, pick, rewrite, fsplit, fsplit3, fjoin, fjoin3, feq_l, feq_i, suffices, frame, await, done, use3, look, look_raw, init, store_raw, forget, stop, hop, fld, from, load, addr, of_opd, and_then, no_more, assigns, land, returns, enter, alloc1, alloc0, params1, pass1, pass0, free1, free0, agg, whole, sub, look_in}
 use Rattle.equivalents.proofs.Walks.{owns, mem, Is, shows, u32, f64, RefT, MutRef, ptr-vals, mut_Tells, slice_val, MutSlice, Room, finally, slice-vals, mut_slice_Tells, ShrSlice, shr_slice_Tells, shr_slice_copy, only, opens, closes, owned, peeks, heard, nothing, spelt, on_entry, triple_of, Contract, Triple, calls_at, ensured, lasts, says, Stays, stay_ref, gave_slice, walk_of, Goes-ref, Goes-gave_slice, Walks, ends_at, walked, stay_none_slice, Goes-none_slice, yes, plain}
-use Rattle.equivalents.proofs.Walks.{KronReducer, afterBuses, AfterRemovals, rec-val, walk-enters}
+use Rattle.equivalents.proofs.Walks.{KronReducer, after_buses, AfterRemovals, rec-val, walk-enters}
 use denote.Struct.Laws as LL
 use Rattle.kron_reduction.specs.contracts.KronReducer as T
 use Rattle.kron_reduction.proofs.KronReducer.TheLaws as T'
@@ -83,7 +83,7 @@ module _ {M : Type 1} {𝓤 : Ura M} (𝓛 : Logic 𝓤) (at_mem : Memory → SP
       qed 𝓛 ((‵ (flft κ' q') ⊛ ‵ (flft κ'' q'') ⊛ ‵ ftrue) ∷ ‵ List-own ∷ ‵ ((MutSlice (named 0) κ' f64).own_val x (s ∷ [])) ∷ []) ∵ nothing ! $ move ! (2 ∷ 0 ∷ []) $ fjoin ! $ move ! (2 ∷ 0 ∷ []) $ fjoin ! $
       owned ! T.the_row (Is T.the_row) (LL.makes T.the_type T'.the_plain 𝓛) h _ is $ fjoin ! $ move ! (1 ∷ 0 ∷ []) $ join ! $ frame ! $ done !
 
-  exits : (u : AfterRemovals) (zs : List Float) → Is An.the_row u.removals (count-val u ∷ []) → (u ≡ (afterBuses h ys ns).out) × (zs ≡ (afterBuses h ys ns).slice) → length zs ≡ length ys
+  exits : (u : AfterRemovals) (zs : List Float) → Is An.the_row u.removals (count-val u ∷ []) → (u ≡ (after_buses h ys ns).out) × (zs ≡ (after_buses h ys ns).slice) → length zs ≡ length ys
       → ent 𝓤 (⋆ 𝓛 (‵ (fobs γ ((T.the_row).coded.code u.rec)) ∷ ‵ (fbor κ (Body (mem T.the_row) b o γ)) ∷ ‵ (flft κ q) ∷ (‵ (flft κ' q') ⊛ ‵ (flft κ'' q'') ⊛ ‵ ftrue) ∷ ‵ (finally f64 γ' zs) ∷ ‵ List-own ∷ [])) (Post (count-val u))
   exits u zs is e l =
       qed 𝓛 (‵ (fobs γ ((T.the_row).coded.code u.rec)) ∷ ‵ (fbor κ (Body (mem T.the_row) b o γ)) ∷ ‵ (flft κ q) ∷ (‵ (flft κ' q') ⊛ ‵ (flft κ'' q'') ⊛ ‵ ftrue) ∷ ‵ (finally f64 γ' zs) ∷ ‵ List-own ∷ []) ∵
@@ -114,8 +114,8 @@ module _ {M : Type 1} {𝓤 : Ura M} (𝓛 : Logic 𝓤) (at_mem : Memory → SP
         calls_at ! fm (G 𝓛 at_mem run) known to-g (and_then ! (load ! (from ! (stop !)) (look ! 12 refl)) (and_then ! (load ! (from ! (stop !)) (look ! 8 refl)) (and_then ! (load ! (from ! (stop !)) (look ! 16 refl)) (no_more !)))) (λ w.
         use1 𝓛 (later (some (λ (u : AfterRemovals). ((‵ (flft κ' q') ⊛ ‵ (flft κ'' q'') ⊛ ‵ ftrue) ⊛ ‵ ((Rm.the_row).own_val u (w ∷ []))) ⊛ raw (ensured 𝓛 remove-buses.ended (remove-buses.clauses 𝓛 at_mem run) (κ', (κ'', tt)) (h, (x, (z, tt))) tt u)))) (id⊢ 𝓤 _) $ await ! tt $ pick ! (λ u.
         -- what the callee ensures, at some last list
-        split ! $ move ! (1 ∷ []) $ use1 𝓛 (some (λ (zs : Unit {0} × (List Float × (Unit {0} × Unit {0}))). ‵ (lasts remove-buses.ended (κ', (κ'', tt)) (h, (x, (z, tt))) zs) ⊛ raw (fact 𝓤 ((u ≡ (afterBuses h ys ns).out) × (zs.1.0 ≡ (afterBuses h ys ns).slice))))) (id⊢ 𝓤 _) $ pick ! (λ zs.
-        split ! $ move ! (1 ∷ []) $ heard ! ((u ≡ (afterBuses h ys ns).out) × (zs.1.0 ≡ (afterBuses h ys ns).slice)) (λ e. fsplit ! $ drop ! $ fsplit ! $ fsplit ! $ move ! (1 ∷ []) $ feq_l ! (λ l.
+        split ! $ move ! (1 ∷ []) $ use1 𝓛 (some (λ (zs : Unit {0} × (List Float × (Unit {0} × Unit {0}))). ‵ (lasts remove-buses.ended (κ', (κ'', tt)) (h, (x, (z, tt))) zs) ⊛ raw (fact 𝓤 ((u ≡ (after_buses h ys ns).out) × (zs.1.0 ≡ (after_buses h ys ns).slice))))) (id⊢ 𝓤 _) $ pick ! (λ zs.
+        split ! $ move ! (1 ∷ []) $ heard ! ((u ≡ (after_buses h ys ns).out) × (zs.1.0 ≡ (after_buses h ys ns).slice)) (λ e. fsplit ! $ drop ! $ fsplit ! $ fsplit ! $ move ! (1 ∷ []) $ feq_l ! (λ l.
         move ! (2 ∷ []) $ split ! $ move ! (1 ∷ []) $ peeks ! Rm.the_row (Is Rm.the_row) (shows 𝓛 Rm.the_row) u (w ∷ []) (λ out.
         -- [what the AfterRemovals owns; the tokens of y and list; the last list; …; what the list owns; …; the cell 6; what the KronReducer owned; the open borrow; obs; auth; _7 at 11; _6 13; _5 15; _4 17; _3 19; _2 21; _1 23; room for _0 25]
         land ! (from ! (stop !)) (init ! 17 refl ((LL.lawful Rm.the_type Rm'.the_laws 𝓛).typed u _ out).0) $ rewrite ! 17 (λ (v : Val). ‵ (fat full_share Rm'.mir l₄ 0 v)) (ap only (LL.tells Rm.the_type Rm'.the_laws u _ out)) refl $

@@ -7,7 +7,7 @@ use Rattle.prelude.proofs.Prelude.{◌≡◌, refl, ap, List, [], ◌∷◌, ℕ
 use Rattle.equivalents.proofs.Walks.{Ura, full_share, named, Val, vptr, SProp, ent, sep, emp, via, fst∗, id⊢, Lft, Share, GName, ftrue, fat, flft, Fml, flent, Memory, Routine, Calls, Loops, WpFn, sem, Fun, fact, Body, FmC}
 use Rattle.equivalents.proofs.Walks.{‵, raw, some, later, ◌⊛◌, ⋆, ◌$◌, ◌∵◌, !, qed, by, move, keep, drop, use1, use2, split, join, pick, rewrite, fsplit, fjoin, feq_l, suffices, frame, await, done, use3, look, init, forget, stop, hop, fld, from, load, addr, of_opd, and_then, no_more, assigns, land, returns, enter, alloc1, alloc0, params1, pass1, pass0, free1, free0, agg, whole, sub, look_in, lft_new, lft_end}
 use Rattle.equivalents.proofs.Walks.{owns, mem, Is, shows, u32, f64, RefT, MutRef, slice_val, MutSlice, Room, finally, slice-vals, mut_slice_Tells, ShrSlice, shr_slice_Tells, shr_slice_copy, only, owned, peeks, heard, nothing, on_entry, triple_of, Contract, Triple, calls_at, ensured, lasts, says, Stays, gave_slice, stay_none, walk_of, Goes-gave_slice, Goes-none, Walks, ends_at, walked, stay_none_slice, Goes-none_slice, yes, plain, lends_ref, ref_back}
-use Rattle.equivalents.proofs.Walks.{KronReducer, afterBuses, AfterRemovals, rec-val, walk-enters, cell, own, lie-in, lie-out}
+use Rattle.equivalents.proofs.Walks.{KronReducer, after_buses, AfterRemovals, rec-val, walk-enters, cell, own, lie-in, lie-out}
 use denote.Struct.Laws as LL
 use Rattle.kron_reduction.specs.declared.Removals.{Removals}
 use Rattle.kron_reduction.specs.contracts.KronReducer as T
@@ -91,7 +91,7 @@ module _ {M : Type 1} {𝓤 : Ura M} (𝓛 : Logic 𝓤) (at_mem : Memory → SP
       qed 𝓛 ((‵ (flft (ν ∷ []) full_share) ⊛ ‵ (flft κ q) ⊛ ‵ (flft κ'' q'') ⊛ ‵ ftrue) ∷ (‵ List-own ⊛ ‵ (lent-own ν l δ)) ∷ ‵ ((MutSlice (named 0) κ f64).own_val x (s ∷ [])) ∷ []) ∵
       move ! (1 ∷ []) $ split ! $ nothing ! $ move ! (1 ∷ 0 ∷ []) $ fjoin ! $ move ! (3 ∷ 0 ∷ []) $ fjoin ! $ move ! (1 ∷ 0 ∷ []) $ fjoin ! $ move ! (1 ∷ 0 ∷ []) $ join ! $ frame ! $ done !
 
-  exits : (c : Removals) (r : KronReducer) (zs : List Float) → Is An.the_row c (answer-val c ∷ []) → Is T.the_row r (rec-val r ∷ []) → (c ≡ (afterBuses h ys ns).out.removals × r ≡ (afterBuses h ys ns).out.rec × zs ≡ (afterBuses h ys ns).slice) → length zs ≡ length ys
+  exits : (c : Removals) (r : KronReducer) (zs : List Float) → Is An.the_row c (answer-val c ∷ []) → Is T.the_row r (rec-val r ∷ []) → (c ≡ (after_buses h ys ns).out.removals × r ≡ (after_buses h ys ns).out.rec × zs ≡ (after_buses h ys ns).slice) → length zs ≡ length ys
       → ent 𝓤 (⋆ 𝓛 ((‵ (flft κ q) ⊛ ‵ (flft κ'' q'') ⊛ ‵ ftrue) ∷ ‵ (finally f64 γ zs) ∷ ‵ List-own ∷ [])) (Post (LL.val Rm.the_type Rm'.the_laws (out c r)))
   exits c r zs is_c is-r e l =
       qed 𝓛 ((‵ (flft κ q) ⊛ ‵ (flft κ'' q'') ⊛ ‵ ftrue) ∷ ‵ (finally f64 γ zs) ∷ ‵ List-own ∷ []) ∵
@@ -123,8 +123,8 @@ module _ {M : Type 1} {𝓤 : Ura M} (𝓛 : Logic 𝓤) (at_mem : Memory → SP
         calls_at ! fm (G 𝓛 at_mem run) known (to-g ν l₄ δ) (and_then ! (load ! (from ! (stop !)) (look ! 9 refl)) (and_then ! (load ! (from ! (stop !)) (look ! 5 refl)) (and_then ! (load ! (from ! (stop !)) (look ! 14 refl)) (no_more !)))) (λ w.
         use1 𝓛 (later (some (λ (c : Removals). ((‵ (flft (ν ∷ []) full_share) ⊛ ‵ (flft κ q) ⊛ ‵ (flft κ'' q'') ⊛ ‵ ftrue) ⊛ ‵ ((An.the_row).own_val c (w ∷ []))) ⊛ raw (ensured 𝓛 callee.ended (callee.clauses 𝓛 at_mem run) (ν ∷ [], (κ, (κ'', tt))) (lent l₄ δ, (x, (z, tt))) tt c)))) (id⊢ 𝓤 _) $ await ! tt $ pick ! (λ c.
         -- what the callee ensures, at some last record and last list
-        split ! $ move ! (1 ∷ []) $ use1 𝓛 (some (λ (zs : KronReducer × (List Float × (Unit {0} × Unit {0}))). ‵ (lasts callee.ended (ν ∷ [], (κ, (κ'', tt))) (lent l₄ δ, (x, (z, tt))) zs) ⊛ raw (fact 𝓤 (c ≡ (afterBuses h ys ns).out.removals × zs.0 ≡ (afterBuses h ys ns).out.rec × zs.1.0 ≡ (afterBuses h ys ns).slice)))) (id⊢ 𝓤 _) $ pick ! (λ zs.
-        split ! $ move ! (1 ∷ []) $ heard ! (c ≡ (afterBuses h ys ns).out.removals × zs.0 ≡ (afterBuses h ys ns).out.rec × zs.1.0 ≡ (afterBuses h ys ns).slice) (λ e. fsplit ! $ move ! (1 ∷ []) $ fsplit ! $ fsplit ! $ move ! (1 ∷ []) $ feq_l ! (λ l.
+        split ! $ move ! (1 ∷ []) $ use1 𝓛 (some (λ (zs : KronReducer × (List Float × (Unit {0} × Unit {0}))). ‵ (lasts callee.ended (ν ∷ [], (κ, (κ'', tt))) (lent l₄ δ, (x, (z, tt))) zs) ⊛ raw (fact 𝓤 (c ≡ (after_buses h ys ns).out.removals × zs.0 ≡ (after_buses h ys ns).out.rec × zs.1.0 ≡ (after_buses h ys ns).slice)))) (id⊢ 𝓤 _) $ pick ! (λ zs.
+        split ! $ move ! (1 ∷ []) $ heard ! (c ≡ (after_buses h ys ns).out.removals × zs.0 ≡ (after_buses h ys ns).out.rec × zs.1.0 ≡ (after_buses h ys ns).slice) (λ e. fsplit ! $ move ! (1 ∷ []) $ fsplit ! $ fsplit ! $ move ! (1 ∷ []) $ feq_l ! (λ l.
         move ! (3 ∷ []) $ split ! $ move ! (1 ∷ []) $ peeks ! An.the_row (Is An.the_row) (shows 𝓛 An.the_row) c (w ∷ []) (λ is-w.
         -- [what the answer owns; the tokens; the last list; …; the last record 4; what bus owns; the lender's part 6; _9 at 7; _8 9; _7 11; _6 13; room for _5 15; what frees _4 17; _3 18; _2 20; _1 22; room for _0 24]
         land ! (from ! (stop !)) (init ! 15 refl ((LL.lawful An.the_type An'.the_laws 𝓛).typed c _ is-w).0) $ rewrite ! 15 (λ (v : Val). ‵ (fat full_share An'.mir l₅ 0 v)) (ap only (LL.tells An.the_type An'.the_laws c _ is-w)) refl $

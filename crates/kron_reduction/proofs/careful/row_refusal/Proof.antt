@@ -1,7 +1,7 @@
 -- `kron_reduction::careful::row_refusal` meets its contract: the own entry is too small, nothing need be tried, its squared magnitude is not finite, or the rows tell.
 use Rattle.prelude.proofs.Prelude.{◌≡◌, refl, sym, ap, ◌∙◌, subst, Bool, true, false, not, ◌&&◌, needs, T, Float, lt, finite, not-true, not-false}
-use Rattle.complex.specs.{divisionLimit, sqmag, Matrix, entry_at}
-use Rattle.complex.specs.Inner.Ordinary.{ordinarySquare}
+use Rattle.complex.specs.{division_limit, sqmag, Matrix, entry_at}
+use Rattle.complex.specs.Inner.Ordinary.{ordinary_square}
 use Rattle.kron_reduction.proofs.Rows.{all-fine, fine-all, row_small, row_done, row-not, row-square, row-ordinary}
 use Rattle.kron_reduction.proofs.careful.row_refusal.Statement.{statement}
 use Rattle.kron_reduction.proofs.careful.row_refusal.Tie as tie
@@ -13,19 +13,19 @@ abbrev own : tie.Start → Float
 own s = sqmag (Y s s.args.k s.args.k)
 
 returns : tie.Need-returns
-unfolding divisionLimit
+unfolding division_limit
 returns c =
     let s = c.before.before.before in
-    row_small _ _ _ s.requires.1 (ap (λ (x : Float). lt x divisionLimit) (sym c.before.own_square.ensures) ∙ c.if1.true)
+    row_small _ _ _ s.requires.1 (ap (λ (x : Float). lt x division_limit) (sym c.before.own_square.ensures) ∙ c.if1.true)
 
 -- an own entry that is not too small
 module _ (c : tie.Else1) where
   abbrev start : tie.Start
   start = c.before.before.before
 
-  big : lt (own start) divisionLimit ≡ false
-  unfolding divisionLimit
-  big = ap (λ (x : Float). lt x divisionLimit) (sym c.before.own_square.ensures) ∙ c.if1.false
+  big : lt (own start) division_limit ≡ false
+  unfolding division_limit
+  big = ap (λ (x : Float). lt x division_limit) (sym c.before.own_square.ensures) ∙ c.if1.false
 
 both : (far ordinary : Bool) → (not far && ordinary) ≡ true → (far ≡ false) × T ordinary
 both true o e = absurd (subst T (sym e) tt)
@@ -34,8 +34,8 @@ both false o e = (refl, subst T (sym e) tt)
 returns-2 : tie.Need-returns-2
 returns-2 c =
     let e = c.before.before in let s = start e in
-    let (far, all) = both (lt e.before.own_square.result ordinarySquare) s.args.ordinary (sym c.before.surely-finite.ensures ∙ c.if2.true) in
-    row-ordinary _ _ _ s.pre.1 s.pre.2 (s.pre.3 all) (big e) (ap (λ (x : Float). lt x ordinarySquare) (sym e.before.own_square.ensures) ∙ far)
+    let (far, all) = both (lt e.before.own_square.result ordinary_square) s.args.ordinary (sym c.before.surely-finite.ensures ∙ c.if2.true) in
+    row-ordinary _ _ _ s.pre.1 s.pre.2 (s.pre.3 all) (big e) (ap (λ (x : Float). lt x ordinary_square) (sym e.before.own_square.ensures) ∙ far)
 
 -- the test of the own entry's squared magnitude
 module _ (c : tie.After-finite) where

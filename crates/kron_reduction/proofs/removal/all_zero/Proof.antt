@@ -1,12 +1,12 @@
 -- `kron_reduction::removal::all_zero` meets its contract: all are zero where those passed are and the rest is.
 use Rattle.prelude.proofs.Prelude.{◌≡◌, ◌&&◌, ◌-◌, needs, length, drop}
-use Rattle.lists.specs.Buses.{allZero}
+use Rattle.lists.specs.Buses.{all_zero}
 use Rattle.lists.proofs.Lookups.{passing}
 use Rattle.kron_reduction.proofs.removal.all_zero.Statement.{statement}
 use Rattle.kron_reduction.proofs.removal.all_zero.Tie as tie
 
 abbrev invariant-loop : tie.invariant-loop
-invariant-loop places zero₀ i₀ zero i = allZero places ≡ (zero && allZero (drop i places))
+invariant-loop places zero₀ i₀ zero i = all_zero places ≡ (zero && all_zero (drop i places))
 
 abbrev decreases-loop : tie.decreases-loop
 decreases-loop places zero₀ i₀ zero i = length places - i

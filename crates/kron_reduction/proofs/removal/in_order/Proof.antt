@@ -1,12 +1,12 @@
 -- `kron_reduction::removal::in_order` meets its contract. The loop's invariant: the list is in order where what is left is, from `low` up.
 use Rattle.prelude.proofs.Prelude.{◌≡◌, sym, ap, ◌∙◌, ◌&&◌, ◌-◌, ◌≤◌, arith, needs, length, drop, drop_of_length-le}
 use Rattle.lists.specs.Buses.{rising, all_below}
-use Rattle.kron_reduction.proofs.Positions.{risesFrom, rises-from, rises-on, rises-low, rises-high}
+use Rattle.kron_reduction.proofs.Positions.{rises_from, rises-from, rises-on, rises-low, rises-high}
 use Rattle.kron_reduction.proofs.removal.in_order.Statement.{statement}
 use Rattle.kron_reduction.proofs.removal.in_order.Tie as tie
 
 abbrev invariant-loop : tie.invariant-loop
-invariant-loop made buses low₀ i₀ low i = (i ≤ length buses) × ((rising buses && all_below made buses) ≡ risesFrom low made (drop i buses))
+invariant-loop made buses low₀ i₀ low i = (i ≤ length buses) × ((rising buses && all_below made buses) ≡ rises_from low made (drop i buses))
 
 abbrev decreases-loop : tie.decreases-loop
 decreases-loop made buses low₀ i₀ low i = length buses - i
@@ -30,9 +30,9 @@ loop-again c =
     (omega arith, b.loop.invariant.1 ∙ rises-on b.before.args.made b.loop.low xs b.loop.i (omega arith) c.before.if1.false c.if2.false)
 
 returns-3 : tie.Need-returns-3 invariant-loop decreases-loop
-unfolding risesFrom
+unfolding rises_from
 returns-3 c =
-    sym (c.before.loop.invariant.1 ∙ ap (risesFrom c.before.loop.low c.before.before.args.made) (drop_of_length-le _ c.loop-test.false))
+    sym (c.before.loop.invariant.1 ∙ ap (rises_from c.before.loop.low c.before.before.args.made) (drop_of_length-le _ c.loop-test.false))
 
 pub in-order-spec : {M : Type 1} → statement M
 in-order-spec = tie.close (tie.spec invariant-loop decreases-loop loop-holds (λ c. search needs)

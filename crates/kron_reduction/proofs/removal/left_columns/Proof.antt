@@ -1,8 +1,8 @@
 -- `kron_reduction::removal::left_columns` meets its contract: both calls work out the columns before k.
 use Rattle.prelude.proofs.Prelude.{refl, sym, ap, ◌∙◌, ℕ, ◌+◌, ◌≤◌, ◌<◌, arith, needs, add-zero}
 use Rattle.complex.specs.{entry}
-use Rattle.kron_reduction.specs.Kron.{newEntry}
-use Rattle.kron_reduction.specs.Inner.Removal.{oldRow}
+use Rattle.kron_reduction.specs.Kron.{new_entry}
+use Rattle.kron_reduction.specs.Inner.Removal.{old_row}
 use Rattle.kron_reduction.proofs.Positions.{kept-before}
 use Rattle.kron_reduction.proofs.removal.left_columns.Statement.{statement}
 use Rattle.kron_reduction.proofs.removal.left_columns.Tie as tie
@@ -19,7 +19,7 @@ returns c =
     let row = s.args.row.now in (
       λ (q : ℕ) (l : q < k).
           done.reduce-columns.ensures.0 q (omega arith) l
-          ∙ ap (λ (at : ℕ). newEntry (entry ys (at + oldRow k q)) (entry ys (at + k)) (entry row (oldRow k q)) (entry row k)) (sym done.before.before.if1.true),
+          ∙ ap (λ (at : ℕ). new_entry (entry ys (at + old_row k q)) (entry ys (at + k)) (entry row (old_row k q)) (entry row k)) (sym done.before.before.if1.true),
       done.reduce-columns.ensures.2,
     )
 

@@ -1,12 +1,12 @@
 -- `kron_reduction::removal::new_entry` meets its contract: the definition is the code's own expression.
 use Rattle.prelude.proofs.Prelude.{ap, ◌∙◌, needs}
 use Rattle.complex.specs.{Complex, csub, cdiv}
-use Rattle.kron_reduction.specs.Kron.{newEntry}
+use Rattle.kron_reduction.specs.Kron.{new_entry}
 use Rattle.kron_reduction.proofs.removal.new_entry.Statement.{statement}
 use Rattle.kron_reduction.proofs.removal.new_entry.Tie as tie
 
 returns : tie.Need-returns
-unfolding newEntry
+unfolding new_entry
 returns c =
     c.csub.ensures
     ∙ ap (csub c.before.before.before.args.ij) (c.before.cdiv.ensures ∙ ap (λ (p : Complex). cdiv p c.before.before.before.args.kk) c.before.before.cmul.ensures)

@@ -1,8 +1,8 @@
 -- `kron_reduction::removal::other_rows` meets its contract: the rows before k, then those after it, which the first have left as they were.
 use Rattle.prelude.proofs.Prelude.{◌≡◌, sym, ap, ◌∙◌, ℕ, ◌+◌, ◌-◌, ◌*◌, ◌≤◌, ◌<◌, add-one, arith, needs, ⊎_elim, add-zero, mul-le-mul_right}
 use Rattle.complex.specs.{Complex, entry, entry_at}
-use Rattle.kron_reduction.specs.Kron.{newEntry}
-use Rattle.kron_reduction.specs.Inner.Removal.{oldRow}
+use Rattle.kron_reduction.specs.Kron.{new_entry}
+use Rattle.kron_reduction.specs.Inner.Removal.{old_row}
 use Rattle.lists.proofs.Order.{lt-or-ge}
 use Rattle.kron_reduction.proofs.Positions.{kept-before, kept-after}
 use Rattle.kron_reduction.proofs.removal.other_rows.Statement.{statement}
@@ -36,11 +36,11 @@ returns c =
           ⊎_elim
           (λ (l : p < k). second.put-rows2.ensures.1 p q l v ∙ first.put-rows.ensures.0 p q (omega arith) l v)
           (λ (l : k ≤ p).
-          let low : k + 0 ≤ oldRow k p = rw (kept-after k p l) (omega arith) in
-          let same : (j : ℕ) → entry_at n impedance-between (oldRow k p) j ≡ entry_at n y (oldRow k p) j = λ (j : ℕ). first.put-rows.ensures.2 (oldRow k p) j low in
+          let low : k + 0 ≤ old_row k p = rw (kept-after k p l) (omega arith) in
+          let same : (j : ℕ) → entry_at n impedance-between (old_row k p) j ≡ entry_at n y (old_row k p) j = λ (j : ℕ). first.put-rows.ensures.2 (old_row k p) j low in
           second.put-rows2.ensures.0 p q l u v
-          ∙ ap (λ (x : Complex). newEntry x (entry_at n impedance-between (oldRow k p) k) (entry row (oldRow k q)) (entry row k)) (same (oldRow k q))
-          ∙ ap (λ (x : Complex). newEntry (entry_at n y (oldRow k p) (oldRow k q)) x (entry row (oldRow k q)) (entry row k)) (same k))
+          ∙ ap (λ (x : Complex). new_entry x (entry_at n impedance-between (old_row k p) k) (entry row (old_row k q)) (entry row k)) (same (old_row k q))
+          ∙ ap (λ (x : Complex). new_entry (entry_at n y (old_row k p) (old_row k q)) x (entry row (old_row k q)) (entry row k)) (same k))
           (lt-or-ge p k),
       λ (t : ℕ) (l : (n - 1) * (n - 1) ≤ t).
           let fewer : k ≤ n - 1 = omega arith in

@@ -5,8 +5,8 @@ use Rattle.lists.proofs.Order.{lt-or-ge}
 use Rattle.lists.proofs.Parts.{back}
 use Rattle.complex.proofs.Entries.{entry-take, entry-drop, entry-back-before, entry-back-in, entry-back-after}
 use Rattle.complex.proofs.Matrices.{row_within, entry-within}
-use Rattle.kron_reduction.specs.Kron.{newEntry}
-use Rattle.kron_reduction.specs.Inner.Removal.{oldRow}
+use Rattle.kron_reduction.specs.Kron.{new_entry}
+use Rattle.kron_reduction.specs.Inner.Removal.{old_row}
 use Rattle.kron_reduction.proofs.Positions.{Room, room, kept-lt, length_part}
 use Rattle.kron_reduction.proofs.removal.put_row.Statement.{statement}
 use Rattle.kron_reduction.proofs.removal.put_row.Tie as tie
@@ -49,8 +49,8 @@ returns c =
           ap (λ (ys : List Float). entry ys (p * m + q)) shape
           ∙ entry-back-in (p * m) (at + n) y z fits long q (omega arith)
           ∙ run.reduce-row.ensures.0 q l
-          ∙ ap (λ (x : Complex). newEntry x (entry (take w (drop f y)) (at + k)) (entry row (oldRow k q)) (entry row k)) (old (oldRow k q) (kept-lt k q n l))
-          ∙ ap (λ (x : Complex). newEntry (entry y (i * n + oldRow k q)) x (entry row (oldRow k q)) (entry row k)) (old k s.requires.1),
+          ∙ ap (λ (x : Complex). new_entry x (entry (take w (drop f y)) (at + k)) (entry row (old_row k q)) (entry row k)) (old (old_row k q) (kept-lt k q n l))
+          ∙ ap (λ (x : Complex). new_entry (entry y (i * n + old_row k q)) x (entry row (old_row k q)) (entry row k)) (old k s.requires.1),
       λ (r q : ℕ) (l : r < p) (u : q < m).
           ap (λ (ys : List Float). entry ys (r * m + q)) shape ∙ entry-back-before (p * m) (at + n) y z fits long (r * m + q) (entry-within p m r q l u),
       λ (r q : ℕ) (l : i < r).

@@ -1,8 +1,8 @@
 -- `kron_reduction::removal::put_rows` meets its contract. The loop's invariant: the rows passed are the smaller matrix's, the old rows further down are as they were.
 use Rattle.prelude.proofs.Prelude.{◌≡◌, refl, sym, ap, ◌∙◌, subst, ℕ, ◌+◌, ◌-◌, ◌*◌, ◌≤◌, ◌<◌, arith, needs, length, ⊎_elim}
 use Rattle.complex.specs.{Complex, entry, entry_at}
-use Rattle.kron_reduction.specs.Kron.{newEntry}
-use Rattle.kron_reduction.specs.Inner.Removal.{oldRow}
+use Rattle.kron_reduction.specs.Kron.{new_entry}
+use Rattle.kron_reduction.specs.Inner.Removal.{old_row}
 use Rattle.lists.proofs.Order.{lt-or-ge}
 use Rattle.complex.proofs.Matrices.{row_within}
 use Rattle.kron_reduction.proofs.removal.put_rows.Statement.{statement}
@@ -12,7 +12,7 @@ abbrev invariant-loop : tie.invariant-loop
 invariant-loop n k d first end y₀ row p₀ y p =
     (first ≤ p) × (p ≤ end) × (length y ≡ length y₀)
     × ((r q : ℕ) → first ≤ r → r < p → q < n - 1 → entry_at (n - 1) y r q
-    ≡ newEntry (entry_at n y₀ (oldRow k r) (oldRow k q)) (entry_at n y₀ (oldRow k r) k) (entry row (oldRow k q)) (entry row k))
+    ≡ new_entry (entry_at n y₀ (old_row k r) (old_row k q)) (entry_at n y₀ (old_row k r) k) (entry row (old_row k q)) (entry row k))
     × ((r q : ℕ) → r < first → q < n - 1 → entry_at (n - 1) y r q ≡ entry_at (n - 1) y₀ r q)
     × ((r q : ℕ) → p + d ≤ r → entry_at n y r q ≡ entry_at n y₀ r q)
     × ((t : ℕ) → p * (n - 1) ≤ t → entry y t ≡ entry y₀ t)
@@ -39,8 +39,8 @@ loop-again c =
     let row = s.args.row.now in let inv = g.loop.invariant in let did = ran.put-row.ensures in
     let test : p < s.args.end = ran.before.before.loop-test.true in
     let from : s.args.first ≤ p = inv.0 in
-    let at : p + d ≡ oldRow k p = sym (s.requires.4 p from test) in
-    let below : (j : ℕ) → entry_at n y (p + d) j ≡ entry_at n y0 (oldRow k p) j =
+    let at : p + d ≡ old_row k p = sym (s.requires.4 p from test) in
+    let below : (j : ℕ) → entry_at n y (p + d) j ≡ entry_at n y0 (old_row k p) j =
     λ (j : ℕ). inv.5 (p + d) j (omega arith) ∙ ap (λ (r : ℕ). entry_at n y0 r j) at in (
       omega arith,
       omega arith,
@@ -52,9 +52,9 @@ loop-again c =
           let e : r ≡ p = omega arith in
           ap (λ (r : ℕ). entry_at m ran.put-row.new.1.1.1.1.0 r q) e
           ∙ did.0 q v
-          ∙ ap (λ (x : Complex). newEntry x (entry_at n y (p + d) k) (entry row (oldRow k q)) (entry row k)) (below (oldRow k q))
-          ∙ ap (λ (x : Complex). newEntry (entry_at n y0 (oldRow k p) (oldRow k q)) x (entry row (oldRow k q)) (entry row k)) (below k)
-          ∙ ap (λ (r : ℕ). newEntry (entry_at n y0 (oldRow k r) (oldRow k q)) (entry_at n y0 (oldRow k r) k) (entry row (oldRow k q)) (entry row k)) (sym e))
+          ∙ ap (λ (x : Complex). new_entry x (entry_at n y (p + d) k) (entry row (old_row k q)) (entry row k)) (below (old_row k q))
+          ∙ ap (λ (x : Complex). new_entry (entry_at n y0 (old_row k p) (old_row k q)) x (entry row (old_row k q)) (entry row k)) (below k)
+          ∙ ap (λ (r : ℕ). new_entry (entry_at n y0 (old_row k r) (old_row k q)) (entry_at n y0 (old_row k r) k) (entry row (old_row k q)) (entry row k)) (sym e))
           (lt-or-ge r p),
       λ (r q : ℕ) (l : r < s.args.first) (v : q < m). did.1 r q (omega arith) v ∙ inv.4 r q l v,
       λ (r q : ℕ) (l : p + 1 + d ≤ r). did.2 r q (omega arith) ∙ inv.5 r q (omega arith),

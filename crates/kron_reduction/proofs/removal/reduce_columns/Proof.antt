@@ -2,8 +2,8 @@
 use Rattle.prelude.proofs.Prelude.{◌≡◌, refl, ap, ◌∙◌, List, ℕ, ◌+◌, ◌-◌, ◌*◌, ◌≤◌, ◌<◌, arith, needs, length, Float}
 use Rattle.complex.specs.{Complex, entry}
 use Rattle.complex.proofs.Entries.{length-put, entry-put-other}
-use Rattle.kron_reduction.specs.Kron.{newEntry}
-use Rattle.kron_reduction.specs.Inner.Removal.{oldRow}
+use Rattle.kron_reduction.specs.Kron.{new_entry}
+use Rattle.kron_reduction.specs.Inner.Removal.{old_row}
 use Rattle.kron_reduction.proofs.Positions.{put-more}
 use Rattle.kron_reduction.proofs.removal.reduce_columns.Statement.{statement}
 use Rattle.kron_reduction.proofs.removal.reduce_columns.Tie as tie
@@ -11,7 +11,7 @@ use Rattle.kron_reduction.proofs.removal.reduce_columns.Tie as tie
 abbrev invariant-loop : tie.invariant-loop
 invariant-loop k d first end at far s₀ row ik kk q₀ s q =
     (first ≤ q) × (q ≤ end) × (length s ≡ length s₀)
-    × ((i : ℕ) → first ≤ i → i < q → entry s i ≡ newEntry (entry s₀ (at + oldRow k i)) ik (entry row (oldRow k i)) kk)
+    × ((i : ℕ) → first ≤ i → i < q → entry s i ≡ new_entry (entry s₀ (at + old_row k i)) ik (entry row (old_row k i)) kk)
     × ((i : ℕ) → i < first → entry s i ≡ entry s₀ i)
     × ((i : ℕ) → q ≤ i → entry s i ≡ entry s₀ i)
 
@@ -37,13 +37,13 @@ loop-again c =
     let e = c.before.before.put.ensures in
     let test = c.before.before.before.before.before.before.before.before.loop-test.true in
     let from : a.first ≤ q = g.loop.invariant.0 in
-    let column : oldRow a.k q ≡ q + a.d = start.requires.0 q from test in
-    let place : q + a.far ≡ a.at + oldRow a.k q = omega (arith, column, start.requires.2) in
-    let f : ℕ → Complex = λ (i : ℕ). newEntry (entry s0 (a.at + oldRow a.k i)) ik (entry a.row.now (oldRow a.k i)) kk in
+    let column : old_row a.k q ≡ q + a.d = start.requires.0 q from test in
+    let place : q + a.far ≡ a.at + old_row a.k q = omega (arith, column, start.requires.2) in
+    let f : ℕ → Complex = λ (i : ℕ). new_entry (entry s0 (a.at + old_row a.k i)) ik (entry a.row.now (old_row a.k i)) kk in
     let here : made.result ≡ f q =
     made.ensures
-    ∙ ap (λ (x : Complex). newEntry x ik get4.result kk) (get3.ensures ∙ g.loop.invariant.5 (q + a.far) (omega arith) ∙ ap (entry s0) place)
-    ∙ ap (λ (x : Complex). newEntry (entry s0 (a.at + oldRow a.k q)) ik x kk) (get4.ensures ∙ ap (λ (j : ℕ). entry a.row.now j) (omega (arith, column))) in
+    ∙ ap (λ (x : Complex). new_entry x ik get4.result kk) (get3.ensures ∙ g.loop.invariant.5 (q + a.far) (omega arith) ∙ ap (entry s0) place)
+    ∙ ap (λ (x : Complex). new_entry (entry s0 (a.at + old_row a.k q)) ik x kk) (get4.ensures ∙ ap (λ (j : ℕ). entry a.row.now j) (omega (arith, column))) in
     let fits : 2 * q + 1 < length g.loop.s = omega (arith, start.requires.3, g.loop.invariant.2, test) in
     let other : (i : ℕ) → (i ≡ q → ⊥) → entry c.before.before.put.new.0 i ≡ entry g.loop.s i =
     λ (i : ℕ) (n : i ≡ q → ⊥). ap (λ (ys : List Float). entry ys i) e ∙ entry-put-other g.loop.s q made.result i n in (
@@ -64,8 +64,8 @@ returns c =
     let kk : b.get2.result ≡ entry a.row.now a.k = b.get2.ensures in (
       λ (q : ℕ) (l : a.first ≤ q) (u : q < a.end).
           c.before.loop.invariant.3 q l (omega arith)
-          ∙ ap (λ (x : Complex). newEntry (entry s0 (a.at + oldRow a.k q)) x (entry a.row.now (oldRow a.k q)) b.get2.result) ik
-          ∙ ap (λ (x : Complex). newEntry (entry s0 (a.at + oldRow a.k q)) (entry s0 (a.at + a.k)) (entry a.row.now (oldRow a.k q)) x) kk,
+          ∙ ap (λ (x : Complex). new_entry (entry s0 (a.at + old_row a.k q)) x (entry a.row.now (old_row a.k q)) b.get2.result) ik
+          ∙ ap (λ (x : Complex). new_entry (entry s0 (a.at + old_row a.k q)) (entry s0 (a.at + a.k)) (entry a.row.now (old_row a.k q)) x) kk,
       c.before.loop.invariant.4,
       λ (q : ℕ) (l : a.end ≤ q). c.before.loop.invariant.5 q (omega arith),
     )

@@ -1,8 +1,8 @@
 -- `kron_reduction::removal::reduce_row` meets its contract: the columns before k, then those after it, whose old entries the first have left as they were.
 use Rattle.prelude.proofs.Prelude.{sym, ap, ◌∙◌, ℕ, ◌+◌, ◌-◌, ◌≤◌, ◌<◌, add-one, arith, needs, ⊎_elim}
 use Rattle.complex.specs.{Complex, entry}
-use Rattle.kron_reduction.specs.Kron.{newEntry}
-use Rattle.kron_reduction.specs.Inner.Removal.{oldRow}
+use Rattle.kron_reduction.specs.Kron.{new_entry}
+use Rattle.kron_reduction.specs.Inner.Removal.{old_row}
 use Rattle.lists.proofs.Order.{lt-or-ge}
 use Rattle.kron_reduction.proofs.Positions.{kept-after}
 use Rattle.kron_reduction.proofs.removal.reduce_row.Statement.{statement}
@@ -24,8 +24,8 @@ returns c =
           (λ (u : q < k). right.1 q u ∙ left.0 q u)
           (λ (u : k ≤ q).
           right.0 q u l
-          ∙ ap (λ (x : Complex). newEntry x (entry first.left-columns.new.1.1.0 (at + k)) (entry row (oldRow k q)) (entry row k)) (left.1 (at + oldRow k q) (rw (kept-after k q u) (omega arith)))
-          ∙ ap (λ (x : Complex). newEntry (entry s (at + oldRow k q)) x (entry row (oldRow k q)) (entry row k)) (left.1 (at + k) (omega arith)))
+          ∙ ap (λ (x : Complex). new_entry x (entry first.left-columns.new.1.1.0 (at + k)) (entry row (old_row k q)) (entry row k)) (left.1 (at + old_row k q) (rw (kept-after k q u) (omega arith)))
+          ∙ ap (λ (x : Complex). new_entry (entry s (at + old_row k q)) x (entry row (old_row k q)) (entry row k)) (left.1 (at + k) (omega arith)))
           (lt-or-ge q k),
       λ (q : ℕ) (l : a.n - 1 ≤ q). right.2 q l ∙ left.1 q (omega arith),
     )

@@ -1,21 +1,21 @@
 -- `kron_reduction::removal::remove_list` meets its contract. The loop's invariant: the first `done` buses of the list are removed.
 use Rattle.prelude.proofs.Prelude.{◌≡◌, refl, ◌∙◌, ◌-◌, arith, needs, length, take}
-use Rattle.kron_reduction.specs.Inner.Removal.{leftBy}
-use Rattle.kron_reduction.specs.Reducer.{stateIn}
+use Rattle.kron_reduction.specs.Inner.Removal.{left_by}
+use Rattle.kron_reduction.specs.Reducer.{state_in}
 use Rattle.kron_reduction.proofs.Taking.{holds-long, first-ordinary, Ongoing, ongoing-start, ongoing-same, ongoing-holds, ongoing-stopped, ongoing-next, ongoing-left, left-none, took-so-far, took-all}
 use Rattle.kron_reduction.proofs.removal.remove_list.Statement.{statement}
 use Rattle.kron_reduction.proofs.removal.remove_list.Tie as tie
 
 abbrev invariant-loop : tie.invariant-loop
 invariant-loop n active₀ y₀ row₀ buses ordinary done₀ active y row done =
-    Ongoing (stateIn n (take n active₀) y₀) buses done active y
-    × (length active ≡ length active₀) × (length y ≡ length y₀) × (length row ≡ length row₀) × (y ≡ leftBy (stateIn n (take n active₀) y₀) y₀ (take done buses))
+    Ongoing (state_in n (take n active₀) y₀) buses done active y
+    × (length active ≡ length active₀) × (length y ≡ length y₀) × (length row ≡ length row₀) × (y ≡ left_by (state_in n (take n active₀) y₀) y₀ (take done buses))
 
 abbrev decreases-loop : tie.decreases-loop
 decreases-loop n active₀ y₀ row₀ buses ordinary done₀ active y row done = length buses - done
 
 loop-holds : tie.Need-loop-init invariant-loop decreases-loop
-unfolding leftBy
+unfolding left_by
 loop-holds c = (ongoing-start _ _ _ _ c.before.before.before.before.requires.0, refl, refl, refl, refl)
 
 sub-m : tie.Need-overflow-sub-m invariant-loop decreases-loop

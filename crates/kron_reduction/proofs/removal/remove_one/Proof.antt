@@ -1,7 +1,7 @@
 -- `kron_reduction::removal::remove_one` meets its contract: the bus is not found, the removal of its row is refused, or the rows and the places are closed up.
 use Rattle.prelude.proofs.Prelude.{◌≡◌, sym, ap, ◌∙◌, ℕ, ◌<◌, arith, needs, take, sub-zero}
 use Rattle.lists.specs.declared.Found.TheVariants.{At}
-use Rattle.lists.specs.Buses.{foundIn}
+use Rattle.lists.specs.Buses.{found_in}
 use Rattle.kron_reduction.proofs.Taking.{holds-room, took_lt, took-absent, took-refused, took}
 use Rattle.kron_reduction.proofs.removal.remove_one.Statement.{statement}
 use Rattle.kron_reduction.proofs.removal.remove_one.Tie as tie
@@ -10,10 +10,10 @@ part-find-bus-end : tie.Need-slice-bounds-find-bus-end
 part-find-bus-end c = let h = c.before.before.before.before.requires.0 in omega (arith, holds-room _ _ _ h, h.room)
 
 -- what was looked through
-looked : (c : tie.After-find-bus) → let s = c.before.before.before.before.before.before in foundIn s.args.bus (take s.args.n s.args.active.now) ≡ c.find-bus.result
+looked : (c : tie.After-find-bus) → let s = c.before.before.before.before.before.before in found_in s.args.bus (take s.args.n s.args.active.now) ≡ c.find-bus.result
 looked c =
     let s = c.before.before.before.before.before.before in
-    ap (λ (w : ℕ). foundIn s.args.bus (take w s.args.active.now)) (sym (sub-zero s.args.n)) ∙ sym c.find-bus.ensures
+    ap (λ (w : ℕ). found_in s.args.bus (take w s.args.active.now)) (sym (sub-zero s.args.n)) ∙ sym c.find-bus.ensures
 
 -- where the bus is found
 module _ (c : tie.After-known-told) where
@@ -23,7 +23,7 @@ module _ (c : tie.After-known-told) where
   abbrev at : ℕ
   at = c.before.k.given.0.0
 
-  found : foundIn start.args.bus (take start.args.n start.args.active.now) ≡ At at
+  found : found_in start.args.bus (take start.args.n start.args.active.now) ≡ At at
   found = looked c.before.before.before ∙ c.before.k.given.1
 
   at_lt : at < start.args.n

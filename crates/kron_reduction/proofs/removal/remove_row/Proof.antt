@@ -3,8 +3,8 @@ use Rattle.prelude.proofs.Prelude.{◌≡◌, ap, ◌∙◌, List, ℕ, ◌+◌,
 use Rattle.complex.specs.{Complex, entry, entry_at}
 use Rattle.lists.proofs.Parts.{back}
 use Rattle.complex.proofs.Matrices.{entry-part}
-use Rattle.kron_reduction.specs.Kron.{newEntry, kron}
-use Rattle.kron_reduction.specs.Inner.Removal.{oldRow}
+use Rattle.kron_reduction.specs.Kron.{new_entry, kron}
+use Rattle.kron_reduction.specs.Inner.Removal.{old_row}
 use Rattle.kron_reduction.proofs.Positions.{RowRoom, row_room, kept-lt, entry-front, length_part}
 use Rattle.kron_reduction.proofs.removal.remove_row.Statement.{statement}
 use Rattle.kron_reduction.proofs.removal.remove_row.Tie as tie
@@ -30,8 +30,8 @@ returns c =
     ∙ entry-part n y k j l in (
       λ (p q : ℕ) (u : p < n - 1) (v : q < n - 1).
           done.other-rows.ensures.0 p q u v
-          ∙ ap (λ (x : Complex). newEntry (entry_at n y (oldRow k p) (oldRow k q)) (entry_at n y (oldRow k p) k) x (entry (take (2 * n - 0) (drop 0 (back 0 (2 * n - 0) row z))) k)) (at (oldRow k q) (kept-lt k q n v))
-          ∙ ap (λ (x : Complex). newEntry (entry_at n y (oldRow k p) (oldRow k q)) (entry_at n y (oldRow k p) k) (entry_at n y k (oldRow k q)) x) (at k s.requires.1),
+          ∙ ap (λ (x : Complex). new_entry (entry_at n y (old_row k p) (old_row k q)) (entry_at n y (old_row k p) k) x (entry (take (2 * n - 0) (drop 0 (back 0 (2 * n - 0) row z))) k)) (at (old_row k q) (kept-lt k q n v))
+          ∙ ap (λ (x : Complex). new_entry (entry_at n y (old_row k p) (old_row k q)) (entry_at n y (old_row k p) k) (entry_at n y k (old_row k q)) x) (at k s.requires.1),
       done.other-rows.ensures.1,
     )
 

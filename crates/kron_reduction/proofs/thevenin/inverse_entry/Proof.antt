@@ -1,7 +1,7 @@
 -- `kron_reduction::thevenin::inverse_entry` meets its contract.
 use Rattle.prelude.proofs.Prelude.{arith}
 use Rattle.complex.specs.{entry_at}
-use Rattle.solver.specs.Inner.Work.{rightSides}
+use Rattle.solver.specs.Inner.Work.{right_sides}
 use Rattle.kron_reduction.proofs.Across.{work-room}
 use Rattle.kron_reduction.proofs.thevenin.inverse_entry.Statement.{statement}
 use Rattle.kron_reduction.proofs.thevenin.inverse_entry.Tie as tie
@@ -16,7 +16,7 @@ get-requires : tie.Need-get-requires
 get-requires c κs = let s = c.before in let h = work-room s.args.n s.args.p s.requires.0 s.requires.1 in omega (arith, h.0, s.requires.2, s.requires.3)
 
 returns : tie.Need-returns
-unfolding rightSides entry_at
+unfolding right_sides entry_at
 returns c = c.get.ensures
 
 pub inverse-entry-spec : {M : Type 1} → statement M

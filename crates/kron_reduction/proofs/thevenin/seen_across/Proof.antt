@@ -3,7 +3,7 @@ use Rattle.prelude.proofs.Prelude.{◌≡◌, sym, ap, ◌∙◌, needs, ap₂, 
 use Rattle.complex.specs.{Complex, Matrix, plus0, entry_at}
 use Rattle.complex.specs.declared.Pair.TheVariants.{Finite}
 use Rattle.complex.specs.Leaves.{sum, product}
-use Rattle.solver.specs.Inner.Work.{rightSides}
+use Rattle.solver.specs.Inner.Work.{right_sides}
 use Rattle.kron_reduction.specs.Reading.{two}
 use Rattle.kron_reduction.proofs.Across.{no-sum, no-product, all_three}
 use Rattle.kron_reduction.proofs.thevenin.seen_across.Statement.{statement}
@@ -15,7 +15,7 @@ module _ (c : tie.After-cadd) where
   start = c.before.before.before.before
 
   abbrev Z : Matrix
-  Z = rightSides start.args.n (entry_at (start.args.n + start.args.n) start.args.work.now)
+  Z = right_sides start.args.n (entry_at (start.args.n + start.args.n) start.args.work.now)
 
   summed : c.cadd.result ≡ sum (Z start.args.p start.args.p) (Z start.args.q start.args.q)
   summed = c.cadd.ensures ∙ ap₂ sum c.before.before.inverse-entry.ensures c.before.inverse-entry2.ensures

@@ -2,20 +2,20 @@
 use Rattle.prelude.proofs.Prelude.{◌≡◌, refl, ◌∙◌, ◌-◌, ◌≤◌, arith, needs, length}
 use borrow.Author.Rules.{scaled_Fits}
 use Rattle.text_numbers.specs.Inner.Writing.{Wrote}
-use Rattle.reduce_text.specs.Printing.{busLines}
+use Rattle.reduce_text.specs.Printing.{bus_lines}
 use Rattle.text_numbers.proofs.Writing.{nothing}
 use Rattle.reduce_text.proofs.PrintLaws.{bus-room, bus-more}
 use Rattle.reduce_text.proofs.print.put_buses.Statement.{statement}
 use Rattle.reduce_text.proofs.print.put_buses.Tie as tie
 
 abbrev invariant-loop : tie.invariant-loop
-invariant-loop out₀ at buses n i₀ p₀ t7 out i p = (i ≤ n) × (length out ≡ length out₀) × Wrote out₀ at (busLines i buses) p out
+invariant-loop out₀ at buses n i₀ p₀ t7 out i p = (i ≤ n) × (length out ≡ length out₀) × Wrote out₀ at (bus_lines i buses) p out
 
 abbrev decreases-loop : tie.decreases-loop
 decreases-loop out₀ at buses n i₀ p₀ t7 out i p = n - i
 
 loop-holds : tie.Need-loop-init invariant-loop decreases-loop
-unfolding busLines
+unfolding bus_lines
 loop-holds c = let s = c.before.before in (omega arith, refl, nothing s.args.out.now s.args.at)
 
 mul-put-line : tie.Need-overflow-mul-put-line invariant-loop decreases-loop

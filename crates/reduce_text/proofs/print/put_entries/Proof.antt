@@ -1,20 +1,20 @@
 -- `reduce_text::print::put_entries` meets its contract: the lines of the entries passed are written.
 use Rattle.prelude.proofs.Prelude.{◌≡◌, refl, ◌∙◌, ◌-◌, ◌≤◌, arith, length}
 use Rattle.text_numbers.specs.Inner.Writing.{Wrote}
-use Rattle.reduce_text.specs.Printing.{entryLines}
+use Rattle.reduce_text.specs.Printing.{entry_lines}
 use Rattle.text_numbers.proofs.Writing.{nothing}
 use Rattle.reduce_text.proofs.PrintLaws.{entry-room, entry_more}
 use Rattle.reduce_text.proofs.print.put_entries.Statement.{statement}
 use Rattle.reduce_text.proofs.print.put_entries.Tie as tie
 
 abbrev invariant-loop : tie.invariant-loop
-invariant-loop out₀ at ys n i₀ p₀ out i p = (i ≤ n) × (length out ≡ length out₀) × Wrote out₀ at (entryLines i ys) p out
+invariant-loop out₀ at ys n i₀ p₀ out i p = (i ≤ n) × (length out ≡ length out₀) × Wrote out₀ at (entry_lines i ys) p out
 
 abbrev decreases-loop : tie.decreases-loop
 decreases-loop out₀ at ys n i₀ p₀ out i p = n - i
 
 loop-holds : tie.Need-loop-init invariant-loop decreases-loop
-unfolding entryLines
+unfolding entry_lines
 loop-holds c = let s = c.before.before in (omega arith, refl, nothing s.args.out.now s.args.at)
 
 put-entry-requires : tie.Need-put-entry-requires invariant-loop decreases-loop

@@ -1,6 +1,6 @@
 -- `reduce_text::print::put_entry` meets its contract: word, space, word and line feed, one behind the other.
 use Rattle.prelude.proofs.Prelude.{arith, needs}
-use Rattle.reduce_text.specs.Printing.{entryLine}
+use Rattle.reduce_text.specs.Printing.{entry_line}
 use Rattle.text_numbers.proofs.Writing.{then₄}
 use Rattle.text_numbers.proofs.WordLaws.{length-hex}
 use Rattle.reduce_text.proofs.PrintLaws.{length-entry-line}
@@ -32,7 +32,7 @@ put-byte-requires-2 c κs =
     (arith, s.requires, length-entry-line s.args.c, length-hex w.before.to_word.result, length-hex w.to-word2.result, a.put-hex.ensures.here, a.put-hex.auto.0, b.put_byte.ensures.here, b.put_byte.auto.0, d.put-hex2.ensures.here, d.put-hex2.auto.0)
 
 returns : tie.Need-returns
-unfolding entryLine
+unfolding entry_line
 returns c =
     let e = c.before.before in let d = e.before.before.before.before in let b = d.before.before.before.before in
     let a = b.before.before.before.before in let w = a.before.before in let s = w.before.before.before in let room = s.requires in

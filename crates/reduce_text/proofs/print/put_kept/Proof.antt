@@ -1,11 +1,11 @@
 -- `reduce_text::print::put_kept` meets its contract: the count, the buses and the entries, one behind the other.
 use Rattle.prelude.proofs.Prelude.{◌≡◌, ap, ◌∙◌, subst, ◌*◌, arith, needs, length}
 use Rattle.refusals.specs.Refusals.{limit}
-use Rattle.kron_reduction.specs.Reading.{activeNumbers}
+use Rattle.kron_reduction.specs.Reading.{active_numbers}
 use Rattle.kron_reduction.proofs.Reducer.{sound-has}
 use Rattle.text_numbers.specs.Bytes.{Bytes}
 use Rattle.text_numbers.specs.Inner.Writing.{Wrote}
-use Rattle.reduce_text.specs.Printing.{busLines, keptText}
+use Rattle.reduce_text.specs.Printing.{bus_lines, kept_text}
 use Rattle.text_numbers.proofs.Writing.{then₃}
 use Rattle.reduce_text.proofs.PrintLaws.{length-kept, length-entry-lines, kept-lines}
 use Rattle.reduce_text.proofs.print.put_kept.Statement.{statement}
@@ -20,11 +20,11 @@ put-line-requires c κs =
     omega (arith, s.requires.1, length-kept s.args.rec s.args.ys.now)
 
 -- the lines of the numbers that the record's active buses have
-printed : (c : tie.After-active-numbers) → busLines c.before.before.before.args.rec.n_buses c.active-numbers.result ≡ busLines c.before.before.before.args.rec.n_buses (activeNumbers c.before.before.before.args.rec)
+printed : (c : tie.After-active-numbers) → bus_lines c.before.before.before.args.rec.n_buses c.active-numbers.result ≡ bus_lines c.before.before.before.args.rec.n_buses (active_numbers c.before.before.before.args.rec)
 printed c =
     let s = c.before.before.before in let r = s.args.rec in
     let l : length r.active_buses ≡ limit = search needs in
-    ap (busLines r.n_buses) c.active-numbers.ensures ∙ kept-lines r (omega (arith, l, (sound-has r s.requires.0.1).room))
+    ap (bus_lines r.n_buses) c.active-numbers.ensures ∙ kept-lines r (omega (arith, l, (sound-has r s.requires.0.1).room))
 
 put-buses-requires : tie.Need-put-buses-requires
 put-buses-requires c κs =
@@ -50,7 +50,7 @@ put-entries-requires c κs =
     )
 
 returns : tie.Need-returns
-unfolding keptText
+unfolding kept_text
 returns c =
     let s = c.before.before in let u = s.before.before.before.before in let v = u.before.before.before.before.before in
     let x = v.before.before.before in let y = x.before.before.before in let p = v.put-line in let q = u.put-buses in

@@ -1,6 +1,6 @@
 -- `reduce_text::print::put_line` meets its contract: the keyword, the number and the line feed, one behind the other.
 use Rattle.prelude.proofs.Prelude.{◌∙◌, arith}
-use Rattle.reduce_text.specs.Printing.{numberLine}
+use Rattle.reduce_text.specs.Printing.{number_line}
 use Rattle.text_numbers.proofs.Writing.{then₃}
 use Rattle.reduce_text.proofs.PrintLaws.{length-number-line}
 use Rattle.reduce_text.proofs.print.put_line.Statement.{statement}
@@ -26,7 +26,7 @@ same_length c =
     b.put_byte.auto.0 ∙ d.put-decimal.auto.0 ∙ d.before.before.before.before.put.auto.0
 
 returns : tie.Need-returns
-unfolding numberLine
+unfolding number_line
 returns c =
     let b = c.before.before in let d = b.before.before.before.before in let p = d.before.before.before.before in
     let s = p.before.before.before.before in

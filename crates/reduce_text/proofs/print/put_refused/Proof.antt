@@ -1,6 +1,6 @@
 -- `reduce_text::print::put_refused` meets its contract.
 use Rattle.prelude.proofs.Prelude.{[], ◌∷◌, arith, needs}
-use Rattle.reduce_text.specs.Printing.{refusedText}
+use Rattle.reduce_text.specs.Printing.{refused_text}
 use Rattle.text_numbers.proofs.Writing.{then₃}
 use Rattle.reduce_text.proofs.PrintLaws.{length-number-line, length-refused}
 use Rattle.reduce_text.proofs.print.put_refused.Statement.{statement}
@@ -23,7 +23,7 @@ put-line-requires c κs =
     (arith, s.requires, length-refused s.args.number s.args.bus, length-number-line (32 ∷ []) s.args.bus, p.put.ensures.here, p.put.auto.0, d.put-decimal.ensures.here, d.put-decimal.auto.0)
 
 returns : tie.Need-returns
-unfolding refusedText
+unfolding refused_text
 returns c =
     let l = c.before.before in let d = l.before.before.before.before.before in let p = d.before.before.before.before in
     then₃ p.before.before.before.before.requires p.put.ensures d.put-decimal.ensures l.put-line.ensures

@@ -3,7 +3,7 @@ use Rattle.prelude.proofs.Prelude.{◌≡◌, sym, ap, ◌∙◌, ◌++◌, ℕ,
 use lib.Seq.{length_front}
 use Rattle.reduce_text.specs.declared.read.End.{End}
 use Rattle.reduce_text.specs.Reading.{Run, ended, drops, finish}
-use Rattle.reduce_text.specs.Inner.Steps.{behind, placeBehind}
+use Rattle.reduce_text.specs.Inner.Steps.{behind, place_behind}
 use Rattle.reduce_text.proofs.ReadLaws.{few-fits, square, square-fits, stopped}
 use Rattle.reduce_text.proofs.read.after_entries.Statement.{statement}
 use Rattle.reduce_text.proofs.read.after_entries.Tie as tie
@@ -23,8 +23,8 @@ returns c =
     let m = 2 * (n * n) in
     let k : m ≤ length M = omega (arith, s.requires.1, square n s.requires.0) in
     let len : length Y ≡ m = t.drops.auto.1.1.1.1.0 ∙ ap (λ (j : ℕ). length (take j M)) (sub-zero m) ∙ length-take-le m M k in
-    let R : drops finish (placeBehind n) s.args.rec (take m M) (behind d s.args.from) ≡ ended c.end_of_lem.result o.rec Y =
-    ap (λ (j : ℕ). drops finish (placeBehind n) s.args.rec (take j M) (behind d s.args.from)) (sym (sub-zero m))
+    let R : drops finish (place_behind n) s.args.rec (take m M) (behind d s.args.from) ≡ ended c.end_of_lem.result o.rec Y =
+    ap (λ (j : ℕ). drops finish (place_behind n) s.args.rec (take j M) (behind d s.args.from)) (sym (sub-zero m))
     ∙ t.drops.ensures finish
     ∙ stopped d o.stop o.rec Y
     ∙ ap (λ (e : End). ended e o.rec Y) (sym c.end_of_lem.ensures) in

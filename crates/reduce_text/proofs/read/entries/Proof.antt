@@ -1,8 +1,8 @@
 -- `reduce_text::read::entries` meets its contract: the run from the first entry line is the run from the line reached, with the numbers read so far.
 use Rattle.prelude.proofs.Prelude.{◌≡◌, refl, sym, ap, ◌∙◌, List, [], ℕ, suc, ◌+◌, ◌-◌, ◌*◌, ◌≤◌, ◌<◌, arith, needs, length, take, drop, Float, sub-zero, zero-add, length-take-le}
 use Rattle.complex.specs.{Complex, put}
-use Rattle.kron_reduction.specs.Reducer.{reducerInputOf, afterNew}
-use Rattle.reduce_text.specs.Reading.{Onward, ofWord, entries}
+use Rattle.kron_reduction.specs.Reducer.{reducer_input_of, after_new}
+use Rattle.reduce_text.specs.Reading.{Onward, of_word, entries}
 use Rattle.reduce_text.specs.Inner.Steps.{behind}
 use Rattle.reduce_text.proofs.ReadLaws.{few-fits, square, square-fits, entries-bad, entries-more, entry-fits, take_put, drop-put, drop_more, at_front, entries_none}
 use Rattle.reduce_text.proofs.read.entries.Statement.{statement}
@@ -77,7 +77,7 @@ loop-again c =
     let k : 2 * l.i + 1 < length l.matrix = omega (arith, l.invariant.2, y.loop-test.true, s.requires.1, square n s.requires.0) in
     let f = sym x.entry_at.ensures ∙ w.re.given.1 in
     let a = w.re.given.0.0 in let b = w.re.given.0.1.0 in
-    let z : Complex = record { re = ofWord a; im = ofWord b } in
+    let z : Complex = record { re = of_word a; im = of_word b } in
     let M = t.put.new.0 in
     let m : M ≡ put l.matrix l.i z = t.put.ensures ∙ rw (v.of_word.ensures, u.of-word2.ensures) in (
       omega (arith, y.loop-test.true),
@@ -109,7 +109,7 @@ returns-2 c =
           l.invariant.4 go ns
           ∙ ap (λ (j : ℕ). entries go n ns j (l.i + (n + 2)) ys (behind d l.at)) (let z : n * n - l.i ≡ 0 = omega arith in z)
           ∙ entries_none go ns n (l.i + (n + 2)) ys (behind d l.at)
-          ∙ ap (λ (j : ℕ). go (j + (n + 2)) (afterNew (reducerInputOf n ys ns)).rec ys (behind d l.at)) i;
+          ∙ ap (λ (j : ℕ). go (j + (n + 2)) (after_new (reducer_input_of n ys ns)).rec ys (behind d l.at)) i;
     }
 
 pub entries-spec : {M : Type 1} → statement M

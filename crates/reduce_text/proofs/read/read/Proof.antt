@@ -3,7 +3,7 @@ use Rattle.prelude.proofs.Prelude.{◌≡◌, sym, ap, ◌∙◌, subst, List, �
 use Rattle.reduce_text.specs.declared.read.End.TheVariants.{BadLine}
 use Rattle.reduce_text.specs.declared.read.Next.{Next}
 use Rattle.reduce_text.specs.Reading.{ended, drops, finish, run_of}
-use Rattle.reduce_text.specs.Inner.Steps.{onNext, behind, placeBehind, Full, Ended}
+use Rattle.reduce_text.specs.Inner.Steps.{on_next, behind, place_behind, Full, Ended}
 use Rattle.reduce_text.proofs.ReadLaws.{ran-in, ran_on, front-is'}
 use Rattle.reduce_text.proofs.read.read.Statement.{statement}
 use Rattle.reduce_text.proofs.read.read.Tie as tie
@@ -20,7 +20,7 @@ returns c =
     let o = s.made.result in let d = t.args.input.now in
     ran-in
     (B.goes (drops finish)
-    ∙ ap (λ (x : Next). onNext x (λ at. drops finish (placeBehind o.n) o.rec B.ys (behind d at)) (λ p. ended (BadLine p) o.rec B.ys)) c.before.next.given.1)
+    ∙ ap (λ (x : Next). on_next x (λ at. drops finish (place_behind o.n) o.rec B.ys (behind d at)) (λ p. ended (BadLine p) o.rec B.ys)) c.before.next.given.1)
     B.leaves
 
 returns-2 : tie.Need-returns-2
@@ -32,9 +32,9 @@ returns-2 c =
     let full : length ys ≡ 2 * (n * n) = subst (Full n ys) t B.full in
     ran_on ys (2 * (n * n)) full
     (B.goes (drops finish)
-    ∙ ap (λ (x : Next). onNext x (λ at. drops finish (placeBehind n) o.rec ys (behind d at)) (λ p. ended (BadLine p) o.rec ys)) t
-    ∙ ap (λ (zs : List Float). drops finish (placeBehind n) o.rec zs (behind d at)) (sym (ap (take (2 * (n * n))) B.leaves ∙ front-is' ys (drop (length ys) M) (2 * (n * n)) full)))
-    (subst (λ (zs : List Float). Ended zs (2 * (n * n)) (drops finish (placeBehind n) o.rec (take (2 * (n * n)) v.made.new.1.0) (behind d at)) s.after-entries.result s.after-entries.new.1.1.1.1.0) B.leaves s.after-entries.ensures)
+    ∙ ap (λ (x : Next). on_next x (λ at. drops finish (place_behind n) o.rec ys (behind d at)) (λ p. ended (BadLine p) o.rec ys)) t
+    ∙ ap (λ (zs : List Float). drops finish (place_behind n) o.rec zs (behind d at)) (sym (ap (take (2 * (n * n))) B.leaves ∙ front-is' ys (drop (length ys) M) (2 * (n * n)) full)))
+    (subst (λ (zs : List Float). Ended zs (2 * (n * n)) (drops finish (place_behind n) o.rec (take (2 * (n * n)) v.made.new.1.0) (behind d at)) s.after-entries.result s.after-entries.new.1.1.1.1.0) B.leaves s.after-entries.ensures)
 
 pub read_spec : {M : Type 1} → statement M
 read_spec = tie.close (tie.spec (λ c κs. search needs) (λ c. search needs) (λ c. search needs) after-entries-requires (λ c. search needs)

@@ -4,12 +4,12 @@ use lib.Seq.{length_front}
 use Rattle.text_numbers.specs.Bytes.{Bytes}
 use Rattle.kron_reduction.specs.declared.KronReducer.{KronReducer}
 use Rattle.kron_reduction.specs.declared.NewReducer.{NewReducer}
-use Rattle.kron_reduction.specs.Reducer.{reducerInputOf, afterNew}
+use Rattle.kron_reduction.specs.Reducer.{reducer_input_of, after_new}
 use Rattle.reduce_text.specs.declared.read.End.TheVariants.{BadLine}
 use Rattle.reduce_text.specs.declared.read.Next.{Next}
 use Rattle.reduce_text.specs.declared.read.Start.{Start}
-use Rattle.reduce_text.specs.Reading.{most, ended, noReducer, Onward, entries, badAt, named}
-use Rattle.reduce_text.specs.Inner.Steps.{noStart, onNext, behind, placeBehind, Numbered, Full, Begun, WithinInput}
+use Rattle.reduce_text.specs.Reading.{most, ended, no_reducer, Onward, entries, bad_at, named}
+use Rattle.reduce_text.specs.Inner.Steps.{no_start, on_next, behind, place_behind, Numbered, Full, Begun, WithinInput}
 use Rattle.reduce_text.proofs.ReadLaws.{square, square-fits, unbegun, front-is}
 use Rattle.reduce_text.proofs.read.reducer.Statement.{statement}
 use Rattle.reduce_text.proofs.read.reducer.Tie as tie
@@ -32,8 +32,8 @@ returns c =
     let d = s.args.input.now in let ns = u.names.new.1.1.0 in
     let Q = numbered d s.args.from n _ _ ns s.requires.0 u.names.ensures in
     let t = c.before.enum_told.given.1 in
-    unbegun c.before.enum_told.given.0.0 (c.unmade.ensures ∙ ap noStart t)
-    (λ go. Q.goes go ∙ ap (λ (x : Next). onNext x (λ at. entries go n ns (n * n) (n + 2) [] (behind d at)) badAt) t)
+    unbegun c.before.enum_told.given.0.0 (c.unmade.ensures ∙ ap no_start t)
+    (λ go. Q.goes go ∙ ap (λ (x : Next). on_next x (λ at. entries go n ns (n * n) (n + 2) [] (behind d at)) bad_at) t)
 
 entries-requires : tie.Need-entries-requires
 entries-requires c κs =
@@ -49,7 +49,7 @@ returns-2 c =
     let E = u.entries.ensures in let t = c.before.enum-told3.given.1 in
     subst
     (λ (x : Start). Begun (λ (go : Onward). named go n n 2 [] (behind d s.args.from)) s.args.matrix.now d x u.entries.new.1.1.1.0)
-    (sym (c.unmade2.ensures ∙ ap noStart t))
+    (sym (c.unmade2.ensures ∙ ap no_start t))
     (record {
       ys = E.ys;
       leaves = E.leaves;
@@ -57,9 +57,9 @@ returns-2 c =
       full = tt;
       goes = λ go.
           Q.goes go
-          ∙ ap (λ (x : Next). onNext x (λ at. entries go n ns (n * n) (n + 2) [] (behind d at)) badAt) v.named.given.1
+          ∙ ap (λ (x : Next). on_next x (λ at. entries go n ns (n * n) (n + 2) [] (behind d at)) bad_at) v.named.given.1
           ∙ E.goes go ns
-          ∙ ap (λ (x : Next). onNext x (λ at. go (placeBehind n) (afterNew (reducerInputOf n E.ys ns)).rec E.ys (behind d at)) (λ p. ended (BadLine p) noReducer E.ys)) t;
+          ∙ ap (λ (x : Next). on_next x (λ at. go (place_behind n) (after_new (reducer_input_of n E.ys ns)).rec E.ys (behind d at)) (λ p. ended (BadLine p) no_reducer E.ys)) t;
     })
 
 part-new-end : tie.Need-slice-bounds-new-end
@@ -84,9 +84,9 @@ returns-3 c =
     let Q = numbered d s.args.from n _ _ ns s.requires.0 y.names.ensures in
     let E = v.entries.ensures in let ys = E.ys in let t = u.enum-told2.given.1 in let r = c.before.new.result.rec in
     let full : length ys ≡ 2 * (n * n) = subst (Full n ys) t E.full in
-    let made : (afterNew (reducerInputOf n ys ns)).rec ≡ r =
-    ap (λ (zs : List Float). (afterNew (reducerInputOf n zs ns)).rec) (sym (ap (take (2 * (n * n) - 0)) E.leaves ∙ front-is ys (drop (length ys) s.args.matrix.now) (2 * (n * n)) full))
-    ∙ ap (λ (ms : List ℕ). (afterNew (reducerInputOf n (take (2 * (n * n) - 0) v.entries.new.1.1.1.0) ms)).rec) (sym (front-is ns _ n (y.names.auto.1.1.0 ∙ room n _ s.requires.0)))
+    let made : (after_new (reducer_input_of n ys ns)).rec ≡ r =
+    ap (λ (zs : List Float). (after_new (reducer_input_of n zs ns)).rec) (sym (ap (take (2 * (n * n) - 0)) E.leaves ∙ front-is ys (drop (length ys) s.args.matrix.now) (2 * (n * n)) full))
+    ∙ ap (λ (ms : List ℕ). (after_new (reducer_input_of n (take (2 * (n * n) - 0) v.entries.new.1.1.1.0) ms)).rec) (sym (front-is ns _ n (y.names.auto.1.1.0 ∙ room n _ s.requires.0)))
     ∙ sym (ap (λ (q : NewReducer). q.rec) c.before.new.ensures.0) in
     record {
       ys = ys;
@@ -95,11 +95,11 @@ returns-3 c =
       full = E.full;
       goes = λ go.
           Q.goes go
-          ∙ ap (λ (x : Next). onNext x (λ at. entries go n ns (n * n) (n + 2) [] (behind d at)) badAt) w.named.given.1
+          ∙ ap (λ (x : Next). on_next x (λ at. entries go n ns (n * n) (n + 2) [] (behind d at)) bad_at) w.named.given.1
           ∙ E.goes go ns
-          ∙ ap (λ (x : Next). onNext x (λ at. go (placeBehind n) (afterNew (reducerInputOf n ys ns)).rec ys (behind d at)) (λ p. ended (BadLine p) noReducer ys)) t
-          ∙ ap (λ (q : KronReducer). go (placeBehind n) q ys (behind d u.enum-told2.given.0.0)) made
-          ∙ sym (ap (λ (x : Next). onNext x (λ at. go (placeBehind n) r ys (behind d at)) (λ p. ended (BadLine p) r ys)) t);
+          ∙ ap (λ (x : Next). on_next x (λ at. go (place_behind n) (after_new (reducer_input_of n ys ns)).rec ys (behind d at)) (λ p. ended (BadLine p) no_reducer ys)) t
+          ∙ ap (λ (q : KronReducer). go (place_behind n) q ys (behind d u.enum-told2.given.0.0)) made
+          ∙ sym (ap (λ (x : Next). on_next x (λ at. go (place_behind n) r ys (behind d at)) (λ p. ended (BadLine p) r ys)) t);
     }
 
 pub reducer-spec : {M : Type 1} → statement M

@@ -1,15 +1,15 @@
 -- `reduce_text::text::entry_of` meets its contract.
 use Rattle.prelude.proofs.Prelude.{◌≡◌, sym, ap, ◌∙◌, needs, finite, not-true, not-false}
 use Rattle.reduce_text.proofs.LineLaws.{both_first, both-second, both-finite}
-use Rattle.reduce_text.specs.Lines.{finiteWord}
+use Rattle.reduce_text.specs.Lines.{finite_word}
 use Rattle.reduce_text.proofs.text.entry_of.Statement.{statement}
 use Rattle.reduce_text.proofs.text.entry_of.Tie as tie
 
 -- what the first test tells, and the second
-first : (c : tie.After-finite) → finiteWord c.before.before.args.re ≡ c.finite.result
+first : (c : tie.After-finite) → finite_word c.before.before.args.re ≡ c.finite.result
 first c = ap finite (sym c.before.of_word.ensures) ∙ sym c.finite.ensures
 
-second : (c : tie.After-finite2) → finiteWord c.before.before.before.before.before.args.im ≡ c.finite2.result
+second : (c : tie.After-finite2) → finite_word c.before.before.before.before.before.args.im ≡ c.finite2.result
 second c = ap finite (sym c.before.of-word2.ensures) ∙ sym c.finite2.ensures
 
 returns : tie.Need-returns

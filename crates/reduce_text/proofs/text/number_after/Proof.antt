@@ -1,6 +1,6 @@
 -- `reduce_text::text::number_after` meets its contract.
 use Rattle.prelude.proofs.Prelude.{sym, ap, ◌∙◌, ◌-◌, ◌≤◌, arith, needs, length, drop, length-drop, take_all, not-true, not-false}
-use Rattle.text_numbers.specs.Words.{decimalOf}
+use Rattle.text_numbers.specs.Words.{decimal_of}
 use Rattle.reduce_text.proofs.LineLaws.{starts-length, number-no, number-yes}
 use Rattle.reduce_text.proofs.text.number_after.Statement.{statement}
 use Rattle.reduce_text.proofs.text.number_after.Tie as tie
@@ -22,7 +22,7 @@ part-decimal-start c = shorter c
 returns-2 : tie.Need-returns-2
 returns-2 c =
     let f = c.before.before in let v = f.before in let s = v.before.before.before in
-    c.decimal.ensures ∙ ap decimalOf (take_all (length s.args.line.now - length s.args.key.now) (drop (length s.args.key.now) s.args.line.now) (omega (arith, length-drop (length s.args.key.now) s.args.line.now))) ∙ sym (number-yes s.args.key.now s.args.line.now (sym v.starts_with.ensures ∙ not-false _ f.if1.false))
+    c.decimal.ensures ∙ ap decimal_of (take_all (length s.args.line.now - length s.args.key.now) (drop (length s.args.key.now) s.args.line.now) (omega (arith, length-drop (length s.args.key.now) s.args.line.now))) ∙ sym (number-yes s.args.key.now s.args.line.now (sym v.starts_with.ensures ∙ not-false _ f.if1.false))
 
 pub number-after-spec : {M : Type 1} → statement M
 number-after-spec = tie.close (tie.spec (λ c κs. search needs) returns sub-decimal part-decimal-start (λ c. search needs)

@@ -3,15 +3,15 @@ use Rattle.prelude.proofs.Prelude.{◌≡◌, refl, sym, true, false, zero, suc,
 use lib.IntN.{negsuc}
 use lib.Ieee.Fits.{add-fits}
 use lib.Ieee.Positive.{num, den}
-use Rattle.complex.specs.{Complex, smallMagnitude, ◌⊗◌, sqmag, magnitude}
+use Rattle.complex.specs.{Complex, small_magnitude, ◌⊗◌, sqmag, magnitude}
 use Rattle.complex.proofs.SmallMagnitude.{above-small}
 use Rattle.binary64.specs.Root.{NearestRoot, root}
 use Rattle.binary64.proofs.RootNearest.{root_is, root-least}
 use Rattle.rei_equivalent.proofs.spokes.has_spoke.Statement.{statement}
 use Rattle.rei_equivalent.proofs.spokes.has_spoke.Tie as tie
 
-above-small-magnitude : (x r : Float) → NearestRoot x r → den x ≤ num x * 2 ^ 78 → lt smallMagnitude r ≡ true
-unfolding lt smallMagnitude of_bits fits
+above-small-magnitude : (x r : Float) → NearestRoot x r → den x ≤ num x * 2 ^ 78 → lt small_magnitude r ≡ true
+unfolding lt small_magnitude of_bits fits
 above-small-magnitude x nan v h = absurd v.above
 above-small-magnitude x (inf s) v h = absurd v.above
 above-small-magnitude x (fin true n d) v h = absurd v.above
@@ -19,8 +19,8 @@ above-small-magnitude x (fin false n d) v h =
     let no : ¬ (n * up d * 2 ^ 39 < 1 * 1 * down d) = (λ l. root-least x (fin false n d) 1 (negsuc 38) v tt (omega arith) (lt→ltb _ _ l)) in
     above-small n d (omega arith)
 
-strong : (x : Float) → T (fits binary64 x) → lt (of_bits binary64 0x3b10000000000000) x ≡ true → lt smallMagnitude (root x) ≡ true
-unfolding lt smallMagnitude of_bits root
+strong : (x : Float) → T (fits binary64 x) → lt (of_bits binary64 0x3b10000000000000) x ≡ true → lt small_magnitude (root x) ≡ true
+unfolding lt small_magnitude of_bits root
 strong nan f t = absurd (true≢false (sym t))
 strong (inf true) f t = absurd (true≢false (sym t))
 strong (inf false) f t = refl
@@ -35,7 +35,7 @@ unfolding sqmag
 sqmag-fits y = add-fits binary64 (y.re ⊗ y.re) (y.im ⊗ y.im)
 
 pub has-spoke-spec : {M : Type 1} → statement M
-unfolding magnitude smallMagnitude
+unfolding magnitude small_magnitude
 has-spoke-spec = tie.close (tie.spec (λ c κs. search needs)
     (λ c. sym (strong _ (sqmag-fits c.before.before.args.y) (rw c.before.sqmag.ensures at c.if1.true)))
     (λ c κs. search needs) (λ c. rw c.magnitude.ensures))

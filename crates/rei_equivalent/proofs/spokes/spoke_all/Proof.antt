@@ -6,17 +6,17 @@ use lib.Ieee.{in_float}
 use Rattle.complex.specs.{put, entry_at}
 use Rattle.lists.specs.Buses.{up_to}
 use Rattle.complex.proofs.Matrices.{entry-within}
-use Rattle.lists.proofs.Order.{length-upTo}
+use Rattle.lists.proofs.Order.{length-up_to}
 use Rattle.refusals.specs.Refusals.{limit}
-use Rattle.lists.proofs.Stores.{upTo-end, sets-whole}
-use Rattle.rei_equivalent.specs.Rei.{spokeParts}
-use Rattle.rei_equivalent.proofs.TieLaws.{spoke-step, length-spokeParts}
+use Rattle.lists.proofs.Stores.{up_to-end, sets-whole}
+use Rattle.rei_equivalent.specs.Rei.{spoke_parts}
+use Rattle.rei_equivalent.proofs.TieLaws.{spoke-step, length-spoke_parts}
 use Rattle.rei_equivalent.proofs.spokes.spoke_all.Statement.{statement}
 use Rattle.rei_equivalent.proofs.spokes.spoke_all.Tie as tie
 
 abbrev invariant-loop : tie.invariant-loop
 invariant-loop n y spokes₀ count i₀ d₀ spokes i d =
-    let parts = spokeParts (of_int binary64 (pos n)) (entry_at n y) in
+    let parts = spoke_parts (of_int binary64 (pos n)) (entry_at n y) in
     (i ≤ n) × (d ≡ i * n + i) × (length spokes ≡ 2 * n) × (sets spokes (2 * i) (parts (drop i (up_to n))) ≡ sets spokes₀ 0 (parts (up_to n)))
 
 abbrev decreases-loop : tie.decreases-loop
@@ -43,12 +43,12 @@ loop-again c =
     )
 
 returns : tie.Need-returns invariant-loop decreases-loop
-unfolding spokeParts
+unfolding spoke_parts
 returns c =
     let s = c.before.before.before.before.before in let n = s.args.n in let l = c.before.loop in
-    let e = length-spokeParts (of_int binary64 (pos n)) (entry_at n s.args.y.now) (up_to n) in
-    let u = length-upTo n in
-    (rw (upTo-end n l.i (omega arith)) at l.invariant.3) ∙ sets-whole s.args.spokes.now _ (omega (arith, s.requires))
+    let e = length-spoke_parts (of_int binary64 (pos n)) (entry_at n s.args.y.now) (up_to n) in
+    let u = length-up_to n in
+    (rw (up_to-end n l.i (omega arith)) at l.invariant.3) ∙ sets-whole s.args.spokes.now _ (omega (arith, s.requires))
 
 pub spoke-all-spec : {M : Type 1} → statement M
 unfolding in_float

@@ -1,21 +1,21 @@
 -- `rei_equivalent::spokes::spokes_finite` meets its contract: the spokes not yet looked at tell what all do.
 use Rattle.prelude.proofs.Prelude.{◌≡◌, refl, sym, ◌∙◌, ◌+◌, ◌-◌, ◌*◌, ◌≤◌, ◌<◌, add-one, arith, needs, drop, zero-mul, suc-mul, mul-le-mul, binary64, of_int, ◌&&◌, not-true, not-false}
 use lib.IntN.{pos}
-use Rattle.binary64.specs.Values.{allFinite}
+use Rattle.binary64.specs.Values.{all_finite}
 use Rattle.complex.specs.{entry_at}
 use Rattle.complex.proofs.Matrices.{entry-within}
 use Rattle.lists.specs.Buses.{up_to}
-use Rattle.lists.proofs.Stores.{upTo-end}
+use Rattle.lists.proofs.Stores.{up_to-end}
 use Rattle.refusals.specs.Refusals.{limit}
-use Rattle.rei_equivalent.specs.Rei.{ofSpokes}
+use Rattle.rei_equivalent.specs.Rei.{of_spokes}
 use Rattle.rei_equivalent.proofs.ReiNumbers.{spokes-here}
 use Rattle.rei_equivalent.proofs.spokes.spokes_finite.Statement.{statement}
 use Rattle.rei_equivalent.proofs.spokes.spokes_finite.Tie as tie
 
 abbrev invariant-loop : tie.invariant-loop
 invariant-loop n y i₀ d₀ i d =
-    let all = ofSpokes (of_int binary64 (pos n)) (entry_at n y) in
-    (i ≤ n) × (d ≡ i * n + i) × (allFinite (all (drop i (up_to n))) ≡ allFinite (all (up_to n)))
+    let all = of_spokes (of_int binary64 (pos n)) (entry_at n y) in
+    (i ≤ n) × (d ≡ i * n + i) × (all_finite (all (drop i (up_to n))) ≡ all_finite (all (up_to n)))
 
 abbrev decreases-loop : tie.decreases-loop
 decreases-loop n y i₀ d₀ i d = n - i
@@ -28,8 +28,8 @@ reach c =
 
 -- what was tested
 told : (c : tie.After-spoke-finite invariant-loop decreases-loop) → let a = c.before.before.before.before.before.args in let l = c.before.before.before.loop in
-    allFinite (ofSpokes (of_int binary64 (pos a.n)) (entry_at a.n a.y.now) (drop l.i (up_to a.n)))
-    ≡ (c.spoke-finite.result && allFinite (ofSpokes (of_int binary64 (pos a.n)) (entry_at a.n a.y.now) (drop (l.i + 1) (up_to a.n))))
+    all_finite (of_spokes (of_int binary64 (pos a.n)) (entry_at a.n a.y.now) (drop l.i (up_to a.n)))
+    ≡ (c.spoke-finite.result && all_finite (of_spokes (of_int binary64 (pos a.n)) (entry_at a.n a.y.now) (drop (l.i + 1) (up_to a.n))))
 unfolding entry_at
 told c =
     let a = c.before.before.before.before.before.args in let l = c.before.before.before.loop in
@@ -50,8 +50,8 @@ loop-again c =
     )
 
 returns-2 : tie.Need-returns-2 invariant-loop decreases-loop
-unfolding ofSpokes allFinite
-returns-2 c = rw (upTo-end c.before.before.before.args.n c.before.loop.i c.loop-test.false) at c.before.loop.invariant.2
+unfolding of_spokes all_finite
+returns-2 c = rw (up_to-end c.before.before.before.args.n c.before.loop.i c.loop-test.false) at c.before.loop.invariant.2
 
 pub spokes-finite-spec : {M : Type 1} → statement M
 spokes-finite-spec = tie.close (tie.spec invariant-loop decreases-loop (λ c. let z = zero-mul c.before.args.n in (omega arith, omega arith, refl))

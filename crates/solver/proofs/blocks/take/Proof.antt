@@ -3,13 +3,13 @@ use Rattle.prelude.proofs.Prelude.{◌≡◌, refl, ◌∙◌, ℕ, ◌-◌, ◌
 use Rattle.complex.specs.{entry_at}
 use Rattle.solver.proofs.Passed.{RowsPassed, rows_none, rows_more}
 use Rattle.complex.proofs.Matrices.{grid-ext}
-use Rattle.solver.specs.Inner.Work.{rightSides}
+use Rattle.solver.specs.Inner.Work.{right_sides}
 use Rattle.solver.proofs.blocks.take.Statement.{statement}
 use Rattle.solver.proofs.blocks.take.Tie as tie
 
 abbrev invariant-loop : tie.invariant-loop
 invariant-loop work n w at m to₀ i₀ to i =
-    (i ≤ n) × (length to ≡ 2 * (n * m)) × RowsPassed m to (rightSides at (entry_at w work)) (entry_at m to₀) i
+    (i ≤ n) × (length to ≡ 2 * (n * m)) × RowsPassed m to (right_sides at (entry_at w work)) (entry_at m to₀) i
 
 abbrev decreases-loop : tie.decreases-loop
 decreases-loop work n w at m to₀ i₀ to i = n - i

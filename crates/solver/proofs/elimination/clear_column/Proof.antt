@@ -1,14 +1,14 @@
 -- `solver::elimination::clear_column` meets its contract.
 use Rattle.prelude.proofs.Prelude.{◌≡◌, refl, sym, ◌∙◌, subst, true, false, List, ℕ, ◌-◌, ◌≤◌, ◌<◌, arith, needs, Float}
 use borrow.Rule.Slice.PartMut.{same_len_mid}
-use Rattle.binary64.specs.Values.{allFinite}
-use Rattle.complex.specs.{Complex, unit, ofQuotient, complexInv, entry, entry_at, Matrix}
+use Rattle.binary64.specs.Values.{all_finite}
+use Rattle.complex.specs.{Complex, unit, of_quotient, complex_inv, entry, entry_at, Matrix}
 use Rattle.complex.specs.Leaves.{inverse, quotient}
 use Rattle.lists.proofs.Parts.{back}
 use Rattle.complex.proofs.Answers.{pair-tells, pair-tells-not}
 use Rattle.solver.specs.GaussJordan.{scaled, cleared}
 use Rattle.solver.specs.Solving.{operations}
-use Rattle.solver.specs.Inner.Work.{with_row, isDone, number_of}
+use Rattle.solver.specs.Inner.Work.{with_row, is_done, number_of}
 use Rattle.solver.proofs.GaussJordan.{reduced-same}
 use Rattle.solver.proofs.Told.{not_done, not-small}
 use Rattle.solver.proofs.RowParts.{row_written, scaled-is, row_put}
@@ -28,11 +28,11 @@ module _ (c : tie.After-complex-inv) where
   pivot = c.before.get.ensures ∙ start.pre.3 start.args.c (omega (arith, start.pre.0.wide, start.pre.1))
 
 returns : tie.Need-returns
-unfolding inverse quotient isDone number_of
+unfolding inverse quotient is_done number_of
 returns c =
     let v = c.before.before in let a = (start v).args in
     let lost = pair-tells-not _ _ (sym c.enum_told.given.1 ∙ v.complex-inv.ensures) in
-    (clearing-not-finite a.n a.w a.c a.allowed a.work.now (subst (λ (x : Complex). allFinite (ofQuotient unit x) ≡ false) (pivot v) lost), λ left e. absurd (not_done refl e), λ e. not-small refl e)
+    (clearing-not-finite a.n a.w a.c a.allowed a.work.now (subst (λ (x : Complex). all_finite (of_quotient unit x) ≡ false) (pivot v) lost), λ left e. absurd (not_done refl e), λ e. not-small refl e)
 
 -- row c is scaled, in its place and in `row`
 module _ (c : tie.After-scale) where
@@ -57,7 +57,7 @@ reduce-others-requires c κs =
     (record { wide = s.pre.0.wide; full = search needs }, s.pre.1, x.scale.ensures.0, row_put a.w a.c (entry x.scale.new.0) (A (inverted x)) _ (put x))
 
 returns-2 : tie.Need-returns-2
-unfolding cleared inverse quotient complexInv
+unfolding cleared inverse quotient complex_inv
 returns-2 c =
     let o = c.before.before.reduce-others in let x = c.before.before.before.before.before.before.before.before.before in let v = inverted x in let s = start v in let a = s.args in let B = A v in
     let sp = (spanned x).Span-of.result in
@@ -66,7 +66,7 @@ returns-2 c =
     let told = pair-tells _ _ _ (sym c.before.before.before.before.before.before.before.before.before.before.before.before.before.before.inverse.given.1 ∙ v.complex-inv.ensures) in
     let same : (r q : ℕ) → q < a.w → _ ≡ scaled operations a.c B r q
     = λ r q z. scaled-is a.w a.c (entry a.row.now) (entry x.scale.new.0) B _ v.before.get.result _ (omega arith) s.pre.3 v.before.get.ensures told.1 x.scale.ensures.1 (put x) r q z in
-    let finite = subst (λ (y : Complex). allFinite (ofQuotient unit y) ≡ true) (pivot v) told.0 in (
+    let finite = subst (λ (y : Complex). all_finite (of_quotient unit y) ≡ true) (pivot v) told.0 in (
       clearing-told a.n a.w a.c a.allowed a.work.now wide here s.pre.0.full finite _ (same_len_mid sp.start (sp.end - sp.start) a.work.now x.scale.new.1.1.1.0 x.scale.auto.1.1.1.0 ∙ s.pre.0.full) same _ _ o.ensures.0,
       λ left e i j h k. o.ensures.1 left e i j h k ∙ reduced-same operations a.n a.w wide _ (scaled operations a.c B) (λ r q y z. same r q z) a.c here i j h k,
       o.ensures.2,

@@ -1,6 +1,6 @@
 -- `solver::elimination::column` meets its contract.
 use Rattle.prelude.proofs.Prelude.{◌≡◌, ◌∙◌, Bool, true, false, List, ℕ, ◌*◌, ◌<◌, arith, needs, length, Float, lt}
-use Rattle.complex.specs.{divisionLimit, Matrix, entry, entry_at}
+use Rattle.complex.specs.{division_limit, Matrix, entry, entry_at}
 use Rattle.complex.proofs.Entries.{entry-append-left}
 use Rattle.solver.specs.GaussJordan.{pivoted}
 use Rattle.solver.specs.Solving.{operations}
@@ -35,13 +35,13 @@ module _ (c : tie.After-sqmag) where
   long : length swap.swap.last.0 ≡ 2 * (s.args.n * s.args.w)
   long = swap.swap.kept.0 ∙ s.pre.0.full
 
-  answer : (b : Bool) → lt c.sqmag.result divisionLimit ≡ b → b ≡ operations.small (pivoted operations s.args.n s.args.c A s.args.c s.args.c)
+  answer : (b : Bool) → lt c.sqmag.result division_limit ≡ b → b ≡ operations.small (pivoted operations s.args.n s.args.c A s.args.c s.args.c)
   answer b e =
       let wide : length front ≡ 2 * s.args.w = swap.swap.kept.1.1.1.1.1.0 ∙ front_long s.args.w s.args.row.now s.pre.2 in
       weighed s.args.n s.args.w s.args.c p A B (entry front) c.before.before.before.before.before.before.before.before.before.before.pivot-row.ensures.0 swap.swap.ensures.0 swap.swap.ensures.1 s.pre.0.wide s.pre.1 c.before.get.result c.sqmag.result b (c.before.get.ensures ∙ entry-append-left front _ s.args.c (omega (arith, s.pre.0.wide, s.pre.1))) c.sqmag.ensures e
 
 returns : tie.Need-returns
-unfolding divisionLimit
+unfolding division_limit
 returns c =
     let t = c.before in
     column-small _ _ _ _ (s t).requires.0.wide (s t).requires.1 _ _ (s t).requires.0.full (long t) (rows t) (answer t true c.if1.true)
@@ -55,7 +55,7 @@ clear-column-requires c κs =
     (record { wide = s.requires.0.wide; full = search needs }, s.requires.1, search needs, λ (j : ℕ) (h : j < a.w). entry-append-left front _ j (omega arith) ∙ x.ensures.1 j h)
 
 returns-2 : tie.Need-returns-2
-unfolding divisionLimit
+unfolding division_limit
 returns-2 c =
     let t = c.before.before.before.before.before.before.before.before in let x = c.before.before.before.before.clear-column in
     column-cleared _ _ _ _ (s t).requires.0.wide (s t).requires.1 _ _ (s t).requires.0.full (long t) (rows t) (answer t false c.before.before.before.before.before.before.before.if1.false) _ _ x.ensures.0 x.ensures.1 x.ensures.2

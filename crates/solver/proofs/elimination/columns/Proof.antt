@@ -1,6 +1,6 @@
 -- `solver::elimination::columns` meets its contract.
 use Rattle.prelude.proofs.Prelude.{◌-◌, refl, needs}
-use Rattle.solver.specs.Inner.Work.{isDone}
+use Rattle.solver.specs.Inner.Work.{is_done}
 use Rattle.solver.proofs.ColumnSteps.{Running, running-first, running-ended, running-next, running-end}
 use Rattle.solver.proofs.elimination.columns.Statement.{statement}
 use Rattle.solver.proofs.elimination.columns.Tie as tie
@@ -15,19 +15,19 @@ loop-holds : tie.Need-loop-init invariant-loop decreases-loop
 loop-holds c = let s = c.before.before in running-first _ _ _ _ _ s.requires.0.full s.requires.1
 
 returns : tie.Need-returns invariant-loop decreases-loop
-unfolding isDone
+unfolding is_done
 returns c =
     let x = c.before.before.before.before.before.before in let t = x.before.before.before in
     running-ended _ _ _ _ _ _ _ _ t.before.loop.invariant x.column.result x.column.new.0 t.loop-test.true x.column.ensures x.column.auto.0 _ refl c.enum_told.given.1
 
 returns-2 : tie.Need-returns-2 invariant-loop decreases-loop
-unfolding isDone
+unfolding is_done
 returns-2 c =
     let x = c.before.before.before.before.before.before in let t = x.before.before.before in
     running-ended _ _ _ _ _ _ _ _ t.before.loop.invariant x.column.result x.column.new.0 t.loop-test.true x.column.ensures x.column.auto.0 _ refl c.enum-told2.given.1
 
 returns-3 : tie.Need-returns-3 invariant-loop decreases-loop
-unfolding isDone
+unfolding is_done
 returns-3 c =
     let x = c.before.before.before.before.before.before in let t = x.before.before.before in
     running-ended _ _ _ _ _ _ _ _ t.before.loop.invariant x.column.result x.column.new.0 t.loop-test.true x.column.ensures x.column.auto.0 _ refl c.enum-told3.given.1

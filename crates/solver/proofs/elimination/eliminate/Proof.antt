@@ -1,6 +1,6 @@
 -- `solver::elimination::eliminate` meets its contract.
 use Rattle.prelude.proofs.Prelude.{◌≡◌, Bool, true, false, sym, ◌∙◌, subst, T, arith, needs}
-use Rattle.binary64.specs.Values.{allFinite}
+use Rattle.binary64.specs.Values.{all_finite}
 use Rattle.solver.proofs.ColumnSteps.{met-finite, met-lost}
 use Rattle.solver.proofs.elimination.eliminate.Statement.{statement}
 use Rattle.solver.proofs.elimination.eliminate.Tie as tie
@@ -13,7 +13,7 @@ module _ (c : tie.After-all-finite) where
   abbrev start : tie.Start
   start = run.before.before.before.before
 
-  found : (b : Bool) → c.all-finite.result ≡ b → allFinite run.columns.last.0 ≡ b
+  found : (b : Bool) → c.all-finite.result ≡ b → all_finite run.columns.last.0 ≡ b
   found b e = sym c.all-finite.ensures ∙ e
 
 returns : tie.Need-returns

@@ -1,7 +1,7 @@
 -- `solver::elimination::pivot_row` meets its contract. The invariant: what weighing the rows from `next` on would hold is the pivot's row.
 use Rattle.prelude.proofs.Prelude.{◌≡◌, ◌∙◌, ◌-◌, ◌≤◌, ◌<◌, arith, needs}
 use Rattle.complex.specs.{entry_at}
-use Rattle.solver.specs.GaussJordan.{heldAfter, pivotRow}
+use Rattle.solver.specs.GaussJordan.{held_after, pivot_row}
 use Rattle.solver.specs.Solving.{operations}
 use Rattle.solver.proofs.GaussJordan.{held_first, held_next, held-last, kept-below}
 use Rattle.solver.proofs.elimination.pivot_row.Statement.{statement}
@@ -9,7 +9,7 @@ use Rattle.solver.proofs.elimination.pivot_row.Tie as tie
 
 abbrev invariant-loop : tie.invariant-loop
 invariant-loop work n w c held₀ next₀ held next =
-    (held < n) × (next ≤ n) × (heldAfter operations (entry_at w work) c held next (n - next) ≡ pivotRow operations n (entry_at w work) c)
+    (held < n) × (next ≤ n) × (held_after operations (entry_at w work) c held next (n - next) ≡ pivot_row operations n (entry_at w work) c)
 
 abbrev decreases-loop : tie.decreases-loop
 decreases-loop work n w c held₀ next₀ held next = n - next

@@ -2,7 +2,7 @@
 use Rattle.prelude.proofs.Prelude.{◌≡◌, refl, sym, ap, ◌∙◌, inl, inr, ℕ, ◌+◌, ◌-◌, ◌*◌, ◌<◌, arith, needs, length, add-one, not-true, not-false}
 use native.Mathlib.Nat.{suc-mul}
 use Rattle.complex.proofs.Matrices.{row_within}
-use Rattle.solver.specs.Inner.Work.{isDone, number_of}
+use Rattle.solver.specs.Inner.Work.{is_done, number_of}
 use Rattle.solver.proofs.Told.{not_done, not-small}
 use Rattle.solver.proofs.RowTurns.{Reducing, reducing-first, reducing-same, reducing-alone, reducing-more, reducing-exceeded, reducing-end}
 use Rattle.solver.proofs.elimination.reduce_others.Statement.{statement}
@@ -23,7 +23,7 @@ module _ (c : tie.After-left-alone invariant-loop decreases-loop) where
   here = omega (arith, start.pre.1, start.pre.0.wide)
 
 returns : tie.Need-returns invariant-loop decreases-loop
-unfolding isDone number_of
+unfolding is_done number_of
 returns c =
     let t = c.before.before in (
       reducing-exceeded _ _ _ _ _ _ _ _ t.before.before.before.loop.invariant.0 (here t) t.before.before.loop-test.true

@@ -1,13 +1,13 @@
 -- `solver::solving::fill_identity` meets its contract.
 use Rattle.prelude.proofs.Prelude.{ap, ◌∙◌, cond, List, ℕ, ◌+◌, ◌<◌, arith, needs, eqb, length, Float}
 use Rattle.complex.specs.{Complex, unit, entry_at}
-use Rattle.solver.specs.Inner.Work.{placed, withIdentity}
+use Rattle.solver.specs.Inner.Work.{placed, with_identity}
 use Rattle.solver.proofs.Solutions.{identity-filled}
 use Rattle.solver.proofs.solving.fill_identity.Statement.{statement}
 use Rattle.solver.proofs.solving.fill_identity.Tie as tie
 
 returns : tie.Need-returns
-unfolding withIdentity
+unfolding with_identity
 returns c =
     let s = c.before.before.before.before.before.before.before.before.before.before.before.before.before.before in
     let n = s.args.n in

@@ -5,10 +5,10 @@ use Rattle.complex.proofs.FiniteEntries.{slice-entries}
 use Rattle.complex.proofs.Matrices.{grid-same}
 use Rattle.refusals.proofs.Refusing.{products}
 use Rattle.refusals.specs.declared.Allowance.TheVariants.{Unlimited}
-use Rattle.refusals.specs.Work.{workRefusal}
-use Rattle.solver.specs.Solving.{inverse, unitColumn}
-use Rattle.solver.specs.Steps.{stepsOfInverse}
-use Rattle.solver.specs.Inner.Work.{isDone, rightSides}
+use Rattle.refusals.specs.Work.{work_refusal}
+use Rattle.solver.specs.Solving.{inverse, unit_column}
+use Rattle.solver.specs.Steps.{steps_of_inverse}
+use Rattle.solver.specs.Inner.Work.{is_done, right_sides}
 use Rattle.solver.proofs.Told.{done-left, number-none}
 use Rattle.solver.proofs.Allowances.{inverse-refused}
 use Rattle.solver.proofs.Solutions.{ended_is, solution-is, filled-finite, identity-finite}
@@ -21,7 +21,7 @@ eliminate-requires c κs =
       omega arith,
       omega (arith, s.requires.0),
       search needs,
-      filled-finite a.n a.n (entry_at a.n a.mat.now) (λ (r k : ℕ). unitColumn k r) _ f.ensures (search needs)
+      filled-finite a.n a.n (entry_at a.n a.mat.now) (λ (r k : ℕ). unit_column k r) _ f.ensures (search needs)
           (slice-entries a.n a.n a.mat.now s.requires.2 s.requires.4) (identity-finite a.n a.n),
     )
 
@@ -36,20 +36,20 @@ module _ (c : tie.After-number-of) where
   abbrev A : Matrix
   A = entry_at start.args.n start.args.mat.now
 
-  told : c.number_of_lem.result ≡ workRefusal Unlimited (stepsOfInverse start.args.n A)
-  unfolding stepsOfInverse
+  told : c.number_of_lem.result ≡ work_refusal Unlimited (steps_of_inverse start.args.n A)
+  unfolding steps_of_inverse
   told =
       c.number_of_lem.ensures
       ∙ inverse-refused start.args.n A run.eliminate.result
-      (ended_is start.args.n start.args.n A (λ (r k : ℕ). unitColumn k r) _ run.before.before.before.before.fill-identity.ensures _ _ run.eliminate.last.0 run.eliminate.ensures)
+      (ended_is start.args.n start.args.n A (λ (r k : ℕ). unit_column k r) _ run.before.before.before.before.fill-identity.ensures _ _ run.eliminate.last.0 run.eliminate.ensures)
 
-  read : c.number_of_lem.result ≡ 0 → grid start.args.n start.args.n (rightSides start.args.n (entry_at (start.args.n + start.args.n) run.eliminate.last.0))
+  read : c.number_of_lem.result ≡ 0 → grid start.args.n start.args.n (right_sides start.args.n (entry_at (start.args.n + start.args.n) run.eliminate.last.0))
       ≡ grid start.args.n start.args.n (inverse start.args.n A)
   read z =
-      let done : isDone run.eliminate.result ≡ true = sym (number-none run.eliminate.result) ∙ ap (λ (k : ℕ). eqb k 0) (sym c.number_of_lem.ensures ∙ z) in
+      let done : is_done run.eliminate.result ≡ true = sym (number-none run.eliminate.result) ∙ ap (λ (k : ℕ). eqb k 0) (sym c.number_of_lem.ensures ∙ z) in
       let (left, e) = done-left run.eliminate.result done in
       grid-same start.args.n start.args.n _ (inverse start.args.n A)
-      (λ (i j : ℕ) h k. solution-is start.args.n start.args.n A (λ (r k : ℕ). unitColumn k r) _ run.before.before.before.before.fill-identity.ensures _ _ _ run.eliminate.ensures left e i j h k)
+      (λ (i j : ℕ) h k. solution-is start.args.n start.args.n A (λ (r k : ℕ). unit_column k r) _ run.before.before.before.before.fill-identity.ensures _ _ _ run.eliminate.ensures left e i j h k)
 
 returns : tie.Need-returns
 returns c =

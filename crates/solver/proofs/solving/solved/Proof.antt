@@ -4,8 +4,8 @@ use Rattle.complex.specs.{entry, Matrix, entry_at, grid, zeros}
 use Rattle.complex.proofs.FiniteEntries.{slice-entries}
 use Rattle.complex.proofs.Matrices.{grid-same}
 use Rattle.solver.specs.Solving.{solve}
-use Rattle.solver.specs.Steps.{stepsOfSolve}
-use Rattle.solver.specs.Inner.Work.{isDone, Ended, rightSides}
+use Rattle.solver.specs.Steps.{steps_of_solve}
+use Rattle.solver.specs.Inner.Work.{is_done, Ended, right_sides}
 use Rattle.solver.proofs.Told.{done-left}
 use Rattle.solver.proofs.Solutions.{ended_is, solution-is, filled-finite, side-finite}
 use Rattle.solver.proofs.solving.solved.Statement.{statement}
@@ -32,11 +32,11 @@ module _ (c : tie.After-eliminate) where
   abbrev solution : List Float
   solution = grid start.args.n 1 (λ (i k : ℕ). solve start.args.n A (entry start.args.b.now) i)
 
-  told : Ended start.args.allowed c.eliminate.result (stepsOfSolve start.args.n A (entry start.args.b.now))
-  unfolding stepsOfSolve
+  told : Ended start.args.allowed c.eliminate.result (steps_of_solve start.args.n A (entry start.args.b.now))
+  unfolding steps_of_solve
   told = ended_is start.args.n 1 A (λ (r k : ℕ). entry start.args.b.now r) _ c.before.before.before.before.fill-system.ensures _ _ c.eliminate.new.0 c.eliminate.ensures
 
-  read : isDone c.eliminate.result ≡ true → grid start.args.n 1 (rightSides start.args.n (entry_at (start.args.n + 1) c.eliminate.new.0)) ≡ solution
+  read : is_done c.eliminate.result ≡ true → grid start.args.n 1 (right_sides start.args.n (entry_at (start.args.n + 1) c.eliminate.new.0)) ≡ solution
   read d =
       let (left, e) = done-left c.eliminate.result d in
       grid-same start.args.n 1 _ _
@@ -53,7 +53,7 @@ returns c =
 returns-2 : tie.Need-returns-2
 returns-2 c =
     let g = c.before.before.before.before.before.before.before.before.before.before.before.before.before in let d = c.before.before.before.before.before.before.before.before.before.before.is-done in
-    let done : isDone g.eliminate.result ≡ true = sym d.ensures ∙ not-false _ c.before.before.before.before.before.before.before.before.before.if1.false in (
+    let done : is_done g.eliminate.result ≡ true = sym d.ensures ∙ not-false _ c.before.before.before.before.before.before.before.before.before.if1.false in (
       told g,
       c.before.before.before.before.before.before.take.ensures ∙ read g done ∙ sym (ap (λ (t : Bool). cond t (solution g) (start g).args.x.now) done),
       c.before.before.clear2.ensures ∙ ap zeros (g.eliminate.auto.0 ∙ g.before.before.before.before.fill-system.auto.0),

@@ -1,16 +1,16 @@
 -- `ward_equivalent::answers::number_of` meets its contract.
-use Rattle.ward_equivalent.specs.Studied.{wardNumber}
+use Rattle.ward_equivalent.specs.Studied.{ward_number}
 use Rattle.prelude.proofs.Prelude.{needs}
 use Rattle.ward_equivalent.proofs.answers.number_of.Statement.{statement}
 use Rattle.ward_equivalent.proofs.answers.number_of.Tie as tie
 
 returns : tie.Need-returns
-unfolding wardNumber
+unfolding ward_number
 returns c =
     cc
 
 returns-2 : tie.Need-returns-2
-unfolding wardNumber
+unfolding ward_number
 returns-2 c =
     cc
 

@@ -1,11 +1,11 @@
 -- `ward_equivalent::corrections::corrected_in` meets its contract.
 use Rattle.prelude.proofs.Prelude.{◌≡◌, refl, sym, ap, ◌∙◌, ◌-◌, arith, needs, T, length, take, drop, sub-zero, length-drop, length-take-le, not-true}
-use Rattle.binary64.specs.Values.{allFinite}
+use Rattle.binary64.specs.Values.{all_finite}
 use Rattle.lists.proofs.Scans.{rest-is}
 use Rattle.ward_equivalent.specs.Extended.{ExtendedStudy, ExtendedOutputs}
-use Rattle.ward_equivalent.specs.Steps.{ofEach, ofCorrection}
-use Rattle.ward_equivalent.specs.Calls.{outputsOf, extendedOutputsOf}
-use Rattle.ward_equivalent.specs.Inner.Listed.{cut, extendedOf}
+use Rattle.ward_equivalent.specs.Steps.{of_each, of_correction}
+use Rattle.ward_equivalent.specs.Calls.{outputs_of, extended_outputs_of}
+use Rattle.ward_equivalent.specs.Inner.Listed.{cut, extended_of}
 use Rattle.ward_equivalent.proofs.Solved.{listing-take, listing-drop}
 use Rattle.ward_equivalent.proofs.Tests.{told-true}
 use Rattle.ward_equivalent.proofs.Extended.{same-extended, extended-lost, extended-done, extended-not, corrections-seen, compensations-seen, corrections-fine, corrections-not}
@@ -15,10 +15,10 @@ use Rattle.ward_equivalent.proofs.corrections.corrected_in.Tie as tie
 -- what is given, and the slices at entry
 module _ (s : tie.Start) where
   abbrev given : ExtendedStudy
-  given = extendedOf (cut s.args.n s.args.y.now s.args.buses.now s.args.e s.args.f s.args.base s.args.p.now s.args.q.now) s.args.voltages.now
+  given = extended_of (cut s.args.n s.args.y.now s.args.buses.now s.args.e s.args.f s.args.base s.args.p.now s.args.q.now) s.args.voltages.now
 
   abbrev outputs : ExtendedOutputs
-  outputs = extendedOutputsOf (outputsOf s.args.to.now s.args.active.now s.args.reactive.now s.args.work.now) s.args.correction.now s.args.compensation.now
+  outputs = extended_outputs_of (outputs_of s.args.to.now s.args.active.now s.args.reactive.now s.args.work.now) s.args.correction.now s.args.compensation.now
 
 corrections-requires : tie.Need-corrections-requires
 corrections-requires c κs =
@@ -37,7 +37,7 @@ module _ (c : tie.After-corrections) where
   abbrev start : tie.Start
   start = c.before.before.before.before.before.before.before.before.before.before.before.before.before.before.before.before.before.before
 
-  fine : T c.corrections.result → T (allFinite (ofEach (ofCorrection (given start)) (given start).study.boundary))
+  fine : T c.corrections.result → T (all_finite (of_each (of_correction (given start)) (given start).study.boundary))
   fine h = let a = start.args in corrections-fine a.n a.y.now a.buses.now a.e a.f a.base a.p.now a.q.now a.voltages.now (c.corrections.ensures.0.holds h)
 
 uncorrected-requires : tie.Need-uncorrected-requires
@@ -48,7 +48,7 @@ uncorrected-requires c κs =
 returns : tie.Need-returns
 returns c =
     let g = c.before.before.before.before.before.before.before.before.before in let s = start g in let a = s.args in let u = c.before.before.uncorrected.ensures in
-    same-extended u.0 (λ i. outputsOf a.to.now a.active.now a.reactive.now (u.1 i)) refl refl
+    same-extended u.0 (λ i. outputs_of a.to.now a.active.now a.reactive.now (u.1 i)) refl refl
     ∙ extended-lost (given s) a.allowed (outputs s) (corrections-not a.n a.y.now a.buses.now a.e a.f a.base a.p.now a.q.now a.voltages.now (g.corrections.ensures.0.fails (not-true _ c.before.before.before.before.if1.true)))
 
 study-requires : tie.Need-study-requires

@@ -1,7 +1,7 @@
 -- `ward_equivalent::corrections::over_ties` meets its contract. The invariant: each sum has the terms of the external buses before k.
 use Rattle.prelude.proofs.Prelude.{◌-◌, ◌≤◌, arith, needs, length, get_or}
 use Rattle.complex.specs.{plus0, one}
-use Rattle.ward_equivalent.specs.Inner.Listed.{correctionInput}
+use Rattle.ward_equivalent.specs.Inner.Listed.{correction_input}
 use Rattle.ward_equivalent.proofs.Places.{listed_below, entry-index}
 use Rattle.ward_equivalent.proofs.Ties.{TiesTo, ties-none, ties-more, ties-all}
 use Rattle.ward_equivalent.proofs.corrections.over_ties.Statement.{statement}
@@ -9,7 +9,7 @@ use Rattle.ward_equivalent.proofs.corrections.over_ties.Tie as tie
 
 abbrev invariant-loop : tie.invariant-loop
 invariant-loop y n bus outer voltages base weights₀ weighted₀ reactive₀ k₀ weights weighted reactive k =
-    (k ≤ length outer) × TiesTo (correctionInput n y outer voltages base) bus k weights weighted reactive
+    (k ≤ length outer) × TiesTo (correction_input n y outer voltages base) bus k weights weighted reactive
 
 abbrev decreases-loop : tie.decreases-loop
 decreases-loop y n bus outer voltages base weights₀ weighted₀ reactive₀ k₀ weights weighted reactive k = length outer - k

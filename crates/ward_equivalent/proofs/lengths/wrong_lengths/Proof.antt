@@ -3,7 +3,7 @@ use Rattle.prelude.proofs.Prelude.{◌+◌, ◌*◌, ◌≤◌, arith, mul-le-mu
 use Rattle.refusals.specs.Refusals.{limit}
 use Rattle.refusals.proofs.Refusing.{refusing}
 use Rattle.ward_equivalent.specs.declared.lengths.Lengths.{Lengths}
-use Rattle.ward_equivalent.specs.Lengths.{wrongLengths}
+use Rattle.ward_equivalent.specs.Lengths.{wrong_lengths}
 use Rattle.ward_equivalent.proofs.Told.{Few, few}
 use Rattle.ward_equivalent.proofs.lengths.wrong_lengths.Statement.{statement}
 use Rattle.ward_equivalent.proofs.lengths.wrong_lengths.Tie as tie
@@ -28,7 +28,7 @@ module _ (c : tie.After-struct-known) where
   system = mul-le-mul within.external (let w : l.external + (l.internal + l.boundary) + 1 ≤ limit + (limit + limit) + 1 = omega (arith, within.external, retained) in w)
 
 pub wrong-lengths-spec : {M : Type 1} → statement M
-unfolding wrongLengths
+unfolding wrong_lengths
 wrong-lengths-spec = tie.close (tie.spec (λ c. omega (arith, retained c)) (λ c. omega (arith, square c)) (λ c. omega (arith, square c))
     (λ c. omega (arith, reduced c)) (λ c. omega (arith, reduced c)) (λ c. omega (arith, retained c, (within c).external))
     (λ c. omega (arith, retained c, (within c).external)) (λ c. omega (arith, system c)) (λ c. omega (arith, system c))

@@ -1,13 +1,13 @@
 -- `ward_equivalent::rows::add_products` meets its contract. The invariant: each entry has the terms of the external buses before k.
 use Rattle.prelude.proofs.Prelude.{◌≡◌, sym, ap, ◌∙◌, ℕ, ◌+◌, ◌-◌, ◌*◌, ◌≤◌, ◌<◌, arith, needs, length, get_or}
 use Rattle.complex.specs.{Complex, cadd, cmul, entry, entry_at}
-use Rattle.ward_equivalent.specs.Inner.Work.{productTo}
+use Rattle.ward_equivalent.specs.Inner.Work.{product_to}
 use Rattle.ward_equivalent.proofs.Places.{product-more}
 use Rattle.ward_equivalent.proofs.rows.add_products.Statement.{statement}
 use Rattle.ward_equivalent.proofs.rows.add_products.Tie as tie
 
 abbrev invariant-loop : tie.invariant-loop
-invariant-loop y n bus outer work w first r to₀ k₀ to k = (k ≤ length outer) × (length to ≡ 2 * r) × ((q : ℕ) → q < r → entry to q ≡ productTo n y outer w work bus (first + q) k)
+invariant-loop y n bus outer work w first r to₀ k₀ to k = (k ≤ length outer) × (length to ≡ 2 * r) × ((q : ℕ) → q < r → entry to q ≡ product_to n y outer w work bus (first + q) k)
 
 abbrev decreases-loop : tie.decreases-loop
 decreases-loop y n bus outer work w first r to₀ k₀ to k = length outer - k
@@ -43,7 +43,7 @@ returns c =
     let l = c.before.loop in let a = c.before.before.before.before.before.before.args in
     let e = a.first in
     let end : l.k ≡ length a.outer.now = omega arith in
-    λ (q : ℕ) (h : q < a.r). l.invariant.2 q h ∙ ap (productTo a.n a.y.now a.outer.now a.w a.work.now a.bus (e + q)) end
+    λ (q : ℕ) (h : q < a.r). l.invariant.2 q h ∙ ap (product_to a.n a.y.now a.outer.now a.w a.work.now a.bus (e + q)) end
 
 pub add-products-spec : {M : Type 1} → statement M
 add-products-spec = tie.close (tie.spec invariant-loop decreases-loop loop-holds add-term-requires (λ c. search needs) (λ c. search needs) loop-again

@@ -1,6 +1,6 @@
 -- `ward_equivalent::rows::add_term` meets its contract.
 use Rattle.prelude.proofs.Prelude.{ℕ, ◌<◌, needs, get_or}
-use Rattle.solver.specs.Inner.Work.{rightSides}
+use Rattle.solver.specs.Inner.Work.{right_sides}
 use Rattle.solver.proofs.BlockParts.{block_read}
 use Rattle.ward_equivalent.proofs.Places.{listed_below, entry-index}
 use Rattle.ward_equivalent.proofs.rows.add_term.Statement.{statement}
@@ -13,7 +13,7 @@ at-requires c κs =
     (listed_below a.n a.y.now a.outer.now s.requires.0 a.k s.requires.2)
 
 returns : tie.Need-returns
-unfolding rightSides
+unfolding right_sides
 returns c =
     let x = c.before.before.add-scaled in let g = c.before.before.before.before.at.ensures in
     let lies = c.before.before.before.before.before.before.before.Span-of.ensures in

@@ -2,14 +2,14 @@
 use Rattle.prelude.proofs.Prelude.{◌≡◌, sym, ap, ◌∙◌, ℕ, ◌+◌, ◌-◌, ◌*◌, ◌≤◌, ◌<◌, arith, needs, length, get_or}
 use Rattle.complex.specs.{Complex, entry_at}
 use Rattle.solver.proofs.Passed.{RowsPassed, rows_none, rows_more}
-use Rattle.ward_equivalent.specs.Inner.Work.{workRow}
+use Rattle.ward_equivalent.specs.Inner.Work.{work_row}
 use Rattle.ward_equivalent.proofs.Places.{listed_below, entry-index}
 use Rattle.ward_equivalent.proofs.rows.fill_column.Statement.{statement}
 use Rattle.ward_equivalent.proofs.rows.fill_column.Tie as tie
 
 abbrev invariant-loop : tie.invariant-loop
 invariant-loop y n outer bus front₀ e k₀ front k =
-    (k ≤ length outer) × (length front ≡ 2 * (length outer * (length outer + 1))) × RowsPassed (length outer + 1) front (λ (i : ℕ). workRow n y outer i (entry_at n y (get_or outer i 0) bus)) (entry_at (length outer + 1) front₀) k
+    (k ≤ length outer) × (length front ≡ 2 * (length outer * (length outer + 1))) × RowsPassed (length outer + 1) front (λ (i : ℕ). work_row n y outer i (entry_at n y (get_or outer i 0) bus)) (entry_at (length outer + 1) front₀) k
 
 abbrev decreases-loop : tie.decreases-loop
 decreases-loop y n outer bus front₀ e k₀ front k = length outer - k
@@ -17,7 +17,7 @@ decreases-loop y n outer bus front₀ e k₀ front k = length outer - k
 loop-holds : tie.Need-loop-init invariant-loop decreases-loop
 loop-holds c =
     let s = c.before.before.before in let a = s.args in
-    (omega arith, s.requires.2, rows_none (length a.outer.now + 1) a.front.now (λ (i : ℕ). workRow a.n a.y.now a.outer.now i (entry_at a.n a.y.now (get_or a.outer.now i 0) a.bus)))
+    (omega arith, s.requires.2, rows_none (length a.outer.now + 1) a.front.now (λ (i : ℕ). work_row a.n a.y.now a.outer.now i (entry_at a.n a.y.now (get_or a.outer.now i 0) a.bus)))
 
 at-requires : tie.Need-at-requires invariant-loop decreases-loop
 at-requires c κs =
@@ -37,8 +37,8 @@ loop-again c =
     let k = l.k in (
       omega arith,
       x.auto.1.1.1.1.1.1.0 ∙ l.invariant.1,
-      rows_more W l.front x.new.1.1.1.1.1.1.0 (λ (i : ℕ). workRow a.n a.y.now a.outer.now i (entry_at a.n a.y.now (get_or a.outer.now i 0) a.bus)) (entry_at W a.front.now) k
-          (workRow a.n a.y.now a.outer.now k g.result) x.ensures (λ (q : ℕ) (h : q < W). ap (λ (v : Complex). workRow a.n a.y.now a.outer.now k v q) g.ensures) l.invariant.2,
+      rows_more W l.front x.new.1.1.1.1.1.1.0 (λ (i : ℕ). work_row a.n a.y.now a.outer.now i (entry_at a.n a.y.now (get_or a.outer.now i 0) a.bus)) (entry_at W a.front.now) k
+          (work_row a.n a.y.now a.outer.now k g.result) x.ensures (λ (q : ℕ) (h : q < W). ap (λ (v : Complex). work_row a.n a.y.now a.outer.now k v q) g.ensures) l.invariant.2,
     )
 
 same_length : tie.Need-same-length invariant-loop decreases-loop

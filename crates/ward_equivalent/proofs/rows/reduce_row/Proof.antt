@@ -2,7 +2,7 @@
 use Rattle.prelude.proofs.Prelude.{ap, ◌∙◌, ℕ, ◌+◌, ◌<◌, needs, length, get_or}
 use Rattle.complex.specs.{csub, entry_at}
 use Rattle.complex.proofs.Matrices.{length-zeros}
-use Rattle.ward_equivalent.specs.Inner.Work.{lessProduct}
+use Rattle.ward_equivalent.specs.Inner.Work.{less_product}
 use Rattle.ward_equivalent.proofs.Places.{cleared-row}
 use Rattle.ward_equivalent.proofs.rows.reduce_row.Statement.{statement}
 use Rattle.ward_equivalent.proofs.rows.reduce_row.Tie as tie
@@ -22,7 +22,7 @@ add-products-requires c κs =
     )
 
 returns : tie.Need-returns
-unfolding lessProduct
+unfolding less_product
 returns c =
     let a = c.before.before.before.before.before.before.before.before.before.before.before.before.before.before.before.before.before.args in
     let t = c.before.before.take-from in let x = c.before.before.before.before.before.before.add-products in

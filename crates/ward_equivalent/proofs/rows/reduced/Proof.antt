@@ -2,13 +2,13 @@
 use Rattle.prelude.proofs.Prelude.{◌≡◌, refl, sym, ◌∙◌, ℕ, ◌-◌, ◌*◌, ◌≤◌, ◌<◌, arith, needs, length, get_or}
 use Rattle.complex.specs.{entry_at}
 use Rattle.solver.proofs.Passed.{RowsPassed, rows_none, rows_more}
-use Rattle.ward_equivalent.specs.Inner.Work.{lessProduct}
+use Rattle.ward_equivalent.specs.Inner.Work.{less_product}
 use Rattle.ward_equivalent.proofs.rows.reduced.Statement.{statement}
 use Rattle.ward_equivalent.proofs.rows.reduced.Tie as tie
 
 abbrev invariant-loop : tie.invariant-loop
 invariant-loop y n outer kept work w first to₀ p₀ to p =
-    (p ≤ length kept) × (length to ≡ 2 * (length kept * length kept)) × RowsPassed (length kept) to (λ (i : ℕ). lessProduct n y outer kept w work first (get_or kept i 0)) (entry_at (length kept) to₀) p
+    (p ≤ length kept) × (length to ≡ 2 * (length kept * length kept)) × RowsPassed (length kept) to (λ (i : ℕ). less_product n y outer kept w work first (get_or kept i 0)) (entry_at (length kept) to₀) p
 
 abbrev decreases-loop : tie.decreases-loop
 decreases-loop y n outer kept work w first to₀ p₀ to p = length kept - p
@@ -16,7 +16,7 @@ decreases-loop y n outer kept work w first to₀ p₀ to p = length kept - p
 loop-holds : tie.Need-loop-init invariant-loop decreases-loop
 loop-holds c =
     let s = c.before.before.before.before.before in let a = s.args in
-    (omega arith, s.requires.4, rows_none (length a.kept.now) a.to.now (λ (i : ℕ). lessProduct a.n a.y.now a.outer.now a.kept.now a.w a.work.now a.first (get_or a.kept.now i 0)))
+    (omega arith, s.requires.4, rows_none (length a.kept.now) a.to.now (λ (i : ℕ). less_product a.n a.y.now a.outer.now a.kept.now a.w a.work.now a.first (get_or a.kept.now i 0)))
 
 reduce-at-requires : tie.Need-reduce-at-requires invariant-loop decreases-loop
 reduce-at-requires c κs =
@@ -30,8 +30,8 @@ loop-again c =
     let r = length a.kept.now in (
       omega arith,
       x.auto.1.1.1.1.1.1.1.1.0 ∙ l.invariant.1,
-      rows_more r l.to x.new.1.1.1.1.1.1.1.1.0 (λ (i : ℕ). lessProduct a.n a.y.now a.outer.now a.kept.now a.w a.work.now a.first (get_or a.kept.now i 0)) (entry_at r a.to.now) l.p
-          (lessProduct a.n a.y.now a.outer.now a.kept.now a.w a.work.now a.first (get_or a.kept.now l.p 0)) x.ensures (λ (q : ℕ) (h : q < r). refl) l.invariant.2,
+      rows_more r l.to x.new.1.1.1.1.1.1.1.1.0 (λ (i : ℕ). less_product a.n a.y.now a.outer.now a.kept.now a.w a.work.now a.first (get_or a.kept.now i 0)) (entry_at r a.to.now) l.p
+          (less_product a.n a.y.now a.outer.now a.kept.now a.w a.work.now a.first (get_or a.kept.now l.p 0)) x.ensures (λ (q : ℕ) (h : q < r). refl) l.invariant.2,
     )
 
 same_length : tie.Need-same-length invariant-loop decreases-loop

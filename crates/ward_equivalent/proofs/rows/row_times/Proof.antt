@@ -1,20 +1,20 @@
 -- `ward_equivalent::rows::row_times` meets its contract. The invariant: the sum has the terms before k.
 use Rattle.prelude.proofs.Prelude.{◌≡◌, refl, sym, ap, ◌∙◌, ◌-◌, ◌≤◌, arith, needs, length, get_or}
 use Rattle.complex.specs.{Complex, cadd, cmul, entry_at, plus0}
-use Rattle.ward_equivalent.specs.Arithmetic.{sumUp}
-use Rattle.ward_equivalent.specs.Inner.Work.{productTo}
+use Rattle.ward_equivalent.specs.Arithmetic.{sum_up}
+use Rattle.ward_equivalent.specs.Inner.Work.{product_to}
 use Rattle.ward_equivalent.proofs.Places.{listed_below, entry-index, row-index, product-more}
 use Rattle.ward_equivalent.proofs.rows.row_times.Statement.{statement}
 use Rattle.ward_equivalent.proofs.rows.row_times.Tie as tie
 
 abbrev invariant-loop : tie.invariant-loop
-invariant-loop y n bus outer work w c sum₀ k₀ sum k = (k ≤ length outer) × (sum ≡ productTo n y outer w work bus c k)
+invariant-loop y n bus outer work w c sum₀ k₀ sum k = (k ≤ length outer) × (sum ≡ product_to n y outer w work bus c k)
 
 abbrev decreases-loop : tie.decreases-loop
 decreases-loop y n bus outer work w c sum₀ k₀ sum k = length outer - k
 
 loop-holds : tie.Need-loop-init invariant-loop decreases-loop
-unfolding productTo sumUp plus0
+unfolding product_to sum_up plus0
 loop-holds c = (omega arith, refl)
 
 at-requires : tie.Need-at-requires invariant-loop decreases-loop
@@ -36,7 +36,7 @@ loop-again c =
       omega arith,
       s.ensures
           ∙ ap (λ (u : Complex). cadd u m.result) l.invariant.1
-          ∙ ap (cadd (productTo a.n a.y.now a.outer.now a.w a.work.now a.bus a.c l.k)) (m.ensures ∙ ap (λ (u : Complex). cmul u x.result) g.ensures ∙ ap (cmul (entry_at a.n a.y.now a.bus (get_or a.outer.now l.k 0))) x.ensures)
+          ∙ ap (cadd (product_to a.n a.y.now a.outer.now a.w a.work.now a.bus a.c l.k)) (m.ensures ∙ ap (λ (u : Complex). cmul u x.result) g.ensures ∙ ap (cmul (entry_at a.n a.y.now a.bus (get_or a.outer.now l.k 0))) x.ensures)
           ∙ sym (product-more a.n a.y.now a.outer.now a.w a.work.now a.bus a.c l.k),
     )
 
@@ -44,7 +44,7 @@ returns : tie.Need-returns invariant-loop decreases-loop
 returns c =
     let l = c.before.loop in let a = c.before.before.before.before.before.args in
     let end : l.k ≡ length a.outer.now = omega arith in
-    l.invariant.1 ∙ ap (productTo a.n a.y.now a.outer.now a.w a.work.now a.bus a.c) end
+    l.invariant.1 ∙ ap (product_to a.n a.y.now a.outer.now a.w a.work.now a.bus a.c) end
 
 pub row-times-spec : {M : Type 1} → statement M
 row-times-spec = tie.close (tie.spec invariant-loop decreases-loop loop-holds (λ c. search needs) (λ c. search needs) at-requires at-requires-2

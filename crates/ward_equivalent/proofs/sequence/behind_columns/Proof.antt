@@ -2,9 +2,9 @@
 use Rattle.prelude.proofs.Prelude.{◌≡◌, refl, ap, ◌∙◌, subst, false, List, ℕ, ◌+◌, ◌-◌, ◌*◌, arith, needs, eqb, length, take, drop, Float, not-true, ne_eqb, length-drop}
 use Rattle.complex.specs.{entry_at}
 use Rattle.lists.proofs.Scans.{rest-is}
-use Rattle.solver.specs.Inner.Work.{isDone, Ended}
+use Rattle.solver.specs.Inner.Work.{is_done, Ended}
 use Rattle.solver.proofs.Told.{not_done}
-use Rattle.ward_equivalent.specs.Inner.Sequence.{stepsOfInjections}
+use Rattle.ward_equivalent.specs.Inner.Sequence.{steps_of_injections}
 use Rattle.ward_equivalent.proofs.Solved.{listing-take, listing-drop}
 use Rattle.ward_equivalent.proofs.Tests.{told-true}
 use Rattle.ward_equivalent.proofs.Kept.{front-part, part-rest, entered, not_entered, behind-lost, behind-then, front-behind, front-apart}
@@ -28,7 +28,7 @@ entries-finite-requires c κs =
     (s.requires.0, s.requires.1, record { full = ap length (part s) ∙ length-drop (front s) s.args.work.now ∙ omega (arith, s.requires.8) }, omega arith)
 
 returns : tie.Need-returns
-unfolding isDone
+unfolding is_done
 returns c =
     let s = c.before.before.before.before.before.before.before.before.before.before in let a = s.args in let t = c.before.entries-finite in (
       behind-lost a.n a.y.now a.outer.now a.kept.now a.i a.base a.p.now a.q.now (some s) a.left
@@ -55,7 +55,7 @@ returns-2 c =
     let fine = entered a.n a.y.now a.outer.now a.kept.now a.i a.base a.p.now a.q.now (some s) a.work.now _ (part s) s.requires.10 (t.ensures.holds (told-true t.result c.before.before.before.before.before.if1.false)) in
     let long : length x.new.1.1.1.1.1.1.1.0 ≡ front s = x.auto.1.1.1.1.1.1.1.0 ∙ front-part (front s) a.work.now (omega (arith, s.requires.8)) in (
       behind-then a.n a.y.now a.outer.now a.kept.now a.i a.base a.p.now a.q.now (some s) a.left x.result (omega (arith, s.requires.2, s.requires.3)) (omega (arith, s.requires.3)) s.requires.4 fine
-          (subst (λ (l : List ℕ). Ended a.left x.result (stepsOfInjections a.n a.y.now a.outer.now l a.base a.p.now a.q.now)) (rest-is a.kept.now a.i) x.ensures.0),
+          (subst (λ (l : List ℕ). Ended a.left x.result (steps_of_injections a.n a.y.now a.outer.now l a.base a.p.now a.q.now)) (rest-is a.kept.now a.i) x.ensures.0),
       λ (rest : ℕ) d. (
         λ (k col : ℕ) h l. ap (λ (u : List Float). entry_at (length a.kept.now) u k col) (front-behind (front s) a.work.now x.new.1.1.1.1.1.1.1.0 long) ∙ s.requires.10 k col h l,
         front-apart a.n a.y.now a.outer.now a.base a.p.now a.q.now x.new.1.1.1.1.1.1.1.0 _ long (x.ensures.1 rest d),

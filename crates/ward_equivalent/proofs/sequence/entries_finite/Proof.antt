@@ -1,6 +1,6 @@
 -- `ward_equivalent::sequence::entries_finite` meets its contract. The invariant: the rows before row p are finite.
 use Rattle.prelude.proofs.Prelude.{ℕ, ◌-◌, ◌≤◌, ◌<◌, arith, needs, length, get_or, not-true}
-use Rattle.ward_equivalent.specs.Inner.Work.{lessProduct}
+use Rattle.ward_equivalent.specs.Inner.Work.{less_product}
 use Rattle.ward_equivalent.specs.Inner.Sequence.{FinitePair}
 use Rattle.ward_equivalent.proofs.Places.{listed_below}
 use Rattle.ward_equivalent.proofs.Tests.{tells-lost, tells-held, every_more, told-true}
@@ -8,7 +8,7 @@ use Rattle.ward_equivalent.proofs.sequence.entries_finite.Statement.{statement}
 use Rattle.ward_equivalent.proofs.sequence.entries_finite.Tie as tie
 
 abbrev invariant-loop : tie.invariant-loop
-invariant-loop y n outer kept work w p₀ p = (p ≤ length kept) × ((i : ℕ) → i < p → (q : ℕ) → q < length kept → FinitePair (lessProduct n y outer kept w work 0 (get_or kept i 0) q))
+invariant-loop y n outer kept work w p₀ p = (p ≤ length kept) × ((i : ℕ) → i < p → (q : ℕ) → q < length kept → FinitePair (less_product n y outer kept w work 0 (get_or kept i 0) q))
 
 abbrev decreases-loop : tie.decreases-loop
 decreases-loop y n outer kept work w p₀ p = length kept - p
@@ -28,7 +28,7 @@ loop-again : tie.Need-loop-preserved invariant-loop decreases-loop
 loop-again c =
     let a = c.before.before.before.before.before.before.before.before.before.args in let l = c.before.before.before.before.loop in (
       omega arith,
-      every_more (λ (i : ℕ). (q : ℕ) → q < length a.kept.now → FinitePair (lessProduct a.n a.y.now a.outer.now a.kept.now a.w a.work.now 0 (get_or a.kept.now i 0) q)) l.p l.invariant.1
+      every_more (λ (i : ℕ). (q : ℕ) → q < length a.kept.now → FinitePair (less_product a.n a.y.now a.outer.now a.kept.now a.w a.work.now 0 (get_or a.kept.now i 0) q)) l.p l.invariant.1
           (c.before.row-finite.ensures.holds (told-true c.before.row-finite.result c.if1.false)),
     )
 

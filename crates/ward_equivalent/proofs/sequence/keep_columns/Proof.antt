@@ -1,10 +1,10 @@
 -- `ward_equivalent::sequence::keep_columns` meets its contract. The invariant: the columns before place q are solved and kept.
 use Rattle.prelude.proofs.Prelude.{◌≡◌, refl, sym, ◌∙◌, subst, false, ℕ, ◌-◌, ◌≤◌, arith, needs, length}
 use Rattle.solver.specs.declared.elimination.Eliminated.{Eliminated}
-use Rattle.solver.specs.Inner.Work.{isDone, Ended}
+use Rattle.solver.specs.Inner.Work.{is_done, Ended}
 use Rattle.solver.proofs.Told.{not_done}
-use Rattle.ward_equivalent.specs.Steps.{ofEach, stepsOfColumn}
-use Rattle.ward_equivalent.specs.Inner.Sequence.{columnsInput, ColumnsApart}
+use Rattle.ward_equivalent.specs.Steps.{of_each, steps_of_column}
+use Rattle.ward_equivalent.specs.Inner.Sequence.{columns_input, ColumnsApart}
 use Rattle.ward_equivalent.proofs.Places.{listed_below}
 use Rattle.ward_equivalent.proofs.Kept.{KeptTo, kept-none, kept_more, kept-ended, kept-all}
 use Rattle.ward_equivalent.proofs.sequence.keep_columns.Statement.{statement}
@@ -29,22 +29,22 @@ module _ (c : tie.After-keep-column invariant-loop decreases-loop) where
   abbrev given : tie.Start invariant-loop decreases-loop
   given = c.before.before.before.before.before.before.before.before.before.before.before
 
-  ends : (d : Eliminated) → c.keep-column.result ≡ d → isDone d ≡ false → Ended given.args.allowed d (ofEach (stepsOfColumn (columnsInput given.args.n given.args.y.now given.args.outer.now)) given.args.kept.now)
+  ends : (d : Eliminated) → c.keep-column.result ≡ d → is_done d ≡ false → Ended given.args.allowed d (of_each (steps_of_column (columns_input given.args.n given.args.y.now given.args.outer.now)) given.args.kept.now)
   ends d e none =
       let a = given.args in let l = c.before.before.before.before.before.loop in let x = c.keep-column in
-      subst (λ (t : Eliminated). Ended a.allowed t (ofEach (stepsOfColumn (columnsInput a.n a.y.now a.outer.now)) a.kept.now)) e
-      (kept-ended a.n a.y.now a.outer.now a.kept.now a.allowed l.left l.q l.work _ c.before.before.before.before.loop-test.true l.invariant.3 x.result x.ensures.0 x.ensures.1 (subst (λ (t : Eliminated). isDone t ≡ false) (sym e) none))
+      subst (λ (t : Eliminated). Ended a.allowed t (of_each (steps_of_column (columns_input a.n a.y.now a.outer.now)) a.kept.now)) e
+      (kept-ended a.n a.y.now a.outer.now a.kept.now a.allowed l.left l.q l.work _ c.before.before.before.before.loop-test.true l.invariant.3 x.result x.ensures.0 x.ensures.1 (subst (λ (t : Eliminated). is_done t ≡ false) (sym e) none))
 
 returns : tie.Need-returns invariant-loop decreases-loop
-unfolding isDone
+unfolding is_done
 returns c = (ends c.before.before.before.before.before.before _ c.enum_told.given.1 refl, λ (rest : ℕ) d. absurd (not_done refl d))
 
 returns-2 : tie.Need-returns-2 invariant-loop decreases-loop
-unfolding isDone
+unfolding is_done
 returns-2 c = (ends c.before.before.before.before.before.before _ c.enum-told2.given.1 refl, λ (rest : ℕ) d. absurd (not_done refl d))
 
 returns-3 : tie.Need-returns-3 invariant-loop decreases-loop
-unfolding isDone
+unfolding is_done
 returns-3 c = (ends c.before.before.before.before.before.before _ c.enum-told3.given.1 refl, λ (rest : ℕ) d. absurd (not_done refl d))
 
 loop-again : tie.Need-loop-preserved invariant-loop decreases-loop

@@ -1,15 +1,15 @@
 -- `ward_equivalent::sequence::row_finite` meets its contract. The invariant: the entries before place q are finite.
 use Rattle.prelude.proofs.Prelude.{◌≡◌, ap, ◌∙◌, ℕ, ◌-◌, ◌≤◌, ◌<◌, arith, needs, length, get_or}
 use Rattle.complex.specs.{Complex, csub}
-use Rattle.ward_equivalent.specs.Inner.Work.{lessProduct}
+use Rattle.ward_equivalent.specs.Inner.Work.{less_product}
 use Rattle.ward_equivalent.specs.Inner.Sequence.{FinitePair}
-use Rattle.ward_equivalent.proofs.Places.{listed_below, entry-index, less_product}
+use Rattle.ward_equivalent.proofs.Places.{listed_below, entry-index, less_product-is}
 use Rattle.ward_equivalent.proofs.Tests.{tells-lost, tells-held, every_more, test-lost, test-held}
 use Rattle.ward_equivalent.proofs.sequence.row_finite.Statement.{statement}
 use Rattle.ward_equivalent.proofs.sequence.row_finite.Tie as tie
 
 abbrev invariant-loop : tie.invariant-loop
-invariant-loop y n bus outer kept work w q₀ q = (q ≤ length kept) × ((j : ℕ) → j < q → FinitePair (lessProduct n y outer kept w work 0 bus j))
+invariant-loop y n bus outer kept work w q₀ q = (q ≤ length kept) × ((j : ℕ) → j < q → FinitePair (less_product n y outer kept w work 0 bus j))
 
 abbrev decreases-loop : tie.decreases-loop
 decreases-loop y n bus outer kept work w q₀ q = length kept - q
@@ -27,8 +27,8 @@ at-requires c κs =
 
 -- the entry at place q
 module _ (c : tie.After-csub invariant-loop decreases-loop) where
-  value : c.csub.result ≡ lessProduct c.before.before.before.before.before.before.before.before.before.before.args.n c.before.before.before.before.before.before.before.before.before.before.args.y.now c.before.before.before.before.before.before.before.before.before.before.args.outer.now c.before.before.before.before.before.before.before.before.before.before.args.kept.now c.before.before.before.before.before.before.before.before.before.before.args.w c.before.before.before.before.before.before.before.before.before.before.args.work.now 0 c.before.before.before.before.before.before.before.before.before.before.args.bus c.before.before.before.before.before.loop.q
-  value = let a = c.before.before.before.before.before.before.before.before.before.before.args in c.csub.ensures ∙ less_product a.n a.y.now a.outer.now a.kept.now a.w a.work.now a.bus c.before.before.before.before.before.loop.q _ _ c.before.at.ensures c.before.before.before.row-times.ensures
+  value : c.csub.result ≡ less_product c.before.before.before.before.before.before.before.before.before.before.args.n c.before.before.before.before.before.before.before.before.before.before.args.y.now c.before.before.before.before.before.before.before.before.before.before.args.outer.now c.before.before.before.before.before.before.before.before.before.before.args.kept.now c.before.before.before.before.before.before.before.before.before.before.args.w c.before.before.before.before.before.before.before.before.before.before.args.work.now 0 c.before.before.before.before.before.before.before.before.before.before.args.bus c.before.before.before.before.before.loop.q
+  value = let a = c.before.before.before.before.before.before.before.before.before.before.args in c.csub.ensures ∙ less_product-is a.n a.y.now a.outer.now a.kept.now a.w a.work.now a.bus c.before.before.before.before.before.loop.q _ _ c.before.at.ensures c.before.before.before.row-times.ensures
 
 returns : tie.Need-returns invariant-loop decreases-loop
 returns c =
@@ -42,7 +42,7 @@ loop-again : tie.Need-loop-preserved invariant-loop decreases-loop
 loop-again c =
     let a = c.before.before.before.before.before.before.before.before.before.before.before.before.before.before.args in let l = c.before.before.before.before.before.before.before.before.before.loop in (
       omega arith,
-      every_more (λ (j : ℕ). FinitePair (lessProduct a.n a.y.now a.outer.now a.kept.now a.w a.work.now 0 a.bus j)) l.q l.invariant.1 (
+      every_more (λ (j : ℕ). FinitePair (less_product a.n a.y.now a.outer.now a.kept.now a.w a.work.now 0 a.bus j)) l.q l.invariant.1 (
         test-held c.before.before.before.finite.result _ _ c.before.before.before.finite.ensures (ap (λ (z : Complex). z.re) (value c.before.before.before.before)) c.before.before.if1.false,
         test-held c.before.finite2.result _ _ c.before.finite2.ensures (ap (λ (z : Complex). z.im) (value c.before.before.before.before)) c.if2.false,
       ),

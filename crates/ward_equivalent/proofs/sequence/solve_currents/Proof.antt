@@ -1,6 +1,6 @@
 -- `ward_equivalent::sequence::solve_currents` meets its contract.
 use Rattle.prelude.proofs.Prelude.{refl, sym, ◌∙◌, ℕ, arith, needs, not-true, subst, T}
-use Rattle.solver.specs.Inner.Work.{isDone}
+use Rattle.solver.specs.Inner.Work.{is_done}
 use Rattle.solver.proofs.Told.{not_done}
 use Rattle.ward_equivalent.proofs.Parts.{ended-lost}
 use Rattle.ward_equivalent.proofs.Tests.{told-true}
@@ -9,7 +9,7 @@ use Rattle.ward_equivalent.proofs.sequence.solve_currents.Statement.{statement}
 use Rattle.ward_equivalent.proofs.sequence.solve_currents.Tie as tie
 
 returns : tie.Need-returns
-unfolding isDone
+unfolding is_done
 returns c =
     let s = c.before.before.before.before.before.before.before.before.before.before.before.before in let a = s.args in let f = c.before.before.before.before.before.fill in
     let long = f.auto.1.1.1.1.1.1.1.0 ∙ s.requires.4 in (

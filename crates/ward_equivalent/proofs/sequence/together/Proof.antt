@@ -1,9 +1,9 @@
 -- `ward_equivalent::sequence::together` meets its contract.
 use Rattle.prelude.proofs.Prelude.{◌≡◌, sym, ap, ◌∙◌, subst, Bool, ◌&&◌, List, ℕ, ◌+◌, arith, needs, T, length, Float, ap₂, and_i, not-true, not-false}
-use Rattle.binary64.specs.Values.{allFinite}
-use Rattle.complex.specs.Inner.Ordinary.{ordinary, allOrdinary}
+use Rattle.binary64.specs.Values.{all_finite}
+use Rattle.complex.specs.Inner.Ordinary.{ordinary, all_ordinary}
 use Rattle.solver.specs.Inner.Work.{Met}
-use Rattle.ward_equivalent.specs.Inner.Sequence.{filledRows}
+use Rattle.ward_equivalent.specs.Inner.Sequence.{filled_rows}
 use Rattle.ward_equivalent.proofs.Tests.{told-true}
 use Rattle.ward_equivalent.proofs.Trying.{filled_is, tried-none, tried-filled, tried-large, tried-done}
 use Rattle.ward_equivalent.proofs.sequence.together.Statement.{statement}
@@ -22,9 +22,9 @@ module _ (c : tie.After-fill) where
   abbrev start : tie.Start
   start = c.before.before.before.before.before.before.before.before.before.before.before
 
-  fine : T (ordinary start.args.base && allOrdinary start.args.y.now)
+  fine : T (ordinary start.args.base && all_ordinary start.args.y.now)
   fine =
-      and_i (ordinary start.args.base) (allOrdinary start.args.y.now)
+      and_i (ordinary start.args.base) (all_ordinary start.args.y.now)
       (subst T c.before.before.before.before.before.ordinary.ensures (told-true c.before.before.before.before.before.ordinary.result c.before.before.before.before.if1.false))
       (subst T c.before.before.before.all-ordinary.ensures (told-true c.before.before.before.all-ordinary.result c.before.before.if2.false))
 
@@ -32,7 +32,7 @@ module _ (c : tie.After-fill) where
   rows = c.fill.new.1.1.1.1.1.1.1.0
 
   abbrev xs : List Float
-  xs = filledRows start.args.n start.args.y.now start.args.buses.now start.args.e start.args.base start.args.p.now start.args.q.now
+  xs = filled_rows start.args.n start.args.y.now start.args.buses.now start.args.e start.args.base start.args.p.now start.args.q.now
 
   same : rows ≡ xs
   same =
@@ -42,7 +42,7 @@ module _ (c : tie.After-fill) where
 returns : tie.Need-returns
 returns c =
     let a = c.before.before.before.before.before.before.before.args in
-    tried-none a.n a.y.now a.buses.now a.e a.base a.p.now a.q.now a.allowed a.work.now (ap (λ (b : Bool). b && allOrdinary a.y.now) (sym c.before.ordinary.ensures ∙ not-true c.before.ordinary.result c.if1.true))
+    tried-none a.n a.y.now a.buses.now a.e a.base a.p.now a.q.now a.allowed a.work.now (ap (λ (b : Bool). b && all_ordinary a.y.now) (sym c.before.ordinary.ensures ∙ not-true c.before.ordinary.result c.if1.true))
 
 returns-2 : tie.Need-returns-2
 returns-2 c =
@@ -52,15 +52,15 @@ returns-2 c =
 returns-3 : tie.Need-returns-3
 returns-3 c =
     let f = c.before.before.before.before.before in let a = (start f).args in
-    tried-filled a.n a.y.now a.buses.now a.e a.base a.p.now a.q.now a.allowed a.work.now (fine f) (rows f) (same f) (ap allFinite (sym (same f)) ∙ sym c.before.all-finite.ensures ∙ not-true c.before.all-finite.result c.if3.true)
+    tried-filled a.n a.y.now a.buses.now a.e a.base a.p.now a.q.now a.allowed a.work.now (fine f) (rows f) (same f) (ap all_finite (sym (same f)) ∙ sym c.before.all-finite.ensures ∙ not-true c.before.all-finite.result c.if3.true)
 
 -- the elimination
 module _ (c : tie.After-eliminate) where
   abbrev filled : tie.After-fill
   filled = c.before.before.before.before.before.before.before
 
-  numbers : T (allFinite (xs filled))
-  numbers = subst (λ (l : List Float). T (allFinite l)) (same filled) (subst T c.before.before.before.all-finite.ensures (told-true c.before.before.before.all-finite.result c.before.before.if3.false))
+  numbers : T (all_finite (xs filled))
+  numbers = subst (λ (l : List Float). T (all_finite l)) (same filled) (subst T c.before.before.before.all-finite.ensures (told-true c.before.before.before.all-finite.result c.before.before.if3.false))
 
   abbrev after : List Float
   after = c.eliminate.new.0

@@ -1,6 +1,6 @@
 -- `ward_equivalent::sequence::with_injections` meets its contract.
 use Rattle.prelude.proofs.Prelude.{refl, sym, ◌∙◌, ℕ, arith, needs, length, not-true, not-false, ne_eqb}
-use Rattle.solver.specs.Inner.Work.{isDone}
+use Rattle.solver.specs.Inner.Work.{is_done}
 use Rattle.solver.proofs.Told.{not_done, done-left}
 use Rattle.ward_equivalent.proofs.Tests.{told-true}
 use Rattle.ward_equivalent.proofs.Kept.{injections-first, injections-done, injections-lost}
@@ -25,7 +25,7 @@ injections-finite-requires c κs =
     (s.requires.0, s.requires.1, record { full = c.before.before.before.before.before.solve-currents.auto.1.1.1.1.1.1.0 ∙ s.requires.6 }, omega arith)
 
 returns-2 : tie.Need-returns-2
-unfolding isDone
+unfolding is_done
 returns-2 c =
     let s = c.before.before.before.before.before.before.before.before.before.before.before.before.before.before.before in let a = s.args in let x = c.before.before.before.before.before.before.before.solve-currents in let t = c.before.injections-finite in
     let (left, d) = done-left x.result (sym c.before.before.before.before.is-done.ensures ∙ not-false _ c.before.before.before.if1.false) in

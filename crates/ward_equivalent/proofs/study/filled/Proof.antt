@@ -2,9 +2,9 @@
 use Rattle.prelude.proofs.Prelude.{◌≡◌, sym, ap, ◌∙◌, List, ℕ, ◌-◌, ◌*◌, arith, needs, length, get_or, take, drop, Float, map, length-drop, sub-zero, length-take-le}
 use Rattle.complex.specs.{grid}
 use Rattle.ward_equivalent.specs.declared.answers.WardAnswer.TheVariants.{Done}
-use Rattle.ward_equivalent.specs.Arithmetic.{injectedP, injectedQ}
-use Rattle.ward_equivalent.specs.Inner.Work.{product, lessProduct}
-use Rattle.ward_equivalent.specs.Inner.Listed.{outputsFrom}
+use Rattle.ward_equivalent.specs.Arithmetic.{injected_p, injected_q}
+use Rattle.ward_equivalent.specs.Inner.Work.{product, less_product}
+use Rattle.ward_equivalent.specs.Inner.Listed.{outputs_from}
 use Rattle.lists.proofs.Scans.{rest-is}
 use Rattle.ward_equivalent.proofs.Solved.{listing-take, listing-drop}
 use Rattle.ward_equivalent.proofs.Studied.{same_after, matrix-of}
@@ -51,7 +51,7 @@ ratio-requires : tie.Need-ratio-requires
 ratio-requires c κs = let P = c.before.before.before.before.before.before.before.before.before.before.before.before.before.before.before.before.before.before.before.before.before.before.before.before.before.before.before.before.before.requires.0 in (omega (arith, P.distinct), omega (arith, P.few))
 
 returns : tie.Need-returns
-unfolding outputsFrom
+unfolding outputs_from
 returns c =
     let s = c.before.before.before.before.before.before.before.before.before.before.before.before.before.before.before.before.before.before.before.before.before.before.before.before.before.before.before.before.before.before in let a = s.args in let P = s.requires.0 in let bs = a.buses.now in let ws = a.work.now in
     let x = c.before.before.before.before.before.before.before.before.before.before.before.before.before.before.before.before.before.before.reduced in let j = c.before.before.before.before.before.before.before.before.before.injections in let h = a.held in
@@ -63,15 +63,15 @@ returns c =
     same_after
     (ap (λ (x : Float). Done (record { n_buses_reduced = a.n; n_buses_equivalent = length bs - a.e; reduction_ratio = x; rows_reduced = a.reduced })) c.ratio.ensures)
     (matrix-of a.n a.y.now bs a.e h.v _ h.first (take (a.e - 0) bs) (take (length bs - a.e) (drop a.e bs)) E (rest-is bs a.e) x.new.1.1.1.1.1.1.1.0 (x.auto.1.1.1.1.1.1.1.0 ∙ P.y-ward) x.ensures
-    ∙ ap (λ (l : List Float). grid (length bs - a.e) (length bs - a.e) (λ (p : ℕ). lessProduct a.n a.y.now (take a.e bs) (drop a.e bs) h.v l h.first (get_or (drop a.e bs) p 0))) (columns s))
+    ∙ ap (λ (l : List Float). grid (length bs - a.e) (length bs - a.e) (λ (p : ℕ). less_product a.n a.y.now (take a.e bs) (drop a.e bs) h.v l h.first (get_or (drop a.e bs) p 0))) (columns s))
     (j.ensures.0
-    ∙ ap (λ (es : List ℕ). map (λ (i : ℕ). injectedP a.base (product a.n a.y.now es h.w (take (h.end - 0) ws) i h.c)) fs) E
-    ∙ ap (λ (l : List Float). map (λ (i : ℕ). injectedP a.base (product a.n a.y.now (take a.e bs) h.w l i h.c)) fs) (front s)
-    ∙ ap (map (λ (i : ℕ). injectedP a.base (product a.n a.y.now (take a.e bs) h.w us i h.c))) F)
+    ∙ ap (λ (es : List ℕ). map (λ (i : ℕ). injected_p a.base (product a.n a.y.now es h.w (take (h.end - 0) ws) i h.c)) fs) E
+    ∙ ap (λ (l : List Float). map (λ (i : ℕ). injected_p a.base (product a.n a.y.now (take a.e bs) h.w l i h.c)) fs) (front s)
+    ∙ ap (map (λ (i : ℕ). injected_p a.base (product a.n a.y.now (take a.e bs) h.w us i h.c))) F)
     (j.ensures.1
-    ∙ ap (λ (es : List ℕ). map (λ (i : ℕ). injectedQ a.base (product a.n a.y.now es h.w (take (h.end - 0) ws) i h.c)) fs) E
-    ∙ ap (λ (l : List Float). map (λ (i : ℕ). injectedQ a.base (product a.n a.y.now (take a.e bs) h.w l i h.c)) fs) (front s)
-    ∙ ap (map (λ (i : ℕ). injectedQ a.base (product a.n a.y.now (take a.e bs) h.w us i h.c))) F)
+    ∙ ap (λ (es : List ℕ). map (λ (i : ℕ). injected_q a.base (product a.n a.y.now es h.w (take (h.end - 0) ws) i h.c)) fs) E
+    ∙ ap (λ (l : List Float). map (λ (i : ℕ). injected_q a.base (product a.n a.y.now (take a.e bs) h.w l i h.c)) fs) (front s)
+    ∙ ap (map (λ (i : ℕ). injected_q a.base (product a.n a.y.now (take a.e bs) h.w us i h.c))) F)
     c.before.before.before.clear.ensures
 
 pub filled-spec : {M : Type 1} → statement M

@@ -2,7 +2,7 @@
 use Rattle.prelude.proofs.Prelude.{sym, ap, ◌∙◌, subst, ℕ, arith, needs}
 use Rattle.refusals.specs.declared.Allowance.TheVariants.{Rows}
 use Rattle.ward_equivalent.specs.Studied.{studied}
-use Rattle.ward_equivalent.specs.Calls.{outputsOf}
+use Rattle.ward_equivalent.specs.Calls.{outputs_of}
 use Rattle.ward_equivalent.specs.Inner.Listed.{cut, CheckedStudy}
 use Rattle.ward_equivalent.proofs.study.study.Statement.{statement}
 use Rattle.ward_equivalent.proofs.study.study.Tie as tie
@@ -10,12 +10,12 @@ use Rattle.ward_equivalent.proofs.study.study.Tie as tie
 unreduced-requires : tie.Need-unreduced-requires
 unreduced-requires c κs =
     let s = c.before.before.before.before.before.before.before.before.before.before.before.before.before in let a = s.args in
-    subst (λ (z : ℕ). CheckedStudy a.n a.y.now a.buses.now z a.f a.p.now a.q.now (outputsOf a.to.now a.active.now a.reactive.now a.work.now)) c.before.before.before.before.if1.true s.requires
+    subst (λ (z : ℕ). CheckedStudy a.n a.y.now a.buses.now z a.f a.p.now a.q.now (outputs_of a.to.now a.active.now a.reactive.now a.work.now)) c.before.before.before.before.if1.true s.requires
 
 returns : tie.Need-returns
 returns c =
     let a = c.before.before.before.before.before.before.before.before.before.before.before.before.before.before.before.before.before.before.before.before.before.before.args in
-    let o = outputsOf a.to.now a.active.now a.reactive.now a.work.now in
+    let o = outputs_of a.to.now a.active.now a.reactive.now a.work.now in
     c.before.before.before.before.before.before.before.before.unreduced.ensures
     ∙ ap (λ (z : ℕ). studied (cut a.n a.y.now a.buses.now z a.f a.base a.p.now a.q.now) (Rows a.allowed) o 0) (sym c.before.before.before.before.before.before.before.before.before.before.before.before.before.if1.true)
 

@@ -1,7 +1,7 @@
 -- `ward_equivalent::study::unreduced` meets its contract.
 use Rattle.prelude.proofs.Prelude.{ap, ◌∙◌, ℕ, ◌*◌, arith, needs, length, sub-zero}
 use Rattle.complex.specs.{plus0}
-use Rattle.ward_equivalent.specs.Calls.{outputsOf}
+use Rattle.ward_equivalent.specs.Calls.{outputs_of}
 use Rattle.ward_equivalent.proofs.Studied.{studied-none}
 use Rattle.ward_equivalent.proofs.study.unreduced.Statement.{statement}
 use Rattle.ward_equivalent.proofs.study.unreduced.Tie as tie
@@ -16,7 +16,7 @@ unfolding plus0
 returns c =
     let s = c.before.before.before.before.before.before.before.before.before.before.before.before.before.before.before.before.before.before.before.before in
     let a = s.args in
-    let o = outputsOf a.to.now a.active.now a.reactive.now a.work.now in
+    let o = outputs_of a.to.now a.active.now a.reactive.now a.work.now in
     studied-none a.n a.y.now a.buses.now a.f a.base a.p.now a.q.now a.allowed o c.before.before.before.before.before.before.before.before.before.before.submatrix.new.1.1.1.0 c.before.before.before.before.before.before.clear.new.0 c.before.before.clear2.new.0
     c.before.before.before.before.before.before.before.before.before.before.submatrix.ensures c.before.before.before.before.before.before.clear.ensures c.before.before.clear2.ensures s.requires.slices.p-ward s.requires.slices.q-ward (omega (arith, s.requires.slices.work))
 
