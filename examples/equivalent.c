@@ -24,15 +24,13 @@ static const char *meaning(uint32_t refusal) {
     case JETURIPE_LISTS_DIFFER: return "lists that belong together differ in length";
     case JETURIPE_NO_BUS: return "an REI equivalent of no bus";
     case JETURIPE_EMPTY_SYSTEM: return "a system of size 0, or a right side of another length";
-    case JETURIPE_NO_SUCH_END: return "a branch ends at a bus that is not there";
+    case JETURIPE_NO_SUCH_END: return "a branch ends at a bus that is not there (here buses are rows, from 0)";
     case JETURIPE_NO_SUCH_BUS: return "a Ward list names a bus that is none of the study's numbers";
     case JETURIPE_BUS_TWICE: return "two rows have one number, or a bus stands twice in the Ward lists";
     case JETURIPE_BAD_RECORD: return "the record is none that a making or a removal leaves";
     case JETURIPE_NOT_ACTIVE: return "the reducer has no such bus, or it was removed";
     case JETURIPE_SMALL_ENTRY: return "the bus's own admittance is too small to divide by";
     case JETURIPE_SINGULAR: return "a pivot is numerically nothing, below 1e-150 in size";
-    case JETURIPE_SMALL_IMPEDANCE: return "a branch in service has no series impedance to speak of";
-    case JETURIPE_PHASE_SHIFT: return "a branch in service has a phase shift";
     case JETURIPE_BEYOND_ALLOWANCE: return "the work takes more row reductions than are allowed";
     case JETURIPE_GIVEN_NOT_FINITE: return "a number handed in is infinite or NaN";
     case JETURIPE_COMPUTED_NOT_FINITE: return "a number computed is infinite or NaN";

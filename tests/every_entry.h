@@ -17,15 +17,13 @@ typedef struct {
     Slice written[WRITTEN]; /* w, in the call's order: slices, then single answers */
 } Entry;
 
-/* A full matrix, a ring of branches, and powers, voltages and reactances of all buses; numbers that are no rows. One branch in eight is out of
- * service, and one has a charging of 2^202 per unit, so that the sums must be looked at one by one. */
+/* A full matrix, a ring of branches, and powers, voltages and reactances of all buses; numbers that are no rows. */
 static struct {
     double y[2 * N * N], ptdf[N * N];
     double p[N], q[N], v[N], x[N]; /* MW, MVAr, per unit, per unit */
-    double charging[N], tap[N], shift[N];
     size_t row[N], next[N];
-    uint32_t number[N], next_number[N];
-    uint8_t rec[JETURIPE_RECORD], bytes[8 * N], status[N];
+    uint32_t number[N];
+    uint8_t rec[JETURIPE_RECORD], bytes[8 * N];
 } given;
 
 static void prepare(void) {
@@ -42,10 +40,6 @@ static void prepare(void) {
         given.row[i] = i;
         given.number[i] = 4000000000u - 7 * (uint32_t)i;
         given.next[i] = (i + 1) % N;
-        given.next_number[i] = 4000000000u - 7 * (uint32_t)given.next[i];
-        given.charging[i] = i == 9 ? 0x1p202 : 0.25;
-        given.tap[i] = i % 3 ? 0 : 1.0625;
-        given.status[i] = i % 8;
         given.bytes[8 * i] = (uint8_t)i;
     }
     jeturipe_kron_new(N, given.y, 2 * N * N, given.number, N, given.rec, JETURIPE_RECORD);
@@ -137,12 +131,6 @@ static uint32_t call_lodf_matrix(const Slice *w) {
     return jeturipe_lodf_matrix(N, SLICE(given.ptdf), SLICE(given.row), SLICE(given.next), W(0));
 }
 
-static uint32_t call_build_y_bus(const Slice *w) {
-    return jeturipe_build_y_bus(N, SLICE(given.number), SLICE(given.number), SLICE(given.next_number), SLICE(given.status), SLICE(given.x),
-                                SLICE(given.x), SLICE(given.charging), SLICE(given.tap), SLICE(given.shift), SLICE(given.p), SLICE(given.q), 100,
-                                W(0));
-}
-
 #define WORDS(count) {(count), 8, NULL}
 #define HALVES(count) {(count), 4, NULL}
 #define BYTES(count) {(count), 1, NULL}
@@ -180,7 +168,6 @@ static const Entry ENTRIES[] = {
     ENTRY(retained_buses, WORDS(N), ONE),
     ENTRY(build_b_bus, WORDS(N * N)),
     ENTRY(lodf_matrix, WORDS(N * N)),
-    ENTRY(build_y_bus, WORDS(2 * N * N)),
 };
 
 /* Memory as malloc gives it for all that a call writes; the first slice an element short where the call is to be refused. */

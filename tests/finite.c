@@ -1,7 +1,6 @@
 /* Numbers that are not finite: refused with 19 where one is given, with 20 where one is computed, also on the way. All is as it was
  * then, but for the work slice, which 20 clears, and the removals of a list before the one that 20 stops. */
 #include "room.h"
-#include "network.h"
 
 #include <float.h>
 #include <math.h>
@@ -305,111 +304,6 @@ static void branches(void) {
     expect(jeturipe_build_b_bus(2, from, 1, to, 1, SLICE(x), SLICE(now.b)) == 0 && now.b[0] == 1 / DBL_MAX, "the largest reactance");
 }
 
-/* ---- the bus matrix from branch data */
-
-static void network_given(void) {
-    static const double blown[3] = {NAN, INFINITY, -INFINITY};
-    static const size_t lists[7] = {offsetof(Network, r), offsetof(Network, x), offsetof(Network, b), offsetof(Network, tap),
-                                    offsetof(Network, shift), offsetof(Network, gs), offsetof(Network, bs)};
-    for (int i = 0; i < 3; i++) {
-        for (int list = 0; list < 7; list++)
-            for (size_t place = 0; place < 2; place++) {
-                Network d = sound();
-                memcpy((uint8_t *)&d + lists[list] + place * sizeof blown[i], &blown[i], sizeof blown[i]);
-                not_built(&d, JETURIPE_GIVEN_NOT_FINITE, "a network with a number that is not finite");
-                d.status[0] = d.status[1] = 0;
-                not_built(&d, JETURIPE_GIVEN_NOT_FINITE, "the same out of service");
-            }
-        Network d = sound();
-        d.base = blown[i];
-        not_built(&d, JETURIPE_GIVEN_NOT_FINITE, "a base that is not finite");
-        d.gs[1] = d.bs[0] = 0;
-        not_built(&d, JETURIPE_GIVEN_NOT_FINITE, "the same with no shunt");
-    }
-}
-
-/* A network whose first branch has these numbers. */
-static Network branch(double r, double x, double b, double tap) {
-    Network d = sound();
-    d.r[0] = r;
-    d.x[0] = x;
-    d.b[0] = b;
-    d.tap[0] = tap;
-    return d;
-}
-
-static void branch_computed(double r, double x, double b, double tap, const char *call) {
-    Network d = branch(r, x, b, tap);
-    not_built(&d, JETURIPE_COMPUTED_NOT_FINITE, call);
-    d.status[0] = 0;
-    expect(built(&d) == 0, call);
-}
-
-static void branches_computed(void) {
-    branch_computed(0x1p512, 0.5, 0, 0, "r r that overflows: its quotients would be 0");
-    branch_computed(0, -0x1p512, 0, 0, "x x that overflows");
-    branch_computed(0x1.8p511, 0x1.8p511, 0, 0, "r r + x x that overflows, by finite squares");
-    branch_computed(0, 0.5, 0, 0x1p512, "a tap whose square overflows: its quotient would be 0");
-    branch_computed(0, 0.5, 0, -0x1p512, "a negative one");
-    branch_computed(0, 0.5, 0, 0x1p-512, "2 / 2^-1024, at the from end alone");
-    branch_computed(0, 0.5, 0, 0x1p-600, "a tap whose square is 0");
-    branch_computed(0, -0.5, DBL_MAX, 0x1p-511, "2^1023 and half the largest number at the from end");
-}
-
-static void sums_computed(void) {
-    Network d = branch(0, 0.5, DBL_MAX, 0);
-    d.b[1] = DBL_MAX;
-    expect(built(&d) == 0 && now.y[1] == DBL_MAX && now.y[7] == DBL_MAX, "half the largest number twice");
-    d.bs[0] = DBL_MAX;
-    d.base = 1;
-    not_built(&d, JETURIPE_COMPUTED_NOT_FINITE, "and the largest number as a shunt");
-    d.bs[0] = 25;
-    d.from[0] = d.to[0] = 101;
-    not_built(&d, JETURIPE_COMPUTED_NOT_FINITE, "half the largest number three times");
-    d.b[1] = -DBL_MAX;
-    expect(built(&d) == 0 && now.y[1] == -DBL_MAX / 2 && now.y[7] == DBL_MAX / 2, "the last of the three negative");
-    d = branch(0.5, 0, 0, 0x1p-511);
-    expect(built(&d) == 0 && now.y[6] == 0x1p1023, "2 / 2^-1022");
-    d.gs[1] = DBL_MAX;
-    d.base = 1;
-    not_built(&d, JETURIPE_COMPUTED_NOT_FINITE, "and the largest number in MW as a shunt");
-}
-
-static void shunts_computed(void) {
-    Network d = sound();
-    d.base = 0;
-    not_built(&d, JETURIPE_COMPUTED_NOT_FINITE, "shunts and base 0");
-    d.base = 1e-308;
-    not_built(&d, JETURIPE_COMPUTED_NOT_FINITE, "shunts that overflow in per unit");
-    d.bs[0] = 0;
-    not_built(&d, JETURIPE_COMPUTED_NOT_FINITE, "one of MW alone");
-    d.gs[1] = -0.0;
-    d.bs[0] = -0.0;
-    static const double y[8] = {1, -1.5, -1, 2, -1, 2, 1, 0};
-    expect(gives(&d, y), "shunts of 0, of which nothing is computed");
-    d.base = -0.0;
-    expect(gives(&d, y), "the same by base -0");
-    d.bs[1] = 1e-10;
-    not_built(&d, JETURIPE_COMPUTED_NOT_FINITE, "0 MW and 1e-10 MVAr by base 0");
-    d = sound();
-    d.base = -100;
-    expect(built(&d) == 0 && now.y[1] == -1.75 && now.y[6] == 0.5, "a negative base");
-    d.gs[0] = 0x1p1000;
-    d.base = 1;
-    expect(built(&d) == 0 && now.y[0] == 0x1p1000, "a large shunt");
-}
-
-static void networks(void) {
-    network_given();
-    branches_computed();
-    sums_computed();
-    shunts_computed();
-    Network d = branch(0, 0x1p-498, 0, 0);
-    expect(built(&d) == 0 && now.y[3] == 0x1p498, "a reactance of 2^-498");
-    d = branch(0x1p511, 0, 0, 0x1p-500);
-    expect(built(&d) == 0 && now.y[6] == 0x1p489, "a resistance of 2^511, a tap of 2^-500");
-}
-
 int main(void) {
     single_numbers();
     systems();
@@ -418,7 +312,6 @@ int main(void) {
     studies();
     rei_equivalents();
     branches();
-    networks();
     if (!failed)
         printf("finite: what is not finite is refused, and all is as it was\n");
     return failed;

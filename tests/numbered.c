@@ -1,9 +1,6 @@
-/* Buses by number: rows that have other numbers, a list numbered from 1, makings that are refused for their numbers, every kind of damaged
- * record, and branches whose ends are numbers. */
+/* Buses by number: rows that have other numbers, a list numbered from 1, makings that are refused for their numbers, and every kind of damaged
+ * record. */
 #include "room.h"
-#include "network.h"
-
-#include <math.h>
 
 static const uint32_t FROM_0[2] = {0, 1}, FROM_1[2] = {1, 2}, TURNED[2] = {1, 0}, TWICE[2] = {7, 7};
 static const uint32_t MANY[JETURIPE_LIMIT + 1];
@@ -136,113 +133,6 @@ static void damaged_records(void) {
     refused(removal(1), JETURIPE_TOO_MANY, "a record made of 258 buses");
 }
 
-/* ---- the bus matrix of branches whose ends are numbers, in whatever order the buses stand */
-
-static const double TURNED_Y[8] = {1.5, 0, -1, 2, -1, 2, 1, -1.25};
-
-/* Buses 101 and 205, with the shunts where their buses stand. */
-static Network turned(void) {
-    Network d = sound();
-    d.numbers[0] = 101;
-    d.numbers[1] = 205;
-    d.gs[0] = 50;
-    d.bs[1] = 25;
-    d.gs[1] = d.bs[0] = 0;
-    return d;
-}
-
-static void ends(Network *d, uint32_t a, uint32_t b) {
-    d->from[0] = d->to[1] = a;
-    d->to[0] = d->from[1] = b;
-}
-
-static void built_by_number(void) {
-    Network d = sound();
-    expect(gives(&d, SOUND_Y), "buses 205, 101");
-    d = turned();
-    expect(gives(&d, TURNED_Y), "buses 101, 205");
-    d.numbers[0] = 4294967295;
-    d.numbers[1] = 0;
-    ends(&d, 4294967295, 0);
-    expect(gives(&d, TURNED_Y), "buses 2^32 - 1, 0");
-    d.numbers[0] = 1;
-    ends(&d, 1, 0);
-    expect(gives(&d, TURNED_Y), "buses 1, 0, which are no rows");
-    d.to[0] = d.from[0];
-    d.status[1] = 0;
-    static const double loop[8] = {0.5, 2.5, 0, 0, 0, 0, 0, 0.25};
-    expect(gives(&d, loop), "a branch from bus 1 to bus 1: all four at one place");
-}
-
-static void taps(void) {
-    static const double negative[8] = {1, -1.25, -1, 0, -1, 0, 1.5, 0}, none[8] = {1, -1.25, -1, 3, -1, 3, 1.5, -1.5};
-    Network d = sound();
-    d.tap[0] = -2;
-    expect(gives(&d, negative), "a negative tap, which is taken as it is");
-    d.tap[0] = 0;
-    expect(gives(&d, none), "a tap of 0, which is read as 1");
-    d.tap[0] = -0.0;
-    expect(gives(&d, none), "a tap of -0, too");
-    d.tap[0] = d.tap[1] = 1;
-    expect(gives(&d, none), "taps of 1");
-}
-
-/* Three lines beside each other, of 2^53, 1 and 1: they are added in the list's order, and each sum is rounded. */
-static void parallel_branches(void) {
-    static const double x[2][3] = {{0x1p-53, 1, 1}, {1, 1, 0x1p-53}}, sum[2] = {0x1p53, 0x1p53 + 2};
-    Network d = sound();
-    d.gs[1] = d.bs[0] = 0;
-    for (int list = FROM; list <= SHIFT; list++)
-        d.len[list] = 3;
-    for (int order = 0; order < 2; order++) {
-        for (int k = 0; k < 3; k++) {
-            d.from[k] = 205;
-            d.to[k] = 101;
-            d.status[k] = 1;
-            d.x[k] = x[order][k];
-            d.r[k] = d.b[k] = d.tap[k] = 0;
-        }
-        const double s = sum[order], y[8] = {0, -s, 0, s, 0, s, 0, -s};
-        expect(gives(&d, y), order ? "lines of 1, 1 and 2^53" : "lines of 2^53, 1 and 1");
-    }
-}
-
-static void refused_numbers(void) {
-    Network d = sound();
-    d.to[1] = 1;
-    not_built(&d, JETURIPE_NO_SUCH_END, "buses 205, 101 and a branch to row 1");
-    d = sound();
-    d.from[0] = 0;
-    not_built(&d, JETURIPE_NO_SUCH_END, "buses 205, 101 and a branch from row 0");
-    d = sound();
-    d.numbers[0] = 0;
-    d.numbers[1] = 1;
-    ends(&d, 1, 2);
-    not_built(&d, JETURIPE_NO_SUCH_END, "buses 0, 1 and branches numbered from 1");
-    d = sound();
-    d.numbers[0] = 101;
-    ends(&d, 101, 101);
-    not_built(&d, JETURIPE_BUS_TWICE, "buses 101, 101");
-    d.status[0] = d.status[1] = 0;
-    not_built(&d, JETURIPE_BUS_TWICE, "buses 101, 101, no branch in service");
-}
-
-/* The matrix and its numbers make a reducer. Without bus 101 it is 1 - 1.25j - (-1 + 2j)^2 / 1.5. */
-static void built_and_reduced(void) {
-    Network d = sound();
-    expect(gives(&d, SOUND_Y) && jeturipe_kron_new(2, SLICE(now.y), d.numbers, 2, SLICE(now.rec)) == 0, "a reducer of a matrix that was built");
-    expect(removal(101) == 0 && active() == 0 && now.count == 1 && now.buses[0] == 205, "bus 205 is left");
-    expect(fabs(now.y[0] - 3) < 1e-15 && fabs(now.y[1] - (4 / 1.5 - 1.25)) < 1e-15, "without bus 101");
-}
-
-static void networks(void) {
-    built_by_number();
-    taps();
-    parallel_branches();
-    refused_numbers();
-    built_and_reduced();
-}
-
 int main(void) {
     removed_by_number();
     studied_by_number();
@@ -251,7 +141,6 @@ int main(void) {
     refused_studies(ward);
     refused_studies(extended);
     damaged_records();
-    networks();
     if (!failed)
         printf("numbered: every bus is the one with its number, and what has none is refused\n");
     return failed;

@@ -1,10 +1,6 @@
-/* For each refusal but 8 and 9, which tests/numbered.c has, and 19 and 20, which tests/finite.c has, a small call or more, which leaves all as it
- * was; of the bus matrix from branch data every refusal, and each before the next; and what tests/two_bus.c does not ask for: the active buses and
- * the rows before and after a removal, and conversions there and back. */
+/* For each refusal but 8 and 9, which tests/numbered.c has, and 19 and 20, which tests/finite.c has, a small call or more, which leaves all as it was; and what tests/two_bus.c does not ask
+ * for: the active buses and the rows before and after a removal, and conversions there and back. */
 #include "room.h"
-#include "network.h"
-
-#include <math.h>
 
 static const double FLAT[8] = {1, 0, -1, 0, -1, 0, 0, 0};     /* bus 205 has no admittance of its own */
 static const double FLOATING[8] = {1, 0, -1, 0, -1, 0, 1, 0}; /* singular: nothing leads to earth */
@@ -147,131 +143,6 @@ static void branches(void) {
             JETURIPE_NO_BUS, "REI of no bus");
 }
 
-/* ---- the bus matrix from branch data */
-
-static const char *const NAMES[SLICES] = {"numbers", "branch_from", "branch_to", "branch_status", "branch_r", "branch_x",
-                                          "branch_b", "branch_tap", "branch_shift", "gs", "bs", "y"};
-
-/* Each slice of a length that is not its own. */
-static void lengths_of_a_network(void) {
-    static const uint32_t WRONG[SLICES] = {2, 3, 3, 3, 3, 3, 3, 3, 3, 2, 2, 2};
-    for (int slice = 0; slice < SLICES; slice++) {
-        Network d = sound();
-        size_t own = d.len[slice];
-        d.len[slice] = own - 1;
-        not_built(&d, WRONG[slice], NAMES[slice]);
-        d.len[slice] = own + 1;
-        not_built(&d, WRONG[slice], NAMES[slice]);
-        d.len[slice] = JETURIPE_LIMIT;
-        not_built(&d, WRONG[slice], NAMES[slice]);
-        d.len[slice] = JETURIPE_LIMIT + 1;
-        not_built(&d, slice == Y ? JETURIPE_WRONG_LENGTH : JETURIPE_TOO_MANY, NAMES[slice]);
-        d.len[slice] = SIZE_MAX;
-        not_built(&d, slice == Y ? JETURIPE_WRONG_LENGTH : JETURIPE_TOO_MANY, NAMES[slice]);
-    }
-    static const size_t sizes[] = {0, 1, 3, JETURIPE_LIMIT, JETURIPE_LIMIT + 1, SIZE_MAX, SIZE_MAX / 2 + 2};
-    for (size_t i = 0; i < sizeof sizes / sizeof sizes[0]; i++) {
-        Network d = sound();
-        d.n = sizes[i];
-        not_built(&d, d.n > JETURIPE_LIMIT ? JETURIPE_TOO_MANY : JETURIPE_WRONG_LENGTH, "another size than the lists have");
-    }
-}
-
-/* Has every refusal at once; each is mended in its turn. */
-static void one_refusal_before_the_next(void) {
-    Network d = sound();
-    d.len[GS] = JETURIPE_LIMIT + 1;
-    d.len[Y] = 7;
-    d.len[SHIFT] = 1;
-    d.from[0] = 9;
-    d.to[0] = d.from[1] = d.to[1] = d.numbers[1] = 205;
-    d.bs[1] = NAN;
-    d.x[0] = 0;
-    d.shift[0] = 30;
-    d.r[1] = 1e200;
-    not_built(&d, JETURIPE_TOO_MANY, "1 before 2");
-    d.len[GS] = 2;
-    not_built(&d, JETURIPE_WRONG_LENGTH, "2 before 3");
-    d.len[Y] = 8;
-    not_built(&d, JETURIPE_LISTS_DIFFER, "3 before 6");
-    d.len[SHIFT] = 2;
-    not_built(&d, JETURIPE_NO_SUCH_END, "6 before 8");
-    d.from[0] = 205;
-    not_built(&d, JETURIPE_BUS_TWICE, "8 before 19");
-    d.numbers[1] = 101;
-    not_built(&d, JETURIPE_GIVEN_NOT_FINITE, "19 before 14");
-    d.bs[1] = 0;
-    not_built(&d, JETURIPE_SMALL_IMPEDANCE, "14 before 15");
-    d.x[0] = 0.5;
-    not_built(&d, JETURIPE_PHASE_SHIFT, "15 before 20");
-    d.shift[0] = 0;
-    not_built(&d, JETURIPE_COMPUTED_NOT_FINITE, "20 at last");
-    d.r[1] = 0.5;
-    expect(built(&d) == 0, "nothing is left to refuse");
-}
-
-/* 14 or 15 is that of the first branch in service that has either. */
-static void refused_branches(void) {
-    Network d = sound();
-    d.shift[1] = -1e-300;
-    not_built(&d, JETURIPE_PHASE_SHIFT, "a phase shift in the second branch");
-    d.x[0] = 0x1p-499;
-    not_built(&d, JETURIPE_SMALL_IMPEDANCE, "no impedance in the first branch, a phase shift in the second");
-    d.x[0] = -0x1p-499;
-    not_built(&d, JETURIPE_SMALL_IMPEDANCE, "the same of a series capacitor");
-    d.shift[0] = 5;
-    d.x[0] = 0.5;
-    d.shift[1] = d.r[1] = d.x[1] = 0;
-    not_built(&d, JETURIPE_PHASE_SHIFT, "a phase shift in the first branch, no impedance in the second");
-    d.status[0] = 0;
-    not_built(&d, JETURIPE_SMALL_IMPEDANCE, "the same with the first branch out of service");
-    d = sound();
-    d.x[0] = 0x1p-498;
-    d.shift[0] = d.shift[1] = -0.0;
-    expect(built(&d) == 0, "an impedance that is just large enough, and shifts of -0");
-}
-
-/* Of a branch out of service neither ends nor impedance nor shift are looked at; any byte but 0 is in service. */
-static void out_of_service(void) {
-    static const double line[8] = {1, -0.75, -1, 1, -1, 1, 1.5, -1}, shunts[8] = {0, 0.25, 0, 0, 0, 0, 0.5, 0};
-    Network d = sound();
-    d.status[0] = 2;
-    d.status[1] = 128;
-    expect(gives(&d, SOUND_Y), "both branches, by bytes that are not 1");
-    d.status[0] = 0;
-    d.from[0] = 9;
-    d.x[0] = 0;
-    d.shift[0] = 30;
-    expect(gives(&d, line), "the line alone");
-    for (int byte = 1; byte < 256; byte++) {
-        d.status[0] = (uint8_t)byte;
-        not_built(&d, JETURIPE_NO_SUCH_END, "a branch in service that ends nowhere");
-    }
-    d.status[0] = d.status[1] = 0;
-    d.to[0] = 10;
-    expect(gives(&d, shunts), "the shunts alone");
-    for (int list = FROM; list <= SHIFT; list++)
-        d.len[list] = 0;
-    expect(gives(&d, shunts), "no branch");
-}
-
-static void networks(void) {
-    Network none = {0};
-    lengths_of_a_network();
-    one_refusal_before_the_next();
-    refused_branches();
-    out_of_service();
-    memset(&now, 0x5c, sizeof now);
-    hold();
-    refused(built(&none), JETURIPE_DONE, "no bus and no branch, which writes nothing");
-    for (int list = FROM; list <= SHIFT; list++)
-        none.len[list] = 1;
-    none.x[0] = 1;
-    refused(built(&none), JETURIPE_DONE, "no bus, and a branch out of service");
-    none.status[0] = 1;
-    not_built(&none, JETURIPE_NO_SUCH_END, "no bus, and a branch in service");
-}
-
 int main(void) {
     before_and_after_a_removal();
     lists_of_removals();
@@ -281,7 +152,6 @@ int main(void) {
     conversions();
     lengths();
     branches();
-    networks();
     if (!failed)
         printf("refused: each with its number, and all is as it was\n");
     return failed;

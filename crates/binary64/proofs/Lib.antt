@@ -12,6 +12,5 @@ pub mod RootNearest
 mod RootCases
 pub mod Operands
 pub mod Magnitudes
-pub mod Minus0
 pub mod Flags
 pub mod SquareRange

@@ -1,22 +1,11 @@
--- Zero, -0, finite, and what a slice of f64 can hold.
-use Rattle.std.specs.Prelude.{ℕ, Bool, true, false, not, ◌&&◌, List, [], ◌∷◌, T, eqb, get_or, pos, Float}
-use Rattle.std.specs.Float.{nan, inf, fin, binary64}
+-- Zero, finite, and what a slice of f64 can hold.
+use Rattle.std.specs.Prelude.{ℕ, Bool, true, false, ◌&&◌, List, [], ◌∷◌, T, get_or, pos, Float}
+use Rattle.std.specs.Float.{nan, fin, binary64}
 use Rattle.std.specs.Float.Ieee.{fits, eq}
 use Rattle.std.specs.Float.Ieee.Scale.{finite}
 
 abbrev pub is_zero : Float → Bool
 is_zero x = eq x (fin false 0 (pos 0))
-
--- zero with the sign set
-abbrev pub is_minus0 : Float → Bool
-is_minus0 nan = false
-is_minus0 (inf s) = false
-is_minus0 (fin s m e) = s && eqb m 0
-
--- no number of the list is -0
-unfoldable pub no_minus0 : List Float → Bool
-no_minus0 [] = true
-no_minus0 (x ∷ xs) = not (is_minus0 x) && no_minus0 xs
 
 unfoldable pub all_finite : List Float → Bool
 all_finite [] = true

@@ -1,9 +1,7 @@
 -- Lists of numbers that are all finite; and a zero times a number, where the product is finite, is zero.
-use Rattle.prelude.proofs.Prelude.{◌≡◌, refl, ap, ◌∙◌, Bool, true, false, ◌&&◌, List, [], ◌∷◌, ◌++◌, ℕ, zero, suc, ◌<◌, arith, T, inl, inr, length, get_or, Float, nan, inf, fin, Format, mul, and_i, and_l, and_r, finite}
+use Rattle.prelude.proofs.Prelude.{◌≡◌, refl, ap, ◌∙◌, Bool, true, false, ◌&&◌, List, [], ◌∷◌, ◌++◌, ℕ, zero, suc, ◌<◌, arith, T, length, get_or, Float, nan, inf, fin, Format, mul, and_i, and_l, and_r, finite}
 use Rattle.binary64.specs.Values.{all_finite}
 use Rattle.binary64.proofs.Floats.{Zero, mul-zero-left}
-use Rattle.lists.proofs.Order.{lt-or-ge}
-use Rattle.complex.specs.Computed.{each}
 
 pub none : T (all_finite [])
 unfolding all_finite
@@ -46,22 +44,6 @@ pub all_right : (xs ys : List Float) → T (all_finite (xs ++ ys)) → T (all_fi
 unfolding all_finite
 all_right [] ys h = h
 all_right (x ∷ xs) ys h = all_right xs ys (and_r (finite x) (all_finite (xs ++ ys)) h)
-
--- of lists one behind the other
-module _ (F : ℕ → List Float) where
-  pub each-finite : (m : ℕ) → ((k : ℕ) → k < m → T (all_finite (F k))) → T (all_finite (each F m))
-  unfolding each
-  each-finite zero h = none
-  each-finite (suc m) h = all_join (each F m) (F m) (each-finite m (λ k l. h k (omega arith))) (h m (omega arith))
-
-  pub each_at : (m k : ℕ) → k < m → T (all_finite (each F m)) → T (all_finite (F k))
-  unfolding each
-  each_at zero k l h = absurd (omega arith)
-  each_at (suc m) k l h =
-      elim (lt-or-ge k m) [
-        | inl less ↦ each_at m k less (all_left (each F m) (F m) h)
-        | inr more ↦ let e : k ≡ m = omega arith in rw e (all_right (each F m) (F m) h)
-      ]
 
 pub all-at : (xs : List Float) (i : ℕ) → i < length xs → T (all_finite xs) → T (finite (get_or xs i nan))
 unfolding all_finite

@@ -11,7 +11,6 @@ pub mod Sizes
 pub mod SmallMagnitude
 pub mod SameValue
 pub mod Squares
-pub mod Minus0
 mod MagnitudeCases
 pub mod LeafSteps
 pub mod FiniteLeaves

@@ -25,10 +25,6 @@ x ⊘ y = div binary64 x y
 abbrev pub complex_of : Float → Float → Complex
 complex_of x y = record { re = x; im = y }
 
--- +0 in both parts
-abbrev pub czero : Complex
-czero = complex_of plus0 plus0
-
 unfoldable pub cadd : Complex → Complex → Complex
 cadd a b = record { re = a.re ⊕ b.re; im = a.im ⊕ b.im }
 
@@ -57,10 +53,6 @@ cdiv a b =
     cond (too_small b)
     (record { re = inf false; im = inf false })
     (record { re = (a.re ⊗ b.re ⊕ a.im ⊗ b.im) ⊘ sqmag b; im = (a.im ⊗ b.re ⊖ a.re ⊗ b.im) ⊘ sqmag b })
-
--- both parts divided by a real number
-unfoldable pub divided_by : Complex → Float → Complex
-divided_by a v = complex_of (a.re ⊘ v) (a.im ⊘ v)
 
 abbrev pub unit : Complex
 unfolding one plus0

@@ -1,12 +1,7 @@
 -- The numbers that each operation computes, in the order of the work.
-use Rattle.std.specs.Prelude.{ℕ, zero, suc, List, [], ◌∷◌, ◌++◌, Float}
+use Rattle.std.specs.Prelude.{List, [], ◌∷◌, ◌++◌, Float}
 use Rattle.complex.specs.declared.Complex.{Complex}
 use Rattle.complex.specs.Arithmetic.{◌⊕◌, ◌⊖◌, ◌⊗◌, cadd, csub, cmul, cdiv, sqmag}
-
--- the lists F 0, F 1, .. of which there are m, one behind the other
-unfoldable pub each : (ℕ → List Float) → ℕ → List Float
-each F zero = []
-each F (suc m) = each F m ++ F m
 
 abbrev pub of_parts : Complex → List Float
 of_parts c = c.re ∷ c.im ∷ []

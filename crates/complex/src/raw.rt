@@ -71,16 +71,6 @@ pub fn cdiv(a: Complex, b: Complex) -> Complex
     }
 }
 
-// Both parts divided by a real number.
-pub fn divided_by(a: Complex, v: f64) -> Complex
-    ensures { result ≡ spec.divided_by a v }
-{
-    Complex {
-        re: a.re / v,
-        im: a.im / v,
-    }
-}
-
 // The sign cleared, of a zero too.
 pub fn abs(x: f64) -> f64
     ensures { result ≡ magnitudes.abs x }

@@ -10,7 +10,7 @@ use Rattle.binary64.proofs.Magnitudes.{Within, Held, within-finite, add-within, 
 use Rattle.complex.proofs.Sizes.{In, in-finite, wider}
 use Rattle.complex.proofs.SmallMagnitude.{over-strong}
 use Rattle.complex.specs.{plus0, one, small_magnitude, abs, zeros, ◌⊕◌, ◌⊖◌, ◌⊘◌}
-use Rattle.complex.proofs.Finite.{none, all_more, all-at, each-finite}
+use Rattle.complex.proofs.Finite.{none, all_more, all-at}
 use Rattle.complex.proofs.Matrices.{length-zeros}
 use Rattle.refusals.specs.Refusals.{limit}
 use Rattle.refusals.proofs.Numbers.{given-all, computed-all}
@@ -18,7 +18,7 @@ use Rattle.lists.specs.Buses.{all_below}
 use Rattle.lists.proofs.Ends.{below_at}
 use Rattle.dc_flow.specs.Dc.{plus, minus, joined, add_branch, susceptances, of_joined, of_branch, of_build, of_lodf, outage, real_grid, build_shape_refusal, build_refusal, built_output, lodf_shape_refusal, lodf_refusal, lodf_output, DcFinite}
 use Rattle.dc_flow.proofs.OutageLaws.{to_below}
-use Rattle.dc_flow.proofs.OutageFinite.{one_in, factors-finite}
+use Rattle.dc_flow.proofs.OutageFinite.{each-finite, one_in, factors-finite}
 use Rattle.dc_flow.proofs.Accepted.{build-accepted, lodf-computed}
 
 -- at most c times 2 ^ 40 in size

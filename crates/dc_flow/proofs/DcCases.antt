@@ -1,12 +1,12 @@
 -- The DC definitions computed by the checker on small cases.
 use Rattle.prelude.proofs.Prelude.{◌≡◌, refl, T, length, List, [], ◌∷◌, ℕ, ◌+◌, replicate, Float, nan, inf, true, binary64, of_bits, of_fields, neg, add, sub, div, sum, round, units, odd, lt, size, span, climb}
 use lib.Count.{count_trailing_zeros}
-use Rattle.complex.specs.{each, plus0, one, small_magnitude, abs, zeros}
+use Rattle.complex.specs.{plus0, one, small_magnitude, abs, zeros}
 use Rattle.lists.specs.Buses.{up_to, others, all_below}
 use Rattle.binary64.specs.Values.{all_finite}
 use Rattle.refusals.specs.Refusals.{limit, then_given, then_computed}
 use Rattle.dc_flow.specs.declared.Retained.TheVariants.{Count, Refused}
-use Rattle.dc_flow.specs.Dc.{ends_refusal, retained_of, retained_slice, retained_refusal, counted, retained_answer, retained_output, joined, add_branch, susceptances, build_shape_refusal, build_refusal, built_output, transfer, branch_transfer, denominator, outage_factor, outage, real_row, real_grid, of_factor, of_outage, of_lodf, lodf_shape_refusal, lodf_refusal, lodf_output}
+use Rattle.dc_flow.specs.Dc.{ends_refusal, retained_of, retained_slice, retained_refusal, counted, retained_answer, retained_output, joined, add_branch, susceptances, build_shape_refusal, build_refusal, built_output, transfer, branch_transfer, denominator, outage_factor, outage, real_row, real_grid, each, of_factor, of_outage, of_lodf, lodf_shape_refusal, lodf_refusal, lodf_output}
 use Rattle.dc_flow.proofs.BuildFinite.{dc-finite}
 
 -- small numbers by their bits

@@ -5,18 +5,33 @@ use Rattle.binary64.specs.Values.{all_finite}
 use Rattle.binary64.proofs.Operands.{sub-operands, dividend}
 use Rattle.complex.proofs.Sizes.{In, in-finite, larger-in, sub_in, ordinary-at}
 use Rattle.complex.proofs.SmallMagnitude.{over-strong}
-use Rattle.complex.specs.{each, plus0, one, small_magnitude, abs, ◌⊖◌, ◌⊘◌}
+use Rattle.complex.specs.{plus0, one, small_magnitude, abs, ◌⊖◌, ◌⊘◌}
 use Rattle.complex.specs.Inner.Ordinary.{all_ordinary}
-use Rattle.complex.proofs.Finite.{none, all_more, all_join, all_left, all_right, each-finite, each_at, first_of, rest_of}
+use Rattle.complex.proofs.Finite.{none, all_more, all_join, all_left, all_right, first_of, rest_of}
 use Rattle.complex.proofs.Sticky.{same_test}
 use Rattle.complex.proofs.Matrices.{entry-within}
 use Rattle.lists.specs.Buses.{all_below}
 use Rattle.lists.proofs.Order.{lt-or-ge}
 use Rattle.lists.proofs.Ends.{below_at}
-use Rattle.dc_flow.specs.Dc.{transfer, branch_transfer, denominator, outage_factor, outage, real_row, real_grid, of_factor, of_outage, of_lodf}
+use Rattle.dc_flow.specs.Dc.{each, transfer, branch_transfer, denominator, outage_factor, outage, real_row, real_grid, of_factor, of_outage, of_lodf}
 use Rattle.dc_flow.proofs.OutageLaws.{to_below, real_grid-next}
 
--- ---- rows and matrices of real numbers
+-- ---- lists one behind the other
+
+module _ (F : ℕ → List Float) where
+  pub each-finite : (m : ℕ) → ((k : ℕ) → k < m → T (all_finite (F k))) → T (all_finite (each F m))
+  unfolding each
+  each-finite zero h = none
+  each-finite (suc m) h = all_join (each F m) (F m) (each-finite m (λ k l. h k (omega arith))) (h m (omega arith))
+
+  pub each_at : (m k : ℕ) → k < m → T (all_finite (each F m)) → T (all_finite (F k))
+  unfolding each
+  each_at zero k l h = absurd (omega arith)
+  each_at (suc m) k l h =
+      elim (lt-or-ge k m) [
+        | inl less ↦ each_at m k less (all_left (each F m) (F m) h)
+        | inr more ↦ let e : k ≡ m = omega arith in rw e (all_right (each F m) (F m) h)
+      ]
 
 pub row_is : (F : ℕ → Float) (m : ℕ) → real_row F m ≡ each (λ (k : ℕ). F k ∷ []) m
 unfolding real_row each

@@ -6,7 +6,6 @@ use Rattle.std.specs.Float.Ieee.{neg, lt}
 use Rattle.complex.specs.Constants.{plus0, one, small_magnitude}
 use Rattle.complex.specs.Arithmetic.{◌⊕◌, ◌⊖◌, ◌⊘◌}
 use Rattle.complex.specs.Magnitude.{abs}
-use Rattle.complex.specs.Computed.{each}
 use Rattle.complex.specs.Matrices.{zeros}
 use Rattle.lists.specs.Buses.{up_to, others, all_below}
 use Rattle.binary64.specs.Values.{all_finite}
@@ -53,6 +52,11 @@ retained_output n interior held = cond (eqb (retained_refusal n interior (length
 -- a branch end that is no bus, also of a branch that is skipped
 unfoldable pub ends_refusal : ℕ → List ℕ → List ℕ → ℕ
 ends_refusal n froms tos = refuse (not (all_below n froms && all_below n tos)) no_such_end 0
+
+-- the lists F 0, F 1, .. of which there are m, one behind the other
+unfoldable pub each : (ℕ → List Float) → ℕ → List Float
+each F zero = []
+each F (suc m) = each F m ++ F m
 
 -- ---- build_b_bus
 

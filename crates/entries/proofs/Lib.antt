@@ -3,4 +3,3 @@ pub mod RecordBack
 pub mod KronLaws
 pub mod NumbersLaws
 pub mod SinglesLaws
-pub mod NetworkLaws

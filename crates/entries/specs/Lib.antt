@@ -5,4 +5,3 @@ pub mod Kron
 pub mod Numbers
 pub mod Studies
 pub mod Singles
-pub mod Network

@@ -4,7 +4,6 @@ mod answers;
 pub mod dc;
 pub mod kron;
 pub mod linear;
-pub mod network;
 pub mod numbers;
 pub mod records;
 pub mod rei;

@@ -32,7 +32,7 @@ no_bus = 4
 abbrev pub empty_system : ℕ
 empty_system = 5
 
--- a branch end not below the number of buses, or, of a branch in service, that the study's list of numbers lacks
+-- a branch end not below the number of buses
 abbrev pub no_such_end : ℕ
 no_such_end = 6
 
@@ -40,7 +40,7 @@ no_such_end = 6
 abbrev pub no_such_bus : ℕ
 no_such_bus = 7
 
--- a number stands twice in the list that a reducer, a Ward study or a bus matrix is made with, or a bus in the Ward lists together
+-- a number stands twice in the list that a reducer or a Ward study is made with, or a bus in the Ward lists together
 abbrev pub bus_twice : ℕ
 bus_twice = 8
 
@@ -66,14 +66,6 @@ small_entry = 12
 abbrev pub singular : ℕ
 singular = 13
 
--- a branch in service has a series impedance too small to divide by
-abbrev pub small_impedance : ℕ
-small_impedance = 14
-
--- a branch in service has a phase shift
-abbrev pub phase_shift : ℕ
-phase_shift = 15
-
 -- the next row reduction would exceed the allowance
 abbrev pub beyond_allowance : ℕ
 beyond_allowance = 18
@@ -87,10 +79,6 @@ computed_not_finite = 20
 -- number k where the test holds, else what comes after
 abbrev pub refuse : Bool → ℕ → ℕ → ℕ
 refuse test k next = cond test k next
-
--- what is told, or, where that is 0, what comes after
-abbrev pub instead : ℕ → ℕ → ℕ
-instead told next = cond (eqb told 0) next told
 
 -- the refusal of an input: the one told from lengths, lists and record, else 19 where a number given is not finite
 unfoldable pub then_given : ℕ → List Float → ℕ

@@ -31,10 +31,6 @@ pub const SMALL_ENTRY: u32 = 12;
 
 pub const SINGULAR: u32 = 13;
 
-pub const SMALL_IMPEDANCE: u32 = 14;
-
-pub const PHASE_SHIFT: u32 = 15;
-
 pub const BEYOND_ALLOWANCE: u32 = 18;
 
 pub const GIVEN_NOT_FINITE: u32 = 19;

@@ -1,7 +1,7 @@
 -- The REI definitions computed by the checker on a study of three buses.
 use Rattle.prelude.proofs.Prelude.{◌≡◌, refl, List, [], ◌∷◌, ◌++◌, ℕ, ◌+◌, T, replicate, Float, nan, inf, false, binary64, of_int, of_bits, of_fields, neg, add, mul, div, sum, round, units, odd, lt, size, span, climb}
 use lib.Count.{count_trailing_zeros}
-use Rattle.complex.specs.{plus0, one, small_magnitude, tie_threshold, cneg, divided_by, sqmag, entry, abs, magnitude, entry_at}
+use Rattle.complex.specs.{plus0, one, small_magnitude, tie_threshold, cneg, sqmag, entry, abs, magnitude, entry_at}
 use Rattle.lists.specs.Buses.{up_to}
 use Rattle.binary64.specs.Values.{all_finite}
 use Rattle.binary64.specs.Root.{root, root_of, radicand, half, whole_root, moved_back}
@@ -73,7 +73,7 @@ answer = refl
 
 -- a third of the diagonal; none where its magnitude is just 1e-12, or 0
 spokes : spokes_of study ≡ one' ∷ minus-two ∷ zero' ∷ zero' ∷ zero' ∷ zero' ∷ []
-unfolding study matrix spokes_of rei_size spoke_parts spoke divided_by magnitude root root_of radicand half whole_root moved_back sqmag entry_at entry up_to plus0 small_magnitude lt add mul div of_int sum round units odd size span climb count_trailing_zeros of_bits of_fields
+unfolding study matrix spokes_of rei_size spoke_parts spoke magnitude root root_of radicand half whole_root moved_back sqmag entry_at entry up_to plus0 small_magnitude lt add mul div of_int sum round units odd size span climb count_trailing_zeros of_bits of_fields
 spokes = refl
 
 -- each part negated, a zero too

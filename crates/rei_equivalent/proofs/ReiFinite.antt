@@ -2,7 +2,7 @@
 -- And nothing finite is refused.
 use Rattle.prelude.proofs.Prelude.{◌≡◌, refl, sym, subst, Bool, true, false, cond, List, [], ◌∷◌, ◌++◌, ℕ, zero, suc, ◌+◌, ◌*◌, ◌<◌, arith, T, ltb, ltb→lt, length, get_or, Float, nan, inf, fin, neg, of_bits, lt, and_l, and_r, finite, is_true}
 use Rattle.binary64.specs.Values.{all_finite}
-use Rattle.complex.specs.{Complex, Matrix, plus0, one, small_magnitude, magnitude, cneg, czero, divided_by, entry, entry_at, zeros, ◌⊘◌}
+use Rattle.complex.specs.{Complex, Matrix, plus0, one, small_magnitude, magnitude, cneg, entry, entry_at, zeros, ◌⊘◌}
 use Rattle.complex.specs.Leaves.{of_magnitude}
 use Rattle.complex.proofs.Finite.{none, all_more, all_join, all_left, all_right, all-at, first_of, rest_of}
 use Rattle.complex.proofs.Sticky.{Finite}
@@ -20,10 +20,10 @@ use Rattle.rei_equivalent.proofs.ReiAnswers.{rei-accepted}
 -- ---- spokes
 
 spoke-finite : (n : Float) (y : Complex) → T (all_finite (of_spoke n y)) → Finite (spoke n y)
-unfolding of_spoke spoke divided_by
+unfolding of_spoke spoke
 spoke-finite n y h = go (lt small_magnitude (magnitude y)) (all_right (of_magnitude y) _ h)
   where
-    go : (strong : Bool) → T (all_finite (cond strong (n ∷ y.re ⊘ n ∷ y.im ⊘ n ∷ []) [])) → Finite (cond strong (divided_by y n) czero)
+    go : (strong : Bool) → T (all_finite (cond strong (n ∷ y.re ⊘ n ∷ y.im ⊘ n ∷ []) [])) → Finite (cond strong (record { re = y.re ⊘ n; im = y.im ⊘ n }) (record { re = plus0; im = plus0 }))
     go true k = let shares = rest_of n _ k in (first_of (y.re ⊘ n) _ shares, first_of (y.im ⊘ n) [] (rest_of (y.re ⊘ n) _ shares))
     go false k = (plus0-finite, plus0-finite)
 

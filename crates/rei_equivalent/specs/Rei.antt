@@ -6,7 +6,7 @@ use Rattle.std.specs.Float.{binary64}
 use Rattle.std.specs.Float.Ieee.{of_int, lt}
 use Rattle.complex.specs.declared.Complex.{Complex}
 use Rattle.complex.specs.Constants.{plus0, one, small_magnitude, tie_threshold}
-use Rattle.complex.specs.Arithmetic.{◌⊕◌, ◌⊘◌, cneg, divided_by, czero}
+use Rattle.complex.specs.Arithmetic.{◌⊕◌, ◌⊘◌, cneg}
 use Rattle.complex.specs.Magnitude.{abs, magnitude}
 use Rattle.complex.specs.Leaves.{of_magnitude}
 use Rattle.complex.specs.Matrices.{Matrix, entry_at, zeros}
@@ -33,11 +33,10 @@ partial_sums s (x ∷ xs) = (s ⊕ x) ∷ partial_sums (s ⊕ x) xs
 
 -- the diagonal over the number of buses, in per unit, none where its magnitude is not above 1e-12
 unfoldable pub spoke : Float → Complex → Complex
-unfolding divided_by
 spoke n y =
     cond (lt small_magnitude (magnitude y))
-    (divided_by y n)
-    czero
+    (record { re = y.re ⊘ n; im = y.im ⊘ n })
+    (record { re = plus0; im = plus0 })
 
 -- the numbers that it computes: those of the magnitude, and where that is above 1e-12 the number of buses and both quotients
 unfoldable pub of_spoke : Float → Complex → List Float

@@ -14,7 +14,7 @@ use binary64::finite::finite;
 use complex::Complex;
 use complex::constants::SMALL_MAGNITUDE;
 use complex::entry::{get, put};
-use complex::raw::{divided_by, magnitude, sqmag};
+use complex::raw::{magnitude, sqmag};
 
 // A spoke for each bus, from the diagonal of the matrix.
 pub fn spoke_all(n: usize, y: &[f64], spokes: &mut [f64])
@@ -38,7 +38,10 @@ fn spoke(n: f64, y: Complex) -> Complex
     ensures { result ≡ spec.spoke n y }
 {
     if has_spoke(y) {
-        return divided_by(y, n);
+        return Complex {
+            re: y.re / n,
+            im: y.im / n,
+        };
     }
     Complex { re: 0.0, im: 0.0 }
 }

@@ -7,6 +7,6 @@ use Rattle.rei_equivalent.proofs.spokes.spoke.Tie as tie
 
 pub spoke-spec : {M : Type 1} → statement M
 unfolding spoke small_magnitude plus0
-spoke-spec = tie.close (tie.spec (λ c κs. search needs) (λ c κs. search needs)
-    (λ c. rw (← c.before.before.has-spoke.ensures, c.before.if1.true) c.divided-by.ensures)
+spoke-spec = tie.close (tie.spec (λ c κs. search needs)
+    (λ c. rw (← c.before.before.before.has-spoke.ensures, c.before.before.if1.true))
     (λ c. rw (← c.before.has-spoke.ensures, c.if1.false)))

@@ -1,2 +1,0 @@
-// The bus admittance matrix from branch data.
-pub use admittance::build_y_bus;
