@@ -6,7 +6,7 @@ ghost use Rattle.binary64.specs.Root.{count};
 ghost use Rattle.binary64.specs.Inner.RootDigits.{Digits, Scaled, WholeRoot};
 
 // The number m * 2^k, in units of binary64's smallest positive value, 2^-1074.
-#[derive(Drop)]
+#[derive(Clone, Copy)]
 pub struct Units {
     pub m: u64,
     pub k: u64,
@@ -29,7 +29,7 @@ pub fn parts(x: f64) -> Units
 }
 
 // In the same units, the number m * 2^52 * 4^(half - 53): the whole root of its radicand, m * 2^52, has 53 binary digits.
-#[derive(Drop)]
+#[derive(Clone, Copy)]
 pub struct Radicand {
     pub m: u64,
     pub half: u64,
@@ -49,7 +49,7 @@ pub fn scaled(m: u64, k: u64) -> Radicand
 }
 
 // A whole root q and its remainder r.
-#[derive(Drop)]
+#[derive(Clone, Copy)]
 pub struct Rest {
     pub q: u64,
     pub r: u64,

@@ -6,7 +6,7 @@ ghost use Rattle.binary64.specs.Root as spec;
 use crate::digits::{long_root, parts, scaled};
 
 // A special operand's root, or that the operand is an ordinary one: finite and above zero.
-#[derive(Drop)]
+#[derive(Clone, Copy)]
 pub enum Operand {
     SpecialRoot(f64),
     Ordinary,
@@ -28,7 +28,7 @@ pub fn special(x: f64) -> Operand
 }
 
 // A whole root q of 53 binary digits, its remainder r, and the scale, `half`: the number is (q * q + r) * 4^(half - 590).
-#[derive(Drop)]
+#[derive(Clone, Copy)]
 pub struct RootAndRest {
     pub q: u64,
     pub r: u64,

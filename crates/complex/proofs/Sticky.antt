@@ -68,6 +68,12 @@ product-result a b h = go (finite (a.re ⊗ b.re)) (finite (a.im ⊗ b.im)) (fin
   where
     go : (p q r s t u : Bool) → T (p && (q && (r && (s && (t && (u && true)))))) → T r × T u
     go true true true true true true k = (tt, tt)
+    go false q r s t u k = elim k [ ]
+    go true false r s t u k = elim k [ ]
+    go true true false s t u k = elim k [ ]
+    go true true true false t u k = elim k [ ]
+    go true true true true false u k = elim k [ ]
+    go true true true true true false k = elim k [ ]
 
 pub product-tells : (a b : Complex) → all_finite (of_parts (cmul a b)) ≡ all_finite (of_product a b)
 product-tells a b =
@@ -129,6 +135,17 @@ quotient-result a b h =
   where
     go : (i j k l m n o p q r s : Bool) → T (i && (j && (k && (l && (m && (n && (o && (p && (q && (r && (s && true))))))))))) → (T o × T s) × T k
     go true true true true true true true true true true true h = ((tt, tt), tt)
+    go false j k l m n o p q r s h = elim h [ ]
+    go true false k l m n o p q r s h = elim h [ ]
+    go true true false l m n o p q r s h = elim h [ ]
+    go true true true false m n o p q r s h = elim h [ ]
+    go true true true true false n o p q r s h = elim h [ ]
+    go true true true true true false o p q r s h = elim h [ ]
+    go true true true true true true false p q r s h = elim h [ ]
+    go true true true true true true true false q r s h = elim h [ ]
+    go true true true true true true true true false r s h = elim h [ ]
+    go true true true true true true true true true false s h = elim h [ ]
+    go true true true true true true true true true true false h = elim h [ ]
 
 -- the squared magnitude and the quotient tell all
 pub quotient-tells : (a b : Complex) → (finite (sqmag b) && all_finite (of_parts (cdiv a b))) ≡ all_finite (of_quotient a b)

@@ -1,5 +1,7 @@
 // Complex numbers in binary64: one record of two f64, passed and returned by value. The operations answer a finite number, or that a
 // number they compute is not finite.
+#![tactic(auto)]
+
 ghost use Rattle.std.specs.Prelude.{◌≡◌, ◌&&◌};
 ghost use Rattle.std.specs.Float.Ieee.Scale as scale;
 ghost use Rattle.complex.specs.Computed as computed;
@@ -14,14 +16,14 @@ pub mod ordinary;
 pub mod raw;
 pub mod slices;
 
-#[derive(Drop)]
+#[derive(Clone, Copy)]
 pub struct Complex {
     pub re: f64,
     pub im: f64,
 }
 
 // A finite complex number, or none.
-#[derive(Drop)]
+#[derive(Clone, Copy)]
 pub enum Pair {
     Finite(Complex),
     NotFinite,

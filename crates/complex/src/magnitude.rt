@@ -6,7 +6,7 @@ use crate::{Complex, raw};
 use binary64::finite::finite;
 
 // A finite number, or none.
-#[derive(Drop)]
+#[derive(Clone, Copy)]
 pub enum Real {
     Finite(f64),
     NotFinite,

@@ -1,5 +1,6 @@
 // The DC parts: the buses retained, the susceptance matrix, and the line outage factors.
 // Buses and branches count from 0; matrices are of f64, row after row.
+#![tactic(auto)]
 ghost use Rattle.std.specs.Prelude.{◌≡◌, length};
 ghost use Rattle.refusals.specs.Refusals as refusals;
 ghost use Rattle.dc_flow.specs.Dc as spec;
@@ -18,7 +19,7 @@ mod retaining;
 mod susceptance;
 
 // How many buses are retained, or the refusal's number.
-#[derive(Drop)]
+#[derive(Clone, Copy)]
 pub enum Retained {
     Count(usize),
     Refused(u32),

@@ -1,5 +1,5 @@
 -- The entries of Kron reduction: a record of another length, and one that fits.
-use Rattle.prelude.proofs.Prelude.{◌≡◌, refl, ◌∙◌, Bool, true, false, ◌&&◌, ◌||◌, cond, List, ℕ, needs, eqb, ltb, length, Float, eq-eqb, ne_eqb}
+use Rattle.prelude.proofs.Prelude.{◌≡◌, refl, ◌∙◌, Bool, true, false, ◌&&◌, ◌||◌, cond, List, ℕ, rules, eqb, ltb, length, Float, eq-eqb, ne_eqb}
 use Rattle.complex.specs.{Complex}
 use Rattle.refusals.specs.Refusals.{limit, too_many, wrong_length, refuse, number}
 use Rattle.refusals.specs.declared.Outcome.{Outcome}
@@ -115,4 +115,4 @@ seen-fit rec ys i j work z f r a work' z' h b e w v g = record {
 -- what an entry returns, once its record is found not to fit, or to fit
 pub ruleset unfitted = (fresh-unfit, removed-unfit, listed-unfit, shown-unfit, active-unfit, seen-unfit)
 
-pub ruleset fitted = (unfitted, fresh-fit, removed-fit, listed-fit, shown-fit, active-fit, seen-fit, needs)
+pub ruleset fitted = (unfitted, fresh-fit, removed-fit, listed-fit, shown-fit, active-fit, seen-fit, rules)

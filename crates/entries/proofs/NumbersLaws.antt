@@ -1,5 +1,5 @@
 -- Bytes and numbers: lengths that fit, and those that do not.
-use Rattle.prelude.proofs.Prelude.{◌≡◌, refl, sym, ap, ◌∙◌, true, false, cond, ℕ, ◌+◌, ◌*◌, ◌<◌, arith, needs, eqb, ◌/◌, ◌%◌, mul_comm, eqb-true, eq-eqb, ne_eqb}
+use Rattle.prelude.proofs.Prelude.{◌≡◌, refl, sym, ap, ◌∙◌, true, false, cond, ℕ, ◌+◌, ◌*◌, ◌<◌, arith, rules, eqb, ◌/◌, ◌%◌, mul_comm, eqb-true, eq-eqb, ne_eqb}
 use native.Mathlib.Nat.{div-add-mod'}
 use lib.Arith.{digits_div, digits_mod}
 use Rattle.entries.specs.Answers.{answer_after}
@@ -48,4 +48,4 @@ converted x new held e = e
 pub told_none : (f m : ℕ) → f ≡ m → f ≡ 0 → 0 ≡ m
 told_none f m e z = sym z ∙ e
 
-pub ruleset converting = (as_it_was, converted, told_none, fits, needs)
+pub ruleset converting = (as_it_was, converted, told_none, fits, rules)

@@ -3,10 +3,10 @@ use Rattle.prelude.proofs.Prelude.{◌≡◌, refl, sym, ap, ◌∙◌, List, �
 use lib.Seq.{take-add, drop_at}
 use Rattle.refusals.specs.Refusals.{limit}
 use Rattle.kron_reduction.specs.declared.KronReducer.{KronReducer}
-use Rattle.bytes.specs.Bytes.{word, words, bytes_of, of_words}
-use Rattle.bytes.specs.RoundTrip.{Below}
-use Rattle.bytes.proofs.BytesLaws.{length-bytes_of, length-of_words}
-use Rattle.bytes.proofs.RoundTrip.{word-front, word-behind, bytes-of-word, round_trip}
+use Rattle.number_bytes.specs.Bytes.{word, words, bytes_of, of_words}
+use Rattle.number_bytes.specs.RoundTrip.{Below}
+use Rattle.number_bytes.proofs.BytesLaws.{length-bytes_of, length-of_words}
+use Rattle.number_bytes.proofs.RoundTrip.{word-front, word-behind, bytes-of-word, round_trip}
 use Rattle.entries.specs.Records.{front_bytes, record_bytes, active_in, numbers_in, record_in, sizes_of, front_of, in_bytes}
 use Rattle.entries.specs.RecordBack.{RecordBack}
 use Rattle.entries.proofs.RecordsLaws.{length_front, record-read}

@@ -1,10 +1,10 @@
 -- Laws of a record in a byte slice: what is read of one, and what its words are once written.
-use Rattle.prelude.proofs.Prelude.{◌≡◌, refl, sym, ap, ◌∙◌, List, [], ◌∷◌, ◌++◌, ℕ, ◌*◌, arith, needs, length, take, drop, replicate, append-nil, eq-eqb, ne_eqb, length-append, length-drop, drop_of_length-le, take_at, length-take-le}
+use Rattle.prelude.proofs.Prelude.{◌≡◌, refl, sym, ap, ◌∙◌, List, [], ◌∷◌, ◌++◌, ℕ, ◌*◌, arith, rules, length, take, drop, replicate, append-nil, eq-eqb, ne_eqb, length-append, length-drop, drop_of_length-le, take_at, length-take-le}
 use lib.Seq.{drop_at}
 use Rattle.refusals.specs.Refusals.{limit}
 use Rattle.kron_reduction.specs.declared.KronReducer.{KronReducer}
-use Rattle.bytes.specs.Bytes.{word, words, put_word, of_words}
-use Rattle.bytes.proofs.BytesLaws.{words_take, length-of_words, length-put_word, written-more}
+use Rattle.number_bytes.specs.Bytes.{word, words, put_word, of_words}
+use Rattle.number_bytes.proofs.BytesLaws.{words_take, length-of_words, length-put_word, written-more}
 use Rattle.entries.specs.Records.{front_bytes, record_bytes, active_in, numbers_in, record_in, sizes_of, front_of, in_bytes}
 
 -- ---- reading
@@ -75,4 +75,4 @@ module _ (bs front : List ℕ) (r : KronReducer) (l : length bs ≡ record_bytes
       rw (first, beyond, drop_of_length-le (drop front_bytes bs) {i = 4 * limit} (omega (arith, d, l)), append-nil, e, g)
 
 -- what the functions on records ask and return
-pub ruleset recording = (no_record, record-read, length-left, front-written, length-beyond, record-written, needs)
+pub ruleset recording = (no_record, record-read, length-left, front-written, length-beyond, record-written, rules)

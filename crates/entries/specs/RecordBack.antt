@@ -2,7 +2,7 @@
 use Rattle.std.specs.Prelude.{ℕ, ◌^◌, ◌≡◌, List, length}
 use Rattle.refusals.specs.Refusals.{limit}
 use Rattle.kron_reduction.specs.declared.KronReducer.{KronReducer}
-use Rattle.bytes.specs.RoundTrip.{Below}
+use Rattle.number_bytes.specs.RoundTrip.{Below}
 use Rattle.entries.specs.Records.{record_bytes, record_in, sizes_of, in_bytes}
 
 pub record RecordBack : Type 1 where

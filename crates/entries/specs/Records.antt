@@ -4,7 +4,7 @@ use Rattle.std.specs.Prelude.{ℕ, ◌+◌, ◌*◌, ◌&&◌, cond, List, [], �
 use Rattle.refusals.specs.Refusals.{limit}
 use Rattle.kron_reduction.specs.declared.KronReducer.{KronReducer}
 use Rattle.kron_reduction.specs.Reducer.{record_of}
-use Rattle.bytes.specs.Bytes.{word, words, of_words}
+use Rattle.number_bytes.specs.Bytes.{word, words, of_words}
 
 -- the bytes before the numbers
 abbrev pub front_bytes : ℕ

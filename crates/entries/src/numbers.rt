@@ -1,11 +1,11 @@
 // Bytes to numbers and back, little-endian: 8 bytes a number, 4 a bus number. Any NaN pattern is read; 7ff8000000000000 is written.
 // A length that does not fit is 2, and nothing is written.
 ghost use Rattle.std.specs.Prelude.{◌≡◌, ◌<◌, length};
-ghost use Rattle.bytes.specs.Bytes as in_bytes;
+ghost use Rattle.number_bytes.specs.Bytes as in_bytes;
 ghost use Rattle.entries.specs.Answers.{answer_after};
 ghost use Rattle.entries.specs.Numbers as spec;
 
-use bytes::{read_floats, read_halves, read_words, write_floats, write_halves, write_words};
+use number_bytes::{read_floats, read_halves, read_words, write_floats, write_halves, write_words};
 use refusals::WRONG_LENGTH;
 
 // 0 where so many bytes are those of so many numbers, `per` bytes each, else 2.

@@ -2,7 +2,7 @@
 ghost use Rattle.std.specs.Prelude.{◌≡◌, length};
 ghost use Rattle.entries.specs.Records as spec;
 
-use bytes::{put_word, read_halves, word_at, write_halves};
+use number_bytes::{put_word, read_halves, word_at, write_halves};
 use kron_reduction::KronReducer;
 use refusals::LIMIT;
 

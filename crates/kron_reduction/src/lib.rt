@@ -1,4 +1,5 @@
 // Kron reduction of a bus matrix that stands in a lent slice.
+#![tactic(auto)]
 ghost use Rattle.std.specs.Prelude.{◌≡◌, List, [], ◌++◌, ◌*◌, ◌-◌, ◌≤◌, ◌<◌, T, length, take, Float};
 ghost use Rattle.binary64.specs.Values.{all_finite, F64s};
 ghost use Rattle.complex.specs.Entries.{entry};
@@ -34,7 +35,7 @@ const ROW: usize = 2 * LIMIT;
 
 // The size at making, the present size, the active buses by their rows at making, rising, and the number of each row at making;
 // 0 in the places behind both. Only here a bus is a row: the calls and their answers, `active_buses` too, name it by number.
-#[derive(Drop)]
+#[derive(Clone, Copy)]
 pub struct KronReducer {
     pub made: usize,
     pub n_buses: usize,
@@ -42,34 +43,34 @@ pub struct KronReducer {
     pub numbers: [u32; LIMIT],
 }
 
-#[derive(Drop)]
+#[derive(Clone, Copy)]
 pub struct NewReducer {
     pub answer: Outcome,
     pub rec: KronReducer,
 }
 
 // What the removal of one bus answers, and the record after it.
-#[derive(Drop)]
+#[derive(Clone, Copy)]
 pub struct AfterRemoval {
     pub answer: Outcome,
     pub rec: KronReducer,
 }
 
 // What a list of removals answers: also how many were carried out.
-#[derive(Drop)]
+#[derive(Clone, Copy)]
 pub struct Removals {
     pub answer: Outcome,
     pub removed: usize,
 }
 
-#[derive(Drop)]
+#[derive(Clone, Copy)]
 pub struct AfterRemovals {
     pub removals: Removals,
     pub rec: KronReducer,
 }
 
 // The impedance between two buses.
-#[derive(Drop)]
+#[derive(Clone, Copy)]
 pub enum Impedance {
     Value(Complex),
     Refused(u32),

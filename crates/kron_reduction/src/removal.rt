@@ -17,7 +17,7 @@ use refusals::NOT_ACTIVE;
 use solver::rows::copy;
 
 // How a list of removals ended: the refusal that stopped it, or 0, and how many were carried out.
-#[derive(Drop)]
+#[derive(Clone, Copy)]
 pub struct Ran {
     pub stopped: u32,
     pub done: usize,

@@ -1,5 +1,6 @@
 // The program `reduce`: standard input is read until it ends or the buffer is full, and what `reduce_text` makes of it is written.
 // Bytes beyond the buffer cannot change the answer (reduce_text!Prefix `printed-prefix`). Where reading fails nothing is written.
+#![tactic(auto)]
 ghost use Rattle.std.specs.Prelude.{◌≡◌, length};
 ghost use Rattle.reduce_text.specs.Reduce.{input_length, output_length, matrix_length, printed};
 ghost use Rattle.reduce.specs.Inner.Moves.{Front};

@@ -3,7 +3,7 @@ ghost use Rattle.std.specs.Prelude.{length};
 ghost use Rattle.reduce.specs.Inner.Moves.{AtMost, All};
 
 // So many bytes were moved, or a call failed.
-#[derive(Drop)]
+#[derive(Clone, Copy)]
 pub enum Move {
     Bytes(usize),
     Failed,

@@ -1,4 +1,5 @@
 // The text of the program `reduce`: from the bytes that it reads to the bytes that it writes.
+#![tactic(auto)]
 ghost use Rattle.std.specs.Prelude.{◌≡◌};
 ghost use Rattle.reduce_text.specs.Reduce.{reduce_number, after_reduce};
 
@@ -22,7 +23,7 @@ pub const OUTPUT: usize = 8 + 15 * MOST + 34 * (MOST * MOST);
 pub const INPUT: usize = 9 + 11 * MOST + 34 * (MOST * MOST) + 16 * MOST + 34;
 
 // How many bytes were written, or refused with its number.
-#[derive(Drop)]
+#[derive(Clone, Copy)]
 pub enum Answer {
     Written(usize),
     Refused(u32),

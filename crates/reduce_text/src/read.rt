@@ -15,7 +15,7 @@ use refusals::{LIMIT, Outcome};
 use text_numbers::{Number, decimal};
 
 // How a run ends: what is left is kept, a drop is refused (its number, and the bus), or a line is bad (its place from 1).
-#[derive(Drop)]
+#[derive(Clone, Copy)]
 pub enum End {
     Kept,
     RefusedDrop(u32, u64),
@@ -23,21 +23,21 @@ pub enum End {
 }
 
 // The end, and the reducer's record as it is then.
-#[derive(Drop)]
+#[derive(Clone, Copy)]
 pub struct Reading {
     pub end: End,
     pub rec: KronReducer,
 }
 
 // Where the next line starts (its index in the input), or a line is bad (its place from 1).
-#[derive(Drop)]
+#[derive(Clone, Copy)]
 pub enum Next {
     At(usize),
     Bad(usize),
 }
 
 // The reducer of n buses that the lines up to the entries make. After a bad line there is none, and no bus.
-#[derive(Drop)]
+#[derive(Clone, Copy)]
 pub struct Start {
     pub next: Next,
     pub n: usize,
@@ -45,14 +45,14 @@ pub struct Start {
 }
 
 // Where the drops stop: before a line that is no drop, or the end (index and place), or at a refused one (its number, and the bus).
-#[derive(Drop)]
+#[derive(Clone, Copy)]
 pub enum Stop {
     Rest(usize, usize),
     Refusal(u32, u64),
 }
 
 // The stop, and the record as it is then.
-#[derive(Drop)]
+#[derive(Clone, Copy)]
 pub struct Dropped {
     pub stop: Stop,
     pub rec: KronReducer,

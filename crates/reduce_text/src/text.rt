@@ -8,7 +8,7 @@ use binary64::words::of_word;
 use text_numbers::{Number, decimal, hexadecimal};
 
 // What an entry line says: the bits of the real and of the imaginary part, or no entry.
-#[derive(Drop)]
+#[derive(Clone, Copy)]
 pub enum Entry {
     Words(u64, u64),
     NoEntry,

@@ -1,6 +1,6 @@
 -- Chains of refusals: the first test that holds gives the number. `search refusing` proves what a refusal function returns, whatever tests came
 -- before; `search products` that a product of lengths within the limit fits.
-use Rattle.prelude.proofs.Prelude.{◌≡◌, sym, ◌∙◌, Bool, true, false, not, ◌&&◌, ◌||◌, cond, ℕ, ◌+◌, ◌*◌, ◌≤◌, arith, needs, T, mul-le-mul, mul-le-mul_left, leb, leb→le, lt-ltb, le-ltb, eq-eqb, ne_eqb}
+use Rattle.prelude.proofs.Prelude.{◌≡◌, sym, ◌∙◌, Bool, true, false, not, ◌&&◌, ◌||◌, cond, ℕ, ◌+◌, ◌*◌, ◌≤◌, arith, rules, T, mul-le-mul, mul-le-mul_left, leb, leb→le, lt-ltb, le-ltb, eq-eqb, ne_eqb}
 use mir.Syntax.{w64}
 use mir.Val.{Fits}
 
@@ -60,4 +60,4 @@ product-fits a b x y h g t = let m = leb→le (x * y) 0xffff_ffff_ffff_ffff t in
 pub times-product-fits : (k a b x y : ℕ) → a ≤ x → b ≤ y → T (leb (k * (x * y)) 0xffff_ffff_ffff_ffff) → Fits w64 (k * (a * b))
 times-product-fits k a b x y h g t = let m = leb→le (k * (x * y)) 0xffff_ffff_ffff_ffff t in let n = mul-le-mul_left k (mul-le-mul h g) in omega arith
 
-pub ruleset products = (one_more, product-fits, times-product-fits, needs)
+pub ruleset products = (one_more, product-fits, times-product-fits, rules)

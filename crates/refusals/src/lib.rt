@@ -1,4 +1,6 @@
 // The refusals by number, the answers that carry them, allowances of row reductions, and the limit that every layer tests.
+#![tactic(auto)]
+
 ghost use Rattle.std.specs.Prelude.{◌≡◌};
 ghost use Rattle.refusals.specs.Refusals as spec;
 ghost use Rattle.refusals.specs.Work as work;
@@ -38,7 +40,7 @@ pub const GIVEN_NOT_FINITE: u32 = 19;
 pub const COMPUTED_NOT_FINITE: u32 = 20;
 
 // The answer of a call that returns no value: carried out, or refused with its number.
-#[derive(Drop)]
+#[derive(Clone, Copy)]
 pub enum Outcome {
     Done,
     Refused(u32),
@@ -55,14 +57,14 @@ pub fn number(answer: Outcome) -> u32
 }
 
 // How many row reductions a call may begin: as many as it takes, or this many.
-#[derive(Drop)]
+#[derive(Clone, Copy)]
 pub enum Allowance {
     Unlimited,
     Rows(usize),
 }
 
 // The answer of a call that reduces rows: carried out, with how many it reduced, or refused with its number.
-#[derive(Drop)]
+#[derive(Clone, Copy)]
 pub enum Counted {
     Reduced(usize),
     Refused(u32),

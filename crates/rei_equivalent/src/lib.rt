@@ -1,4 +1,5 @@
 // The REI equivalent of a set of generator and load buses.
+#![tactic(auto)]
 ghost use Rattle.std.specs.Prelude.{◌≡◌};
 ghost use Rattle.rei_equivalent.specs.Rei as spec;
 
@@ -16,7 +17,7 @@ mod spokes;
 mod ties;
 
 // The fictitious bus: voltage in per unit, the sum of the injections in MW and MVAr, and how many ties there are.
-#[derive(Drop)]
+#[derive(Clone, Copy)]
 pub struct ReiEquivalent {
     pub rei_bus_id: usize,
     pub rei_voltage_pu: f64,
@@ -26,7 +27,7 @@ pub struct ReiEquivalent {
 }
 
 // The equivalent, or the refusal's number.
-#[derive(Drop)]
+#[derive(Clone, Copy)]
 pub enum ReiAnswer {
     Done(ReiEquivalent),
     Refused(u32),

@@ -1,5 +1,6 @@
 // Roots compared with answers that the machine's own sqrt gave. Standard input has them: a line each, the bits of a number and of its root
 // as two words of 16 hexadecimal digits, and 7ff8000000000000 for a NaN (oracle/roots says how they were made). Prints how many agree.
+#![tactic(auto)]
 ghost use Rattle.std.specs.Prelude.{◌+◌, ◌≤◌, ◌<◌, length};
 
 const LINE: usize = 34;
@@ -38,7 +39,7 @@ fn pattern(x: f64) -> u64 {
     f64::to_bits(x)
 }
 
-#[derive(Drop)]
+#[derive(Clone, Copy)]
 struct Agreed {
     agree: u64,
     lines: u64,

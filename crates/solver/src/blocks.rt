@@ -11,7 +11,7 @@ use complex::Complex;
 use complex::entry::put;
 
 // A part of a slice.
-#[derive(Drop)]
+#[derive(Clone, Copy)]
 pub struct Span {
     pub start: usize,
     pub end: usize,

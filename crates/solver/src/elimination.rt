@@ -64,7 +64,7 @@ fn swap(work: &mut [f64], n: usize, w: usize, c: usize, p: usize, row: &mut [f64
 
 // How an elimination ends, or a part of it: done, with what is left of its allowance of row reductions, at a pivot that is too small,
 // before the row reduction that would exceed the allowance, or with a number that is not finite.
-#[derive(Drop)]
+#[derive(Clone, Copy)]
 pub enum Eliminated {
     Done(usize),
     Small,

@@ -1,4 +1,6 @@
 // The solution of a complex system, and the inverse of a complex matrix, by Gauss-Jordan elimination.
+#![tactic(auto)]
+
 ghost use Rattle.std.specs.Prelude.{◌≡◌};
 ghost use Rattle.solver.specs.Calls as spec;
 

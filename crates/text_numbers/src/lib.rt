@@ -1,11 +1,13 @@
 // Words: decimal numbers and hexadecimal words, read here and written in `print`.
+#![tactic(auto)]
+
 ghost use Rattle.std.specs.Prelude.{◌≡◌};
 ghost use Rattle.text_numbers.specs.Words as spec;
 
 pub mod print;
 
 // What a word says: a number, or not one.
-#[derive(Drop)]
+#[derive(Clone, Copy)]
 pub enum Number {
     Is(u64),
     Not,

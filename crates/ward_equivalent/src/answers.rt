@@ -4,7 +4,7 @@ ghost use Rattle.ward_equivalent.specs.Studied as studied;
 
 // Of a study: the size of the given matrix, how many buses the equivalent keeps, 1 less their quotient, or 0 where no bus is external, and
 // how many rows its solves reduced, one solve for each bus kept and one for the currents.
-#[derive(Drop)]
+#[derive(Clone, Copy)]
 pub struct WardSummary {
     pub n_buses_reduced: usize,
     pub n_buses_equivalent: usize,
@@ -12,7 +12,7 @@ pub struct WardSummary {
     pub rows_reduced: usize,
 }
 
-#[derive(Drop)]
+#[derive(Clone, Copy)]
 pub enum WardAnswer {
     Done(WardSummary),
     Refused(u32),

@@ -20,7 +20,7 @@ use refusals::LIMIT;
 use solver::rows::copy;
 
 // Over the ties of one boundary bus: the magnitudes, the deviations weighted with them, and the reactive power in MVAr.
-#[derive(Drop)]
+#[derive(Clone, Copy)]
 pub struct TieSums {
     pub weights: f64,
     pub weighted: f64,

@@ -6,7 +6,7 @@ ghost use Rattle.ward_equivalent.specs.Lengths as spec;
 use refusals::{LIMIT, LISTS_DIFFER, TOO_MANY, WRONG_LENGTH};
 
 // The size of a study, in buses, and the lengths of its lists and slices, in numbers: what is given, then what is written.
-#[derive(Drop)]
+#[derive(Clone, Copy)]
 pub struct Lengths {
     pub size: usize,
     pub given: usize,

@@ -31,7 +31,7 @@ use solver::elimination::{Eliminated, eliminate, is_done};
 
 // What a study's work comes to, before an output is written: carried out, with how many rows its solves reduce, in one elimination of all
 // right sides or apart; or refused.
-#[derive(Drop)]
+#[derive(Clone, Copy)]
 pub enum Decided {
     Together(usize),
     Apart(usize),
@@ -39,7 +39,7 @@ pub enum Decided {
 }
 
 // How one elimination for all right sides ends: with so many row reductions left, or it does not decide.
-#[derive(Drop)]
+#[derive(Clone, Copy)]
 pub enum Tried {
     Left(usize),
     Wild,

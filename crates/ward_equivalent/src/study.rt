@@ -58,7 +58,7 @@ fn ratio(r: usize, n: usize) -> f64
 
 // Where the work slice holds the solutions: X from number `start` on, in rows of v entries from column `first` on, and the currents' in
 // column c of the rows of w entries before number `end`.
-#[derive(Drop)]
+#[derive(Clone, Copy)]
 pub struct Held {
     pub start: usize,
     pub v: usize,

@@ -1,6 +1,6 @@
 -- `entries::records::copy` meets its contract. The invariant: the first i bytes are copied.
 use Rattle.prelude.proofs.Prelude.{◌≡◌, refl, sym, ◌∙◌, ℕ, ◌-◌, ◌≤◌, add-one, arith, needs, length, get_or, take, now, length-set, take_all, take-suc}
-use Rattle.bytes.proofs.BytesLaws.{filled_more}
+use Rattle.number_bytes.proofs.BytesLaws.{filled_more}
 use Rattle.entries.proofs.records.copy.Statement.{statement}
 use Rattle.entries.proofs.records.copy.Tie as tie
 

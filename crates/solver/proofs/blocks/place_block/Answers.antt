@@ -1,0 +1,16 @@
+-- `solver::blocks::place_block` meets its contract. The invariant: the rows before row i have the block, the others are as they were.
+use Rattle.prelude.proofs.Prelude.{◌∙◌, ℕ, ◌-◌, arith}
+use Rattle.solver.proofs.Passed.{rows_none, rows_more}
+use Rattle.solver.proofs.BlockParts.{placed_same}
+use Rattle.solver.proofs.blocks.place_block.Goals as goal
+
+pub loop-i-init : goal.loop-i-init
+loop-i-init c = (omega arith, c.requires.full, rows_none _ _ _)
+
+pub loop-i-preserved : goal.loop-i-preserved
+loop-i-preserved c =
+    let x = c.place_row in let l = c.loop-i in
+    (omega arith, x.auto.0 ∙ l.invariant.1, rows_more _ _ _ _ _ _ _ x.ensures (placed_same _ _ _ _ _ _ _ (l.invariant.2.ahead _ (omega arith))) l.invariant.2)
+
+pub returns : goal.returns
+returns c = λ (i j : ℕ) h k. c.loop-i.invariant.2.behind i (omega arith) j k

@@ -1,0 +1,16 @@
+-- `solver::blocks::take` meets its contract. The invariant: the rows before row i are copied, the others as they were.
+use Rattle.prelude.proofs.Prelude.{refl, ◌∙◌, ℕ, ◌-◌, arith}
+use Rattle.solver.proofs.Passed.{rows_none, rows_more}
+use Rattle.complex.proofs.Matrices.{grid-ext}
+use Rattle.solver.proofs.blocks.take.Goals as goal
+
+pub loop-i-init : goal.loop-i-init
+loop-i-init c = (omega arith, c.requires.whole, rows_none _ _ _)
+
+pub loop-i-preserved : goal.loop-i-preserved
+loop-i-preserved c =
+    let x = c.take_row in let l = c.loop-i in
+    (omega arith, x.auto.1.1.1.1.1.1.0 ∙ l.invariant.1, rows_more _ _ _ _ _ _ _ x.ensures (λ q h. refl) l.invariant.2)
+
+pub returns : goal.returns
+returns c = let l = c.loop-i in grid-ext _ _ _ l.to l.invariant.1 (λ (i j : ℕ) h k. l.invariant.2.behind i (omega arith) j k)

@@ -1,0 +1,18 @@
+-- `solver::solving::fill_identity` meets its contract.
+use Rattle.prelude.proofs.Prelude.{ap, ◌∙◌, cond, List, ℕ, ◌+◌, ◌<◌, eqb, length, Float}
+use Rattle.complex.specs.{Complex, unit, entry_at}
+use Rattle.solver.specs.Inner.Work.{placed, with_identity}
+use Rattle.solver.proofs.Solutions.{identity-filled}
+use Rattle.solver.proofs.solving.fill_identity.Goals as goal
+
+pub returns : goal.returns
+unfolding with_identity
+returns c =
+    let n = c.args.n in
+    let w = n + n in
+    let A = entry_at n c.args.mat.now in
+    λ (i j : ℕ) (h : i < n) (k : j < w).
+    c.place_ones.ensures i j h k
+    ∙ ap (λ (x : Complex). cond (eqb j (n + i)) unit x)
+    (c.place_block.ensures i j h k ∙ ap (λ (l : List Float). placed 0 n A (entry_at w l) i j) c.clear.ensures)
+    ∙ identity-filled n (length c.args.work.now) A c.requires.1 i j h k

@@ -1,0 +1,60 @@
+-- `solver::solving::solved` meets its contract.
+use Rattle.prelude.proofs.Prelude.{◌≡◌, Bool, true, sym, ap, ◌∙◌, cond, List, ℕ, ◌+◌, arith, rules, Float, not-true, not-false}
+use Rattle.complex.specs.{entry, Matrix, entry_at, grid, zeros}
+use Rattle.complex.proofs.FiniteEntries.{slice-entries}
+use Rattle.complex.proofs.Matrices.{grid-same}
+use Rattle.solver.specs.Solving.{solve}
+use Rattle.solver.specs.Steps.{steps_of_solve}
+use Rattle.solver.specs.Inner.Work.{is_done, Ended, right_sides}
+use Rattle.solver.proofs.Told.{done-left}
+use Rattle.solver.proofs.Solutions.{ended_is, solution-is, filled-finite, side-finite}
+use Rattle.solver.proofs.solving.solved.Goals.{After-eliminate-end, Start}
+use Rattle.solver.proofs.solving.solved.Goals as goal
+
+pub eliminate-end-requires : goal.eliminate-end-requires
+eliminate-end-requires c =
+    let f = c.fill_system in let a = c.args in (
+      omega arith,
+      omega (arith, c.requires.0),
+      search rules,
+      filled-finite a.n 1 (entry_at a.n a.a.now) (λ (r k : ℕ). entry a.b.now r) _ f.ensures (search rules)
+          (slice-entries a.n a.n a.a.now c.requires.2 c.requires.5) (side-finite a.n a.b.now c.requires.3 c.requires.6),
+    )
+
+-- the slice is filled and eliminated
+module _ (c : After-eliminate-end) where
+  abbrev start : Start
+  start = c.before.before.before.before.before.before.before.before.before.before
+
+  abbrev A : Matrix
+  A = entry_at start.args.n start.args.a.now
+
+  abbrev solution : List Float
+  solution = grid start.args.n 1 (λ (i k : ℕ). solve start.args.n A (entry start.args.b.now) i)
+
+  told : Ended start.args.allowed c.eliminate-end.result (steps_of_solve start.args.n A (entry start.args.b.now))
+  unfolding steps_of_solve
+  told = ended_is start.args.n 1 A (λ (r k : ℕ). entry start.args.b.now r) _ c.fill_system.ensures _ _ c.eliminate-end.new.work c.eliminate-end.ensures
+
+  read : is_done c.eliminate-end.result ≡ true → grid start.args.n 1 (right_sides start.args.n (entry_at (start.args.n + 1) c.eliminate-end.new.work)) ≡ solution
+  read d =
+      let (left, e) = done-left c.eliminate-end.result d in
+      grid-same start.args.n 1 _ _
+      (λ (i j : ℕ) h k. solution-is start.args.n 1 A (λ (r k : ℕ). entry start.args.b.now r) _ c.fill_system.ensures _ _ _ c.eliminate-end.ensures left e i j h k)
+
+pub returns-then-not-is_done : goal.returns-then-not-is_done
+returns-then-not-is_done c =
+    let g = c.before.before.before.before.before.before.before.before in let d = c.is_done in (
+      told g,
+      sym (ap (λ (t : Bool). cond t (solution g) (start g).args.x.now) (sym d.ensures ∙ not-true _ c.if-not-is_done.true)),
+      c.clear.ensures ∙ ap zeros (g.eliminate-end.auto.work ∙ g.fill_system.auto.work),
+    )
+
+pub returns : goal.returns
+returns c =
+    let g = c.before.before.before.before.before.before.before.before.before.before.before.before.before in let d = c.is_done in
+    let done : is_done g.eliminate-end.result ≡ true = sym d.ensures ∙ not-false _ c.if-not-is_done.false in (
+      told g,
+      c.take.ensures ∙ read g done ∙ sym (ap (λ (t : Bool). cond t (solution g) (start g).args.x.now) done),
+      c.clear-2.ensures ∙ ap zeros (g.eliminate-end.auto.work ∙ g.fill_system.auto.work),
+    )
