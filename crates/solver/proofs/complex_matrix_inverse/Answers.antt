@@ -10,8 +10,7 @@ use Rattle.solver.proofs.complex_matrix_inverse.Goals as goal
 pub returns-then-told-ne0 : goal.returns-then-told-ne0
 unfolding after_inverse after_elimination
 returns-then-told-ne0 c =
-    let n = c.if-told-ne0.true in
-    rw (← c.inverse_refusal-told.ensures, work-told _ _ _ n, ne_eqb _ 0 n) (outcome-refused _ _ refl n, refl, refl)
+    rw (← c.inverse_refusal-told.ensures, work-told _ _ _ c.if-told-ne0.true, ne_eqb _ 0 c.if-told-ne0.true) (outcome-refused _ _ refl c.if-told-ne0.true, refl, refl)
 
 pub inverted-met-requires : goal.inverted-met-requires
 inverted-met-requires c =
@@ -21,13 +20,11 @@ inverted-met-requires c =
 pub returns-then-met-ne0 : goal.returns-then-met-ne0
 unfolding after_inverse after_elimination
 returns-then-met-ne0 c =
-    let e = c.inverted-met.ensures in
     let told = sym c.inverse_refusal-told.ensures ∙ c.if-told-ne0.false in
-    rw (work-met _ _ _ told, told, ← e.0) (outcome-refused _ _ refl c.if-met-ne0.true, e.1, e.2)
+    rw (work-met _ _ _ told, told, ← c.inverted-met.ensures.0) (outcome-refused _ _ refl c.if-met-ne0.true, c.inverted-met.ensures.1, c.inverted-met.ensures.2)
 
 pub returns : goal.returns
 unfolding after_inverse after_elimination outcome
 returns c =
-    let e = c.inverted-met.ensures in
     let told = sym c.inverse_refusal-told.ensures ∙ c.if-told-ne0.false in
-    rw (work-met _ _ _ told, told, ← e.0) (rw c.if-met-ne0.false refl, e.1, e.2)
+    rw (work-met _ _ _ told, told, ← c.inverted-met.ensures.0) (rw c.if-met-ne0.false refl, c.inverted-met.ensures.1, c.inverted-met.ensures.2)

@@ -20,8 +20,7 @@ use Rattle.solver.proofs.solve_linear.Goals as goal
 pub returns-then-told-ne0 : goal.returns-then-told-ne0
 unfolding after_solve after_elimination
 returns-then-told-ne0 c =
-    let n = c.if-told-ne0.true in
-    rw (← c.solve_refusal-told.ensures, work-told _ _ _ n, ne_eqb _ 0 n) (counted-refused _ _ _ refl n, refl, refl)
+    rw (← c.solve_refusal-told.ensures, work-told _ _ _ c.if-told-ne0.true, ne_eqb _ 0 c.if-told-ne0.true) (counted-refused _ _ _ refl c.if-told-ne0.true, refl, refl)
 
 pub solved-requires : goal.solved-requires
 solved-requires c =
@@ -32,13 +31,13 @@ solved-requires c =
 -- the system is solved, or not
 module _ (c : After-solved) where
   abbrev test : Else-told-ne0
-  test = c.before.before.before.before
+  test = (goal.at.After-solved c).Else-told-ne0
 
   abbrev start : Start
-  start = test.before.before.before.before.before.before
+  start = (goal.at.Else-told-ne0 test).Start
 
   accepted : solve_refusal start.args.n start.args.a.now start.args.b.now (length start.args.x.now) (length start.args.work.now) ≡ 0
-  accepted = sym test.solve_refusal-told.ensures ∙ test.if-told-ne0.left-1
+  accepted = sym test.solve_refusal-told.ensures ∙ test.if-told-ne0.false
 
   abbrev count : ℕ
   count = reductions (steps_of_solve start.args.n (entry_at start.args.n start.args.a.now) (entry start.args.b.now))
@@ -49,10 +48,10 @@ module _ (c : After-solved) where
   -- what the call answers and leaves, by how the elimination ended
   after : (end : Eliminated) → c.solved.result ≡ end → (answer : Counted) → answer ≡ counted count (number_of end)
       → let r = after_solve start.args.n start.args.a.now start.args.b.now start.args.allowance start.args.x.now start.args.work.now in
-      (answer ≡ r.answer) × (c.solved.new.work.1.1.1.0 ≡ r.output) × (c.solved.new.work.1.1.1.1.0 ≡ r.work-1)
+      (answer ≡ r.answer) × (c.solved.new.x ≡ r.output) × (c.solved.new.work ≡ r.work)
   after end e answer a =
       let r = solve-after start.args.n start.args.a.now start.args.b.now start.args.allowance start.args.x.now start.args.work.now accepted (solve-accepted _ _ _ _ _ accepted).shape.size c.solved.result ended in
-      (a ∙ ap (λ (x : Eliminated). counted count (number_of x)) (sym e) ∙ sym (ap (λ (x : AfterElimination Counted). x.answer) r), c.solved.ensures.1 ∙ sym (ap (λ (x : AfterElimination Counted). x.output) r), c.solved.ensures.2 ∙ sym (ap (λ (x : AfterElimination Counted). x.work-1) r))
+      (a ∙ ap (λ (x : Eliminated). counted count (number_of x)) (sym e) ∙ sym (ap (λ (x : AfterElimination Counted). x.answer) r), c.solved.ensures.1 ∙ sym (ap (λ (x : AfterElimination Counted). x.output) r), c.solved.ensures.2 ∙ sym (ap (λ (x : AfterElimination Counted). x.work) r))
 
   -- what is left of the allowance
   spent : (left : ℕ) → c.solved.result ≡ Done left → count + left ≡ c.allowed_rows-allowed.result
@@ -60,19 +59,19 @@ module _ (c : After-solved) where
 
 pub returns-in-Done : goal.returns-in-Done
 unfolding counted number_of
-returns-in-Done c = let x = c.before.before.before.before.before.before.before in let e = c.in-Done.is in let t = spent x _ e in after x _ e _ (ap Reduced (omega arith))
+returns-in-Done c = let t = spent (goal.at.returns-in-Done c).After-solved _ c.in-Done.is in after (goal.at.returns-in-Done c).After-solved _ c.in-Done.is _ (ap Reduced (omega arith))
 
 pub returns-in-Small : goal.returns-in-Small
 unfolding counted number_of
-returns-in-Small c = after c.before.before.before.before.before.before _ c.in-Small.is _ refl
+returns-in-Small c = after (goal.at.returns-in-Small c).After-solved _ c.in-Small.is _ refl
 
 pub returns-in-Exceeded : goal.returns-in-Exceeded
 unfolding counted number_of
-returns-in-Exceeded c = after c.before.before.before.before.before.before _ c.in-Exceeded.is _ refl
+returns-in-Exceeded c = after (goal.at.returns-in-Exceeded c).After-solved _ c.in-Exceeded.is _ refl
 
 pub returns-in-NotFinite : goal.returns-in-NotFinite
 unfolding counted number_of
-returns-in-NotFinite c = after c.before.before.before.before.before.before _ c.in-NotFinite.is _ refl
+returns-in-NotFinite c = after (goal.at.returns-in-NotFinite c).After-solved _ c.in-NotFinite.is _ refl
 
 pub overflow_sub-result : goal.overflow_sub-result
-overflow_sub-result c = let x = c.before.before.before.before.before.before.before in let t = spent x _ c.in-Done.is in omega arith
+overflow_sub-result c = let t = spent (goal.at.overflow_sub-result c).After-solved _ c.in-Done.is in omega arith

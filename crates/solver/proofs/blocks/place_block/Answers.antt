@@ -9,8 +9,7 @@ loop-i-init c = (omega arith, c.requires.full, rows_none _ _ _)
 
 pub loop-i-preserved : goal.loop-i-preserved
 loop-i-preserved c =
-    let x = c.place_row in let l = c.loop-i in
-    (omega arith, x.auto.0 ∙ l.invariant.1, rows_more _ _ _ _ _ _ _ x.ensures (placed_same _ _ _ _ _ _ _ (l.invariant.2.ahead _ (omega arith))) l.invariant.2)
+    (omega arith, c.place_row.auto.work ∙ c.loop-i.invariant.1, rows_more _ _ _ _ _ _ _ c.place_row.ensures (placed_same _ _ _ _ _ _ _ (c.loop-i.invariant.2.ahead _ (omega arith))) c.loop-i.invariant.2)
 
 pub returns : goal.returns
 returns c = λ (i j : ℕ) h k. c.loop-i.invariant.2.behind i (omega arith) j k

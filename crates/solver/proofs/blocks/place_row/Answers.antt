@@ -7,6 +7,5 @@ use Rattle.solver.proofs.blocks.place_row.Goals as goal
 
 pub returns : goal.returns
 returns c =
-    let x = c.copy in let a = c.args in
-    block_written c.span_of-start.ensures a.work-1.now x.new.1.0 c.requires.0.full x.auto.1.0 (entry_at a.m a.from.now)
-    (λ (j : ℕ) (h : j < a.m). ap (λ (zs : List Float). entry zs j) x.ensures ∙ row_read c.Span-of.ensures a.from.now j h)
+    block_written c.span_of-start.ensures c.args.work.now c.copy.new.to c.requires.0.full c.copy.auto.to (entry_at c.args.m c.args.from.now)
+    (λ (j : ℕ) (h : j < c.args.m). ap (λ (zs : List Float). entry zs j) c.copy.ensures ∙ row_read c.span_of-a.ensures c.args.from.now j h)

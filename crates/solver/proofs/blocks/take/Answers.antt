@@ -9,8 +9,7 @@ loop-i-init c = (omega arith, c.requires.whole, rows_none _ _ _)
 
 pub loop-i-preserved : goal.loop-i-preserved
 loop-i-preserved c =
-    let x = c.take_row in let l = c.loop-i in
-    (omega arith, x.auto.1.1.1.1.1.1.0 ∙ l.invariant.1, rows_more _ _ _ _ _ _ _ x.ensures (λ q h. refl) l.invariant.2)
+    (omega arith, c.take_row.auto.to ∙ c.loop-i.invariant.1, rows_more _ _ _ _ _ _ _ c.take_row.ensures (λ q h. refl) c.loop-i.invariant.2)
 
 pub returns : goal.returns
-returns c = let l = c.loop-i in grid-ext _ _ _ l.to l.invariant.1 (λ (i j : ℕ) h k. l.invariant.2.behind i (omega arith) j k)
+returns c = grid-ext _ _ _ c.loop-i.to c.loop-i.invariant.1 (λ (i j : ℕ) h k. c.loop-i.invariant.2.behind i (omega arith) j k)

@@ -8,6 +8,5 @@ use Rattle.solver.proofs.blocks.take_row.Goals as goal
 
 pub returns : goal.returns
 returns c =
-    let x = c.copy in let a = c.args in
-    row_written c.Span-of.ensures a.to-1.now x.new.1.0 c.requires.0.whole x.auto.1.0 (right_sides a.at (entry_at a.w a.work.now) a.i)
-    (λ (j : ℕ) (h : j < a.m). ap (λ (zs : List Float). entry zs j) x.ensures ∙ block_read c.span_of-start.ensures a.work.now j h)
+    row_written c.span_of-a.ensures c.args.to.now c.copy.new.to c.requires.0.whole c.copy.auto.to (right_sides c.args.at (entry_at c.args.w c.args.work.now) c.args.i)
+    (λ (j : ℕ) (h : j < c.args.m). ap (λ (zs : List Float). entry zs j) c.copy.ensures ∙ block_read c.span_of-start.ensures c.args.work.now j h)

@@ -19,7 +19,7 @@ use Rattle.solver.proofs.elimination.clear_column.Goals as goal
 -- the pivot is inverted, or not
 module _ (c : After-complex_inv) where
   abbrev start : Start
-  start = c.before.before.before.before.before
+  start = (goal.at.After-complex_inv c).Start
 
   abbrev A : Matrix
   A = entry_at start.args.w start.args.work.now
@@ -30,44 +30,40 @@ module _ (c : After-complex_inv) where
 pub returns-in_default : goal.returns-in_default
 unfolding inverse quotient is_done number_of
 returns-in_default c =
-    let v = c.before.before in let a = (start v).args in
-    let lost = pair-tells-not _ _ (sym c.in_default.is ∙ v.complex_inv.ensures) in
-    (clearing-not-finite a.n a.w a.c a.allowed a.work-1.now (subst (λ (x : Complex). all_finite (of_quotient unit x) ≡ false) (pivot v) lost), λ left e. absurd (not_done refl e), λ e. not-small refl e)
+    let lost = pair-tells-not _ _ (sym c.in_default.is ∙ c.complex_inv.ensures) in
+    (clearing-not-finite (start (goal.at.returns-in_default c).After-complex_inv).args.n (start (goal.at.returns-in_default c).After-complex_inv).args.w (start (goal.at.returns-in_default c).After-complex_inv).args.c (start (goal.at.returns-in_default c).After-complex_inv).args.allowed (start (goal.at.returns-in_default c).After-complex_inv).args.work.now (subst (λ (x : Complex). all_finite (of_quotient unit x) ≡ false) (pivot (goal.at.returns-in_default c).After-complex_inv) lost), λ left e. absurd (not_done refl e), λ e. not-small refl e)
 
 -- row c is scaled, in its place and in `row`
 module _ (c : After-scale) where
   abbrev inverted : After-complex_inv
-  inverted = c.before.before.before.before.before.before.before
+  inverted = (goal.at.After-scale c).After-complex_inv
 
   abbrev spanned : After-span_of-start
-  spanned = c.before.before.before
-
+  spanned = (goal.at.After-scale c).After-span_of-start
   -- the slice then
   abbrev now : List Float
-  now = back spanned.Span-of.result.start (spanned.Span-of.result.end - spanned.Span-of.result.start) (start inverted).args.work.now c.scale.new.to.1.1.0
+  now = back spanned.span_of-start.result.start (spanned.span_of-start.result.end - spanned.span_of-start.result.start) (start inverted).args.work.now c.scale.new.to
 
   put : (i j : ℕ) → j < (start inverted).args.w
-      → entry_at (start inverted).args.w i.now j ≡ with_row (start inverted).args.c (entry c.scale.new.row) (A inverted) i j
-  put = row_written spanned.Span-of.ensures (start inverted).args.work.now c.scale.new.to.1.1.0 (start inverted).pre.0.full c.scale.auto.1.1.1.0
+      → entry_at (start inverted).args.w now i j ≡ with_row (start inverted).args.c (entry c.scale.new.row) (A inverted) i j
+  put = row_written spanned.span_of-start.ensures (start inverted).args.work.now c.scale.new.to (start inverted).requires.0.full c.scale.auto.to
       (entry c.scale.new.row) c.scale.ensures.2
 
 pub reduce_others-requires : goal.reduce_others-requires
 reduce_others-requires c =
-    let x = c.before.before.before.before.before.before in let s = start (inverted x) in let a = s.args in
-    (record { wide = s.requires.0.wide; full = search rules }, s.requires.1, x.scale.ensures.0, row_put a.w a.c (entry x.scale.new.row) (A (inverted x)) _ (put x))
+    let s = start (inverted (goal.at.reduce_others-requires c).After-scale) in (record { wide = s.requires.0.wide; full = search rules }, s.requires.1, c.scale.ensures.0, row_put s.args.w s.args.c (entry c.scale.new.row) (A (inverted (goal.at.reduce_others-requires c).After-scale)) _ (put (goal.at.reduce_others-requires c).After-scale))
 
 pub returns : goal.returns
 unfolding cleared inverse quotient complex_inv
 returns c =
-    let o = c.reduce_others in let x = c.before.before.before.before.before.before.before.before.before in let v = inverted x in let s = start v in let a = s.args in let B = A v in
-    let sp = (spanned x).Span-of.result in
-    let wide : a.n ≤ a.w = s.requires.0.wide in
-    let here : a.c < a.n = s.requires.1 in
+    let v = inverted (goal.at.returns c).After-scale in let s = start v in let B = A v in
+    let wide : s.args.n ≤ s.args.w = s.requires.0.wide in
+    let here : s.args.c < s.args.n = s.requires.1 in
     let told = pair-tells _ _ _ (sym c.in-Finite.is ∙ v.complex_inv.ensures) in
-    let same : (r q : ℕ) → q < a.w → _ ≡ scaled operations a.c B r q
-    = λ r q z. scaled-is a.w a.c (entry a.row-1.now) (entry x.scale.new.row) B _ v.get.result _ (omega arith) s.requires.3 v.get.ensures told.1 x.scale.ensures.1 (put x) r q z in
+    let same : (r q : ℕ) → q < s.args.w → _ ≡ scaled operations s.args.c B r q
+    = λ r q z. scaled-is s.args.w s.args.c (entry s.args.row.now) (entry c.scale.new.row) B _ v.get.result _ (omega arith) s.requires.3 v.get.ensures told.1 c.scale.ensures.1 (put (goal.at.returns c).After-scale) r q z in
     let finite = subst (λ (y : Complex). all_finite (of_quotient unit y) ≡ true) (pivot v) told.0 in (
-      clearing-told a.n a.w a.c a.allowed a.work-1.now wide here s.requires.0.full finite _ (same_len_mid sp.start (sp.end - sp.start) a.work-1.now x.scale.new.to.1.1.0 x.scale.auto.1.1.1.0 ∙ s.requires.0.full) same _ _ o.ensures.0,
-      λ left e i j h k. o.ensures.1 left e i j h k ∙ reduced-same operations a.n a.w wide _ (scaled operations a.c B) (λ r q y z. same r q z) a.c here i j h k,
-      o.ensures.2,
+      clearing-told s.args.n s.args.w s.args.c s.args.allowed s.args.work.now wide here s.requires.0.full finite _ (same_len_mid (spanned (goal.at.returns c).After-scale).span_of-start.result.start ((spanned (goal.at.returns c).After-scale).span_of-start.result.end - (spanned (goal.at.returns c).After-scale).span_of-start.result.start) s.args.work.now c.scale.new.to c.scale.auto.to ∙ s.requires.0.full) same _ _ c.reduce_others.ensures.0,
+      λ left e i j h k. c.reduce_others.ensures.1 left e i j h k ∙ reduced-same operations s.args.n s.args.w wide _ (scaled operations s.args.c B) (λ r q y z. same r q z) s.args.c here i j h k,
+      c.reduce_others.ensures.2,
     )

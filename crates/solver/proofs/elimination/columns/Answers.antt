@@ -25,7 +25,7 @@ returns-in-NotFinite c =
 pub loop-c-preserved : goal.loop-c-preserved
 loop-c-preserved c =
     running-next _ _ _ _ _ _ _ _ c.loop-c.invariant c.column.result c.column.new.work c.loop-c-test.true c.column.ensures c.column.auto.work
-    c.requires.0.wide _ c.column.auto.1.1.1.1.0 _ c.in-Done.is
+    c.requires.0.wide _ c.column.auto.row _ c.in-Done.is
 
 pub returns : goal.returns
 returns c = running-end _ _ _ _ _ _ _ _ c.loop-c.invariant c.loop-c-test.false

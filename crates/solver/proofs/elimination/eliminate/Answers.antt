@@ -8,20 +8,18 @@ use Rattle.solver.proofs.elimination.eliminate.Goals as goal
 -- the columns have had their turn, and the slice is looked at
 module _ (c : After-all_finite) where
   abbrev run : After-columns-end
-  run = c.before.before.before.before.before
+  run = (goal.at.After-all_finite c).After-columns-end
 
   abbrev start : Start
-  start = run.before.before.before.before
+  start = (goal.at.After-columns-end run).Start
 
-  found : (b : Bool) → c.all_finite.result ≡ b → all_finite run.columns-end.last.0 ≡ b
+  found : (b : Bool) → c.all_finite.result ≡ b → all_finite run.columns-end.new.work ≡ b
   found b e = sym c.all_finite.ensures ∙ e
 
 pub returns-then-all_finite : goal.returns-then-all_finite
 returns-then-all_finite c =
-    let a = c.before in let x = (run a).columns in
-    met-finite _ _ _ _ _ _ x.ensures x.kept.0 (subst T (sym (found a true c.if-all_finite.true)) tt)
+    met-finite _ _ _ _ _ _ (run (goal.at.returns-then-all_finite c).After-all_finite).columns-end.ensures (run (goal.at.returns-then-all_finite c).After-all_finite).columns-end.auto.work (subst T (sym (found (goal.at.returns-then-all_finite c).After-all_finite true c.if-all_finite.true)) tt)
 
 pub returns : goal.returns
 returns c =
-    let a = c.before in let x = (run a).columns in
-    met-lost _ _ _ _ _ _ x.ensures x.kept.0 (start a).requires.3 (found a false c.if-all_finite.false)
+    met-lost _ _ _ _ _ _ (run (goal.at.returns c).After-all_finite).columns-end.ensures (run (goal.at.returns c).After-all_finite).columns-end.auto.work (start (goal.at.returns c).After-all_finite).requires.3 (found (goal.at.returns c).After-all_finite false c.if-all_finite.false)

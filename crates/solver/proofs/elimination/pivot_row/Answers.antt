@@ -7,20 +7,17 @@ use Rattle.solver.proofs.elimination.pivot_row.Goals as goal
 
 pub loop-next-init : goal.loop-next-init
 loop-next-init c =
-    let a = c.args in
-    (c.requires.1, omega arith, held_first operations a.n (entry_at a.w a.work.now) a.c)
+    (c.requires.1, omega arith, held_first operations c.args.n (entry_at c.args.w c.args.work.now) c.args.c)
 
 pub loop-next-preserved : goal.loop-next-preserved
 loop-next-preserved c =
-    let l = c.loop-next in let a = c.args in
-    let A = entry_at a.w a.work.now in
-    let more : l.next < a.n = omega arith in (
-      kept-below operations A a.c a.n l.held l.next c.stronger-held.result l.invariant.0 more c.stronger-held.ensures,
+    let A = entry_at c.args.w c.args.work.now in
+    let more : c.loop-next.next < c.args.n = omega arith in (
+      kept-below operations A c.args.c c.args.n c.loop-next.held c.loop-next.next c.stronger-held.result c.loop-next.invariant.0 more c.stronger-held.ensures,
       omega arith,
-      held_next operations A a.c a.n l.held l.next c.stronger-held.result more c.stronger-held.ensures ∙ l.invariant.2,
+      held_next operations A c.args.c c.args.n c.loop-next.held c.loop-next.next c.stronger-held.result more c.stronger-held.ensures ∙ c.loop-next.invariant.2,
     )
 
 pub returns : goal.returns
 returns c =
-    let l = c.loop-next in let a = c.args in
-    (held-last operations (entry_at a.w a.work.now) a.c a.n l.held l.next c.if-next-n.true ∙ l.invariant.2, l.invariant.0)
+    (held-last operations (entry_at c.args.w c.args.work.now) c.args.c c.args.n c.loop-next.held c.loop-next.next c.if-next-n.true ∙ c.loop-next.invariant.2, c.loop-next.invariant.0)

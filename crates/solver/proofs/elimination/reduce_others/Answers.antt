@@ -5,31 +5,30 @@ use Rattle.complex.proofs.Matrices.{row_within}
 use Rattle.solver.specs.Inner.Work.{is_done, number_of}
 use Rattle.solver.proofs.Told.{not_done, not-small}
 use Rattle.solver.proofs.RowTurns.{Reducing, reducing-first, reducing-same, reducing-alone, reducing-more, reducing-exceeded, reducing-end}
-use Rattle.solver.proofs.elimination.reduce_others.Goals.{After-left_alone, Joined-not-left_alone, Start}
+use Rattle.solver.proofs.elimination.reduce_others.Goals.{then-not-left_alone+else-left-eq0, else-not-left_alone, After-left_alone, Joined-not-left_alone, Start}
 use Rattle.solver.proofs.elimination.reduce_others.Goals as goal
 
 -- a row's turn
 module _ (c : After-left_alone) where
   abbrev start : Start
-  start = c.before.before.before.before.before.before
+  start = (goal.at.After-left_alone c).Start
 
   here : start.args.c < start.args.w
   here = omega (arith, start.requires.1, start.requires.0.wide)
 
 pub returns-then-left-eq0 : goal.returns-then-left-eq0
 unfolding is_done number_of
-returns-then-left-eq0 c =
-    let t = c.before.before in (
-      reducing-exceeded _ _ _ _ _ _ _ _ t.loop-i.invariant.0 (here t) t.loop-i-test.true
-          (sym t.left_alone.ensures ∙ not-true _ c.if-not-left_alone.true) c.if-left-eq0.true,
-      λ left e. absurd (not_done refl e),
-      λ e. not-small refl e,
-    )
+returns-then-left-eq0 c = (
+  reducing-exceeded _ _ _ _ _ _ _ _ c.loop-i.invariant.0 (here (goal.at.returns-then-left-eq0 c).After-left_alone) c.loop-i-test.true
+      (sym c.left_alone.ensures ∙ c.if-not-left_alone.true) c.if-left-eq0.true,
+  λ left e. absurd (not_done refl e),
+  λ e. not-small refl e,
+)
 
 -- row i done, the next row's factor is w places on
 module _ (c : Joined-not-left_alone) where
   abbrev turn : After-left_alone
-  turn = c.before
+  turn = (goal.at.Joined-not-left_alone c).After-left_alone
 
   abbrev row : ℕ
   row = turn.loop-i.i
@@ -37,23 +36,21 @@ module _ (c : Joined-not-left_alone) where
   next : row * (start turn).args.w + (start turn).args.c + (start turn).args.w ≡ (row + 1) * (start turn).args.w + (start turn).args.c
   next = let one : (row + 1) * (start turn).args.w ≡ row * (start turn).args.w + (start turn).args.w = ap (λ (k : ℕ). k * (start turn).args.w) (add-one row) ∙ suc-mul row (start turn).args.w in omega arith
 
-  reduced : Reducing (start turn).args.n (start turn).args.w (start turn).args.c (start turn).args.allowed c.if-not-left_alone.left (row + 1) (start turn).args.work.now c.if-not-left_alone.work-1
+  reduced : Reducing (start turn).args.n (start turn).args.w (start turn).args.c (start turn).args.allowed c.if-not-left_alone.left (row + 1) (start turn).args.work.now c.if-not-left_alone.work
   reduced =
-      let l = turn.loop-i in
       elim c.if-not-left_alone.branch [
-        | inl x ↦ reducing-same _ _ _ _ x.6 x.7 (reducing-more _ _ _ _ _ _ _ _ l.inv.0 (here turn) turn.loop-i-test.true
-            (sym turn.left_alone.ensures ∙ not-true _ x.0.true) x.1.left _ x.3.last.0 (start turn).pre.3 x.3.kept.0 x.3.ensures)
-        | inr x ↦ reducing-same _ _ _ _ x.1 x.2 (reducing-alone _ _ _ _ _ _ _ _ l.inv.0 (here turn) turn.loop-i-test.true
-            (sym turn.left_alone.ensures ∙ not-false _ x.0.left))
+        | then-not-left_alone+else-left-eq0 x ↦ reducing-same _ _ _ _ x.work-is x.left-is (reducing-more _ _ _ _ _ _ _ _ turn.loop-i.invariant.0 (here turn) turn.loop-i-test.true
+            (sym turn.left_alone.ensures ∙ x.if-not-left_alone.true) x.if-left-eq0.false _ x.reduce_row.new.work (start turn).requires.3 x.reduce_row.auto.work x.reduce_row.ensures)
+        | else-not-left_alone x ↦ reducing-same _ _ _ _ x.work-is x.left-is (reducing-alone _ _ _ _ _ _ _ _ turn.loop-i.invariant.0 (here turn) turn.loop-i-test.true
+            (sym turn.left_alone.ensures ∙ x.if-not-left_alone.false))
       ]
 
   -- which is within twice the slice
   far : turn.loop-i.at + (start turn).args.w < length (start turn).args.work.now + 1
   far =
-      let l = turn.loop-i in
       let s = start turn in
       let inside = row_within s.args.n s.args.w row turn.loop-i-test.true in
-      omega (arith, l.inv.1, s.requires.0.full, s.requires.0.wide, s.requires.1)
+      omega (arith, turn.loop-i.invariant.1, s.requires.0.full, s.requires.0.wide, s.requires.1)
 
 pub returns : goal.returns
 unfolding number_of

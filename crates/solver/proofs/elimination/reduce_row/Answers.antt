@@ -11,6 +11,5 @@ get-factor-requires c =
 pub returns : goal.returns
 unfolding entry_at
 returns c =
-    let x = c.subtract in let a = c.args in
-    row-reduced c.Span-of.ensures a.c a.pivot.now a.work-1.now x.new.0 c.get-factor.result c.requires.0.full x.auto.0
-    (c.get-factor.ensures ∙ ap (entry a.work-1.now) c.requires.4) x.ensures
+    row-reduced c.span_of-start.ensures c.args.c c.args.pivot.now c.args.work.now c.subtract.new.row c.get-factor.result c.requires.0.full c.subtract.auto.row
+    (c.get-factor.ensures ∙ ap (entry c.args.work.now) c.requires.4) c.subtract.ensures

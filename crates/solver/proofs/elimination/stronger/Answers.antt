@@ -15,10 +15,10 @@ inside : (s : Start) (i : ℕ) → i < s.args.n → 2 * (i * s.args.w + s.args.c
 inside s i h = entry-inside s.requires.0 h s.requires.1
 
 pub get-requires : goal.get-requires
-get-requires c = inside c.before _ c.requires.2
+get-requires c = inside (goal.at.get-requires c).Start _ c.requires.2
 
 pub get-requires-2 : goal.get-requires-2
-get-requires-2 c = inside c.before.before.before _ c.requires.3
+get-requires-2 c = inside (goal.at.get-requires-2 c).Start _ c.requires.3
 
 pub returns-then-h-x : goal.returns-then-h-x
 unfolding entry_at
@@ -37,13 +37,13 @@ returns-else-h-x c =
     c.if-h-x.false
 
 pub overflow_mul-held : goal.overflow_mul-held
-overflow_mul-held c = omega (arith, inside c.before _ c.requires.2)
+overflow_mul-held c = omega (arith, inside (goal.at.overflow_mul-held c).Start _ c.requires.2)
 
 pub overflow_add-held : goal.overflow_add-held
-overflow_add-held c = omega (arith, inside c.before _ c.requires.2)
+overflow_add-held c = omega (arith, inside (goal.at.overflow_add-held c).Start _ c.requires.2)
 
 pub overflow_mul-next : goal.overflow_mul-next
-overflow_mul-next c = omega (arith, inside c.before.before.before _ c.requires.3)
+overflow_mul-next c = omega (arith, inside (goal.at.overflow_mul-next c).Start _ c.requires.3)
 
 pub overflow_add-next : goal.overflow_add-next
-overflow_add-next c = omega (arith, inside c.before.before.before _ c.requires.3)
+overflow_add-next c = omega (arith, inside (goal.at.overflow_add-next c).Start _ c.requires.3)

@@ -8,18 +8,14 @@ use Rattle.solver.proofs.elimination.swap.Goals as goal
 
 pub returns : goal.returns
 returns c =
-    let y = c.copy-2 in let x = c.exchange in
-    let r = c.copy in
-    let a = c.args in let ws = a.work-1.now in let p = c.span_of-start in
-    let at = p.result.start in
-    let k = p.result.end - at in
-    let zs = back at k ws x.new.0 in
-    let f = entry r.new.1.0 in
-    let g = entry x.new.1.0 in
-    let put-p = row_written p.ensures ws x.new.0 c.requires.0.full x.auto.0 f (λ (j : ℕ) (h : j < a.w). ap (λ (l : List Float). entry l j) x.ensures.0) in
-    let put-c = row_written c.Span-of.ensures zs y.new.1.0 (same_len_mid at k ws x.new.0 x.auto.0 ∙ c.requires.0.full) y.auto.1.0 g (λ (j : ℕ) (h : j < a.w). ap (λ (l : List Float). entry l j) y.ensures) in (
-      rows-swapped a.w a.c a.p (entry_at a.w ws) (entry_at a.w zs) _ f g
-          (λ (j : ℕ) (h : j < a.w). ap (λ (l : List Float). entry l j) r.ensures ∙ row_read c.Span-of.ensures ws j h) put-p
-          (λ (j : ℕ) (h : j < a.w). ap (λ (l : List Float). entry l j) x.ensures.1 ∙ row_read p.ensures ws j h) put-c,
-      row_put a.w a.c g (entry_at a.w zs) _ put-c,
+    let k = c.span_of-start.result.end - c.span_of-start.result.start in
+    let zs = back c.span_of-start.result.start k c.args.work.now c.exchange.new.a in
+    let f = entry c.copy.new.to in
+    let g = entry c.exchange.new.b in
+    let put-p = row_written c.span_of-start.ensures c.args.work.now c.exchange.new.a c.requires.0.full c.exchange.auto.a f (λ (j : ℕ) (h : j < c.args.w). ap (λ (l : List Float). entry l j) c.exchange.ensures.0) in
+    let put-c = row_written c.span_of-a.ensures zs c.copy-2.new.to (same_len_mid c.span_of-start.result.start k c.args.work.now c.exchange.new.a c.exchange.auto.a ∙ c.requires.0.full) c.copy-2.auto.to g (λ (j : ℕ) (h : j < c.args.w). ap (λ (l : List Float). entry l j) c.copy-2.ensures) in (
+      rows-swapped c.args.w c.args.c c.args.p (entry_at c.args.w c.args.work.now) (entry_at c.args.w zs) _ f g
+          (λ (j : ℕ) (h : j < c.args.w). ap (λ (l : List Float). entry l j) c.copy.ensures ∙ row_read c.span_of-a.ensures c.args.work.now j h) put-p
+          (λ (j : ℕ) (h : j < c.args.w). ap (λ (l : List Float). entry l j) c.exchange.ensures.1 ∙ row_read c.span_of-start.ensures c.args.work.now j h) put-c,
+      row_put c.args.w c.args.c g (entry_at c.args.w zs) _ put-c,
     )

@@ -9,15 +9,13 @@ loop-j-init c = scaled-none c.args.w c.args.by c.args.row.now c.args.to.now c.re
 
 pub loop-j-preserved : goal.loop-j-preserved
 loop-j-preserved c =
-    let m = c.cmul-p in let l = c.loop-j in let a = c.args in
-    scaled-next a.w a.by a.row-1.now l.row l.to l.j c.loop-j-test.true l.invariant m.result _ _
+    scaled-next c.args.w c.args.by c.args.row.now c.loop-j.row c.loop-j.to c.loop-j.j c.loop-j-test.true c.loop-j.invariant c.cmul-p.result _ _
     (c.put-in-loop-j.ensures
-    ∙ ap (λ (ys : List Float). put ys (a.w + l.j) c.turn.result) c.put.ensures
-    ∙ ap (put (put l.row l.j m.result) (a.w + l.j)) c.turn.ensures)
+    ∙ ap (λ (ys : List Float). put ys (c.args.w + c.loop-j.j) c.turn.result) c.put.ensures
+    ∙ ap (put (put c.loop-j.row c.loop-j.j c.cmul-p.result) (c.args.w + c.loop-j.j)) c.turn.ensures)
     c.put-in-loop-j-2.ensures
-    (m.ensures ∙ ap (λ (x : Complex). cmul x a.by) c.get.ensures)
+    (c.cmul-p.ensures ∙ ap (λ (x : Complex). cmul x c.args.by) c.get.ensures)
 
 pub returns : goal.returns
 returns c =
-    let l = c.loop-j in let a = c.args in
-    scaled-all a.w a.by a.row-1.now l.row l.to l.j c.loop-j-test.false l.invariant
+    scaled-all c.args.w c.args.by c.args.row.now c.loop-j.row c.loop-j.to c.loop-j.j c.loop-j-test.false c.loop-j.invariant

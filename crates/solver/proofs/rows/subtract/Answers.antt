@@ -7,8 +7,7 @@ use Rattle.solver.proofs.rows.subtract.Goals as goal
 
 pub loop-j-init : goal.loop-j-init
 loop-j-init c =
-    let a = c.args in
-    (omega arith, c.requires.0, put-none a.row-1.now (λ (k : ℕ). csub (entry a.row-1.now k) (cmul a.factor (entry a.pivot.now k))))
+    (omega arith, c.requires.0, put-none c.args.row.now (λ (k : ℕ). csub (entry c.args.row.now k) (cmul c.args.factor (entry c.args.pivot.now k))))
 
 pub product-p-requires : goal.product-p-requires
 product-p-requires c =
@@ -16,12 +15,11 @@ product-p-requires c =
 
 pub loop-j-preserved : goal.loop-j-preserved
 loop-j-preserved c =
-    let m = c.product-p in let l = c.loop-j in let a = c.args in
-    mapped-more (λ (k : ℕ) (x : Complex). csub x (cmul a.factor (entry a.pivot.now k))) a.row-1.now l.row c.put.new.s a.w l.j
-    c.loop-j-test.true l.invariant.1 l.invariant.2
-    (c.put.ensures ∙ ap (put l.row l.j) (c.csub.ensures
-    ∙ ap (λ (x : Complex). csub x m.result) c.get-in-loop-j-2.ensures
-    ∙ ap (csub (entry l.row l.j)) (m.ensures ∙ ap (cmul a.factor) c.get.ensures)))
+    mapped-more (λ (k : ℕ) (x : Complex). csub x (cmul c.args.factor (entry c.args.pivot.now k))) c.args.row.now c.loop-j.row c.put.new.s c.args.w c.loop-j.j
+    c.loop-j-test.true c.loop-j.invariant.1 c.loop-j.invariant.2
+    (c.put.ensures ∙ ap (put c.loop-j.row c.loop-j.j) (c.csub.ensures
+    ∙ ap (λ (x : Complex). csub x c.product-p.result) c.get-in-loop-j-2.ensures
+    ∙ ap (csub (entry c.loop-j.row c.loop-j.j)) (c.product-p.ensures ∙ ap (cmul c.args.factor) c.get.ensures)))
 
 pub returns : goal.returns
 returns c = λ (q : ℕ) (h : q < c.args.w). c.loop-j.invariant.2.behind q (omega arith)

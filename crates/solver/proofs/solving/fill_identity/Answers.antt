@@ -8,11 +8,10 @@ use Rattle.solver.proofs.solving.fill_identity.Goals as goal
 pub returns : goal.returns
 unfolding with_identity
 returns c =
-    let n = c.args.n in
-    let w = n + n in
-    let A = entry_at n c.args.mat.now in
-    λ (i j : ℕ) (h : i < n) (k : j < w).
+    let w = c.args.n + c.args.n in
+    let A = entry_at c.args.n c.args.mat.now in
+    λ (i j : ℕ) (h : i < c.args.n) (k : j < w).
     c.place_ones.ensures i j h k
-    ∙ ap (λ (x : Complex). cond (eqb j (n + i)) unit x)
-    (c.place_block.ensures i j h k ∙ ap (λ (l : List Float). placed 0 n A (entry_at w l) i j) c.clear.ensures)
-    ∙ identity-filled n (length c.args.work.now) A c.requires.1 i j h k
+    ∙ ap (λ (x : Complex). cond (eqb j (c.args.n + i)) unit x)
+    (c.place_block.ensures i j h k ∙ ap (λ (l : List Float). placed 0 c.args.n A (entry_at w l) i j) c.clear.ensures)
+    ∙ identity-filled c.args.n (length c.args.work.now) A c.requires.1 i j h k

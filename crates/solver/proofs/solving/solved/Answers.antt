@@ -1,5 +1,5 @@
 -- `solver::solving::solved` meets its contract.
-use Rattle.prelude.proofs.Prelude.{◌≡◌, Bool, true, sym, ap, ◌∙◌, cond, List, ℕ, ◌+◌, arith, rules, Float, not-true, not-false}
+use Rattle.prelude.proofs.Prelude.{◌≡◌, Bool, true, sym, ap, ◌∙◌, cond, List, ℕ, ◌+◌, arith, rules, Float}
 use Rattle.complex.specs.{entry, Matrix, entry_at, grid, zeros}
 use Rattle.complex.proofs.FiniteEntries.{slice-entries}
 use Rattle.complex.proofs.Matrices.{grid-same}
@@ -13,18 +13,18 @@ use Rattle.solver.proofs.solving.solved.Goals as goal
 
 pub eliminate-end-requires : goal.eliminate-end-requires
 eliminate-end-requires c =
-    let f = c.fill_system in let a = c.args in (
+    (
       omega arith,
       omega (arith, c.requires.0),
       search rules,
-      filled-finite a.n 1 (entry_at a.n a.a.now) (λ (r k : ℕ). entry a.b.now r) _ f.ensures (search rules)
-          (slice-entries a.n a.n a.a.now c.requires.2 c.requires.5) (side-finite a.n a.b.now c.requires.3 c.requires.6),
+      filled-finite c.args.n 1 (entry_at c.args.n c.args.a.now) (λ (r k : ℕ). entry c.args.b.now r) _ c.fill_system.ensures (search rules)
+          (slice-entries c.args.n c.args.n c.args.a.now c.requires.2 c.requires.5) (side-finite c.args.n c.args.b.now c.requires.3 c.requires.6),
     )
 
 -- the slice is filled and eliminated
 module _ (c : After-eliminate-end) where
   abbrev start : Start
-  start = c.before.before.before.before.before.before.before.before.before.before
+  start = (goal.at.After-eliminate-end c).Start
 
   abbrev A : Matrix
   A = entry_at start.args.n start.args.a.now
@@ -44,17 +44,16 @@ module _ (c : After-eliminate-end) where
 
 pub returns-then-not-is_done : goal.returns-then-not-is_done
 returns-then-not-is_done c =
-    let g = c.before.before.before.before.before.before.before.before in let d = c.is_done in (
-      told g,
-      sym (ap (λ (t : Bool). cond t (solution g) (start g).args.x.now) (sym d.ensures ∙ not-true _ c.if-not-is_done.true)),
-      c.clear.ensures ∙ ap zeros (g.eliminate-end.auto.work ∙ g.fill_system.auto.work),
+    (
+      told (goal.at.returns-then-not-is_done c).After-eliminate-end,
+      sym (ap (λ (t : Bool). cond t (solution (goal.at.returns-then-not-is_done c).After-eliminate-end) (start (goal.at.returns-then-not-is_done c).After-eliminate-end).args.x.now) (sym c.is_done.ensures ∙ c.if-not-is_done.true)),
+      c.clear.ensures ∙ ap zeros (c.eliminate-end.auto.work ∙ c.fill_system.auto.work),
     )
 
 pub returns : goal.returns
 returns c =
-    let g = c.before.before.before.before.before.before.before.before.before.before.before.before.before in let d = c.is_done in
-    let done : is_done g.eliminate-end.result ≡ true = sym d.ensures ∙ not-false _ c.if-not-is_done.false in (
-      told g,
-      c.take.ensures ∙ read g done ∙ sym (ap (λ (t : Bool). cond t (solution g) (start g).args.x.now) done),
-      c.clear-2.ensures ∙ ap zeros (g.eliminate-end.auto.work ∙ g.fill_system.auto.work),
+    let done : is_done c.eliminate-end.result ≡ true = sym c.is_done.ensures ∙ c.if-not-is_done.false in (
+      told (goal.at.returns c).After-eliminate-end,
+      c.take.ensures ∙ read (goal.at.returns c).After-eliminate-end done ∙ sym (ap (λ (t : Bool). cond t (solution (goal.at.returns c).After-eliminate-end) (start (goal.at.returns c).After-eliminate-end).args.x.now) done),
+      c.clear-2.ensures ∙ ap zeros (c.eliminate-end.auto.work ∙ c.fill_system.auto.work),
     )
