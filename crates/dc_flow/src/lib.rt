@@ -1,6 +1,7 @@
 // The DC parts: the buses retained, the susceptance matrix, and the line outage factors.
 // Buses and branches count from 0; matrices are of f64, row after row.
 #![tactic(auto)]
+
 ghost use Rattle.std.specs.Prelude.{◌≡◌, length};
 ghost use Rattle.refusals.specs.Refusals as refusals;
 ghost use Rattle.dc_flow.specs.Dc as spec;

@@ -13,11 +13,11 @@ use refusals::LIMIT;
 
 // The outage factors of all branches, row by row.
 pub fn outages(n: usize, ptdf: &[f64], froms: &[usize], tos: &[usize], lodf: &mut [f64])
-    requires froms_len_bound { (length froms.now ≤ refusals.limit)
+    requires counts { (length froms.now ≤ refusals.limit)
         × (length tos.now ≡ length froms.now) }
-    requires t { (T (buses.all_below n froms.now))
+    requires ends { (T (buses.all_below n froms.now))
         × (T (buses.all_below n tos.now)) }
-    requires ptdf_len { (length ptdf.now ≡ length froms.now * n)
+    requires matrix { (length ptdf.now ≡ length froms.now * n)
         × (length lodf.old ≡ length froms.now * length froms.now) }
     ensures { lodf.new
         ≡ spec.real_grid (spec.outage n ptdf.now froms.now tos.now) (length froms.now)
@@ -37,11 +37,11 @@ fn outages_by(
     ds: &mut [f64],
     lodf: &mut [f64],
 )
-    requires ds_len { (length ds.old ≡ length froms.now)
+    requires counts { (length ds.old ≡ length froms.now)
         × (length tos.now ≡ length froms.now) }
-    requires t { (T (buses.all_below n froms.now))
+    requires ends { (T (buses.all_below n froms.now))
         × (T (buses.all_below n tos.now)) }
-    requires ptdf_len { (length ptdf.now ≡ length froms.now * n)
+    requires matrix { (length ptdf.now ≡ length froms.now * n)
         × (length lodf.old ≡ length froms.now * length froms.now) }
     ensures { lodf.new
         ≡ spec.real_grid (spec.outage n ptdf.now froms.now tos.now) (length froms.now)
@@ -53,11 +53,11 @@ fn outages_by(
 
 // What each branch leaves of a transfer between its own ends.
 fn denominators(n: usize, ptdf: &[f64], froms: &[usize], tos: &[usize], ds: &mut [f64])
-    requires ds_len { (length ds.old ≡ length froms.now)
+    requires counts { (length ds.old ≡ length froms.now)
         × (length tos.now ≡ length froms.now) }
-    requires t { (T (buses.all_below n froms.now))
+    requires ends { (T (buses.all_below n froms.now))
         × (T (buses.all_below n tos.now)) }
-    requires ptdf_len { length ptdf.now ≡ length froms.now * n }
+    requires matrix { length ptdf.now ≡ length froms.now * n }
     ensures { ds.new
         ≡ spec.real_row (spec.denominator n ptdf.now froms.now tos.now) (length froms.now) }
 {
@@ -82,12 +82,12 @@ fn row_transfer(row: &[f64], f: usize, t: usize) -> f64
 
 // Row after row, from the denominators.
 fn outage_rows(n: usize, ptdf: &[f64], froms: &[usize], tos: &[usize], ds: &[f64], lodf: &mut [f64])
-    requires tos_len { length tos.now ≡ length froms.now }
-    requires t { (T (buses.all_below n froms.now))
+    requires counts { length tos.now ≡ length froms.now }
+    requires ends { (T (buses.all_below n froms.now))
         × (T (buses.all_below n tos.now)) }
-    requires ptdf_len { (length ptdf.now ≡ length froms.now * n)
+    requires matrix { (length ptdf.now ≡ length froms.now * n)
         × (length lodf.old ≡ length froms.now * length froms.now) }
-    requires ds_value { ds.now ≡ spec.real_row (spec.denominator n ptdf.now froms.now tos.now) (length froms.now) }
+    requires denominators { ds.now ≡ spec.real_row (spec.denominator n ptdf.now froms.now tos.now) (length froms.now) }
     ensures { lodf.new
         ≡ spec.real_grid (spec.outage n ptdf.now froms.now tos.now) (length froms.now)
         (length froms.now) }
@@ -108,9 +108,9 @@ fn outage_rows(n: usize, ptdf: &[f64], froms: &[usize], tos: &[usize], ds: &[f64
 
 // Row l, from that row of the PTDF: as if each branch were another, then its own entry.
 fn outage_row(l: usize, t: &[f64], froms: &[usize], tos: &[usize], ds: &[f64], row: &mut [f64])
-    requires t { (T (buses.all_below (length t.now) froms.now))
+    requires ends { (T (buses.all_below (length t.now) froms.now))
         × (T (buses.all_below (length t.now) tos.now)) }
-    requires tos_len { (length tos.now ≡ length froms.now)
+    requires counts { (length tos.now ≡ length froms.now)
         × (length ds.now ≡ length froms.now)
         × (length row.old ≡ length froms.now) }
     ensures { row.new
@@ -126,9 +126,9 @@ fn outage_row(l: usize, t: &[f64], froms: &[usize], tos: &[usize], ds: &[f64], r
 // The factors of a branch for the outages of others, from its row of the PTDF: two a turn, both before either is written, so that two
 // divisions run at once.
 fn quotient_row(t: &[f64], froms: &[usize], tos: &[usize], ds: &[f64], row: &mut [f64])
-    requires t { (T (buses.all_below (length t.now) froms.now))
+    requires ends { (T (buses.all_below (length t.now) froms.now))
         × (T (buses.all_below (length t.now) tos.now)) }
-    requires tos_len { (length tos.now ≡ length froms.now)
+    requires counts { (length tos.now ≡ length froms.now)
         × (length ds.now ≡ length froms.now)
         × (length row.old ≡ length froms.now) }
     ensures { row.new
@@ -151,9 +151,9 @@ fn quotient_row(t: &[f64], froms: &[usize], tos: &[usize], ds: &[f64], row: &mut
 
 // The factor of a branch for the outage of another, k, from its row of the PTDF.
 fn quotient_at(t: &[f64], froms: &[usize], tos: &[usize], ds: &[f64], k: usize) -> f64
-    requires t { (T (buses.all_below (length t.now) froms.now))
+    requires ends { (T (buses.all_below (length t.now) froms.now))
         × (T (buses.all_below (length t.now) tos.now)) }
-    requires tos_len { (length tos.now ≡ length froms.now)
+    requires counts { (length tos.now ≡ length froms.now)
         × (length ds.now ≡ length froms.now)
         × (k < length froms.now) }
     ensures { result ≡ rows.row_factor false t.now froms.now tos.now ds.now k }
@@ -186,11 +186,11 @@ fn outage_factor(l: usize, k: usize, taken: f64, d: f64) -> f64
 // Whether every number that the outage factors take is finite. A number that is not finite stays, but as a divisor: so the
 // denominators and the factors tell it. One branch alone takes none.
 pub fn outages_finite(n: usize, ptdf: &[f64], froms: &[usize], tos: &[usize]) -> bool
-    requires froms_len_bound { (length froms.now ≤ refusals.limit)
+    requires counts { (length froms.now ≤ refusals.limit)
         × (length tos.now ≡ length froms.now) }
-    requires t { (T (buses.all_below n froms.now))
+    requires ends { (T (buses.all_below n froms.now))
         × (T (buses.all_below n tos.now)) }
-    requires ptdf_len { length ptdf.now ≡ length froms.now * n }
+    requires matrix { length ptdf.now ≡ length froms.now * n }
     ensures { result ≡ all_finite (spec.of_lodf n ptdf.now froms.now tos.now) }
 {
     let m = froms.len();
@@ -203,12 +203,12 @@ pub fn outages_finite(n: usize, ptdf: &[f64], froms: &[usize], tos: &[usize]) ->
 
 // With room for the denominators, of two branches or more.
 fn finite_by(n: usize, ptdf: &[f64], froms: &[usize], tos: &[usize], ds: &mut [f64]) -> bool
-    requires ds_len { (length ds.old ≡ length froms.now)
+    requires counts { (length ds.old ≡ length froms.now)
         × (length tos.now ≡ length froms.now)
         × (2 ≤ length froms.now) }
-    requires t { (T (buses.all_below n froms.now))
+    requires ends { (T (buses.all_below n froms.now))
         × (T (buses.all_below n tos.now)) }
-    requires ptdf_len { length ptdf.now ≡ length froms.now * n }
+    requires matrix { length ptdf.now ≡ length froms.now * n }
     ensures { result ≡ all_finite (spec.of_lodf n ptdf.now froms.now tos.now) }
 {
     denominators(n, ptdf, froms, tos, ds);
@@ -220,11 +220,11 @@ fn finite_by(n: usize, ptdf: &[f64], froms: &[usize], tos: &[usize], ds: &mut [f
 
 // Whether the factors of all rows are finite.
 fn rows_finite(n: usize, ptdf: &[f64], froms: &[usize], tos: &[usize], ds: &[f64]) -> bool
-    requires tos_len { length tos.now ≡ length froms.now }
-    requires t { (T (buses.all_below n froms.now))
+    requires counts { length tos.now ≡ length froms.now }
+    requires ends { (T (buses.all_below n froms.now))
         × (T (buses.all_below n tos.now)) }
-    requires ptdf_len { length ptdf.now ≡ length froms.now * n }
-    requires ds_value { ds.now ≡ spec.real_row (spec.denominator n ptdf.now froms.now tos.now) (length froms.now) }
+    requires matrix { length ptdf.now ≡ length froms.now * n }
+    requires denominators { ds.now ≡ spec.real_row (spec.denominator n ptdf.now froms.now tos.now) (length froms.now) }
     ensures { result ≡ all_finite (spec.real_grid (spec.outage n ptdf.now froms.now tos.now)
         (length froms.now) (length froms.now)) }
 {
@@ -243,9 +243,9 @@ fn rows_finite(n: usize, ptdf: &[f64], froms: &[usize], tos: &[usize], ds: &[f64
 
 // Whether the factors of row l are finite, from that row of the PTDF.
 fn row_finite(l: usize, t: &[f64], froms: &[usize], tos: &[usize], ds: &[f64]) -> bool
-    requires t { (T (buses.all_below (length t.now) froms.now))
+    requires ends { (T (buses.all_below (length t.now) froms.now))
         × (T (buses.all_below (length t.now) tos.now)) }
-    requires tos_len { (length tos.now ≡ length froms.now)
+    requires counts { (length tos.now ≡ length froms.now)
         × (length ds.now ≡ length froms.now) }
     ensures { result ≡ all_finite (spec.real_row (rows.row_outage l t.now froms.now tos.now ds.now)
         (length froms.now)) }

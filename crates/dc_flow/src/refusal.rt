@@ -72,11 +72,11 @@ pub fn lodf_refusal(n: usize, ptdf: &[f64], froms: &[usize], tos: &[usize], len:
 
 // That by numbers. Where all given are below 2^200 in absolute value, all computed are finite: one pass over the PTDF tells both.
 fn lodf_numbers_refusal(n: usize, ptdf: &[f64], froms: &[usize], tos: &[usize]) -> u32
-    requires froms_len_bound { (length froms.now ≤ refusals.limit)
+    requires counts { (length froms.now ≤ refusals.limit)
         × (length tos.now ≡ length froms.now) }
-    requires t { (T (buses.all_below n froms.now))
+    requires ends { (T (buses.all_below n froms.now))
         × (T (buses.all_below n tos.now)) }
-    requires ptdf_len { length ptdf.now ≡ length froms.now * n }
+    requires matrix { length ptdf.now ≡ length froms.now * n }
     ensures { result ≡ refusals.then_computed (refusals.then_given 0 ptdf.now)
         (spec.of_lodf n ptdf.now froms.now tos.now) }
 {

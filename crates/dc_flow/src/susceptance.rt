@@ -9,10 +9,10 @@ use complex::raw::abs;
 
 // The susceptances of all branches, added to a matrix of +0.
 pub fn add_branches(n: usize, froms: &[usize], tos: &[usize], xs: &[f64], b: &mut [f64])
-    requires b_value { b.old ≡ matrices.zeros (n * n) }
-    requires tos_len { (length tos.now ≡ length froms.now)
+    requires cleared { b.old ≡ matrices.zeros (n * n) }
+    requires counts { (length tos.now ≡ length froms.now)
         × (length xs.now ≡ length froms.now) }
-    requires t { (T (buses.all_below n froms.now))
+    requires ends { (T (buses.all_below n froms.now))
         × (T (buses.all_below n tos.now)) }
     ensures { b.new ≡ spec.susceptances n froms.now tos.now xs.now (length froms.now) }
 {
@@ -25,9 +25,9 @@ pub fn add_branches(n: usize, froms: &[usize], tos: &[usize], xs: &[f64], b: &mu
 
 // The susceptance of one branch of reactance x, in per unit, at its ends; none where x is close to 0.
 fn add_branch(n: usize, b: &mut [f64], from: usize, to: usize, x: f64)
-    requires from_lt_n { (from < n)
+    requires ends { (from < n)
         × (to < n) }
-    requires b_len { length b.old ≡ n * n }
+    requires matrix { length b.old ≡ n * n }
     ensures { b.new ≡ spec.add_branch n b.old from to x }
 {
     if !(abs(x) < SMALL_MAGNITUDE) {
@@ -37,7 +37,7 @@ fn add_branch(n: usize, b: &mut [f64], from: usize, to: usize, x: f64)
 
 // The susceptance s at a branch's two ends, whose rows begin at f and t.
 fn join(b: &mut [f64], f: usize, t: usize, from: usize, to: usize, s: f64)
-    requires from_in_bounds { (f + from < length b.old)
+    requires first_row { (f + from < length b.old)
         × (t + to < length b.old) }
     requires to_in_bounds { (f + to < length b.old)
         × (t + from < length b.old) }

@@ -22,7 +22,7 @@ remains a ks (x ∷ xs) h n = go (mem x ks) (λ (t : T (mem x ks)). t) (λ (t : 
   where
     go : (b : Bool) → (T b → x is_one_of ks) → (a is_one_of xs → a is_one_of others ks xs) → a is_one_of cond b (others ks xs) (x ∷ others ks xs)
     go true f ih = elim (in-cases a x xs h) [ inl e ↦ absurd (n (subst (λ (z : ℕ). z is_one_of ks) (sym e) (f tt))) | inr t ↦ ih t ]
-    go false f ih = elim (in-cases a x xs h) [ inl e ↦ rw e (in_head x (others ks xs)) | inr t ↦ in_tail a x (others ks xs) (ih t) ]
+    go false f ih = elim (in-cases a x xs h) [ inl e ↦ subst (λ (z : ℕ). z is_one_of x ∷ others ks xs) (sym e) (in_head x (others ks xs)) | inr t ↦ in_tail a x (others ks xs) (ih t) ]
 
 one_of : (a k : ℕ) → a is_one_of k ∷ [] → a ≡ k
 one_of a k m = elim (in-cases a k [] m) [ inl e ↦ e | inr t ↦ absurd t ]

@@ -1,5 +1,6 @@
 // Kron reduction of a bus matrix that stands in a lent slice.
 #![tactic(auto)]
+
 ghost use Rattle.std.specs.Prelude.{◌≡◌, List, [], ◌++◌, ◌*◌, ◌-◌, ◌≤◌, ◌<◌, T, length, take, Float};
 ghost use Rattle.binary64.specs.Values.{all_finite, F64s};
 ghost use Rattle.complex.specs.Entries.{entry};

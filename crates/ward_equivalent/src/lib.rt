@@ -1,5 +1,6 @@
 // Ward and extended Ward equivalents of a bus matrix that stands in a lent slice. Buses are named by number.
 #![tactic(auto)]
+
 ghost use Rattle.std.specs.Prelude.{◌≡◌};
 ghost use Rattle.binary64.specs.Values.{F64s};
 ghost use Rattle.ward_equivalent.specs.Calls as spec;

@@ -1,0 +1,12 @@
+use Rattle.prelude.proofs.Prelude.{◌≡◌, ℕ, ◌+◌, ◌-◌, ◌*◌, ◌≤◌, length, get_or}
+use Rattle.complex.specs.{entry_at}
+use Rattle.solver.proofs.Passed.{RowsPassed}
+use Rattle.ward_equivalent.specs.Inner.Work.{work_row}
+use Rattle.ward_equivalent.proofs.rows.fill_column.Given as goal
+
+abbrev pub invariant-loop-k : goal.invariant-loop-k
+invariant-loop-k l =
+    (l.k ≤ length l.outer) × (length l.front ≡ 2 * (length l.outer * (length l.outer + 1))) × RowsPassed (length l.outer + 1) l.front (λ (i : ℕ). work_row l.n l.y l.outer i (entry_at l.n l.y (get_or l.outer i 0) l.bus)) (entry_at (length l.outer + 1) l.initial.front) l.k
+
+abbrev pub decreases-loop-k : goal.decreases-loop-k
+decreases-loop-k l = length l.outer - l.k
