@@ -1,5 +1,6 @@
 // The text of the program `reduce`: from the bytes that it reads to the bytes that it writes.
 #![tactic(auto)]
+
 ghost use Rattle.std.specs.Prelude.{◌≡◌};
 ghost use Rattle.reduce_text.specs.Reduce.{reduce_number, after_reduce};
 

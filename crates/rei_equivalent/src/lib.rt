@@ -1,5 +1,6 @@
 // The REI equivalent of a set of generator and load buses.
 #![tactic(auto)]
+
 ghost use Rattle.std.specs.Prelude.{◌≡◌};
 ghost use Rattle.rei_equivalent.specs.Rei as spec;
 

@@ -16,10 +16,10 @@ use lists::checks::no_buses;
 
 // All ties, and zeros behind them; answers how many there are.
 pub fn tie_all(n: usize, y: &[f64], buses: &[usize], ends: &mut [usize], ties: &mut [f64]) -> usize
-    requires n_le_limit { (n ≤ refusals.limit)
+    requires sizes { (n ≤ refusals.limit)
         × (length y.now ≡ 2 * (n * n))
         × (length buses.now ≡ n) }
-    requires ends_len { (length ends.old ≡ spec.tie_room n)
+    requires room { (length ends.old ≡ spec.tie_room n)
         × (length ties.old ≡ spec.tie_room n) }
     ensures { writing.TiesWritten n y.now buses.now result ends.new ties.new }
 {
@@ -33,10 +33,10 @@ pub fn tie_all(n: usize, y: &[f64], buses: &[usize], ends: &mut [usize], ties: &
 
 // Row after row, from the front; answers how many there are.
 fn tie_rows(n: usize, y: &[f64], buses: &[usize], ends: &mut [usize], ties: &mut [f64]) -> usize
-    requires n_le_limit { (n ≤ refusals.limit)
+    requires sizes { (n ≤ refusals.limit)
         × (length y.now ≡ 2 * (n * n))
         × (length buses.now ≡ n) }
-    requires ends_len { (length ends.old ≡ spec.tie_room n)
+    requires room { (length ends.old ≡ spec.tie_room n)
         × (length ties.old ≡ spec.tie_room n) }
     ensures { writing.RowWritten (spec.all_ties n y.now buses.now) 0
         ends.old ties.old result ends.new ties.new }
@@ -64,10 +64,10 @@ fn tie_row(
     ties: &mut [f64],
     from: usize,
 ) -> usize
-    requires i_lt_n { (i < n)
+    requires row { (i < n)
         × (length row.now ≡ 2 * n)
         × (length buses.now ≡ n) }
-    requires i_in_bounds { (2 * (from + (n - (i + 1))) ≤ length ends.old)
+    requires room { (2 * (from + (n - (i + 1))) ≤ length ends.old)
         × (length ties.old ≡ length ends.old) }
     ensures { writing.RowWritten (spec.row_ties buses.now (entries.entry row.now) i (drop (i + 1) (up_to n))) from
         ends.old ties.old result ends.new ties.new }

@@ -1,0 +1,20 @@
+use Rattle.prelude.proofs.Prelude.{◌≡◌, ◌+◌, ◌-◌, ◌*◌, ◌≤◌, length, sets}
+use Rattle.complex.specs.{entry_at}
+use Rattle.rei_equivalent.specs.Rei.{tie_ends, tie_parts, tie_room}
+use Rattle.rei_equivalent.proofs.TieLaws.{left_in_all}
+use Rattle.rei_equivalent.proofs.ties.tie_rows.Given as goal
+
+abbrev pub invariant-loop-i : goal.invariant-loop-i
+invariant-loop-i l = left_in_all l.buses (entry_at l.n l.y) l.n in
+    (l.i ≤ l.n)
+    × (l.w ≡ 2 * l.n)
+    × (l.a ≡ 2 * (l.i * l.n))
+    × (2 * l.count + tie_room (l.n - l.i) ≤ tie_room l.n)
+    × (length l.ends ≡ tie_room l.n)
+    × (length l.ties ≡ tie_room l.n)
+    × (l.count + length (left l.i) ≡ 0 + length (left 0))
+    × (sets l.ends (2 * l.count) (tie_ends (left l.i)) ≡ sets l.initial.ends 0 (tie_ends (left 0)))
+    × (sets l.ties (2 * l.count) (tie_parts (left l.i)) ≡ sets l.initial.ties 0 (tie_parts (left 0)))
+
+abbrev pub decreases-loop-i : goal.decreases-loop-i
+decreases-loop-i l = l.n - l.i
