@@ -33,7 +33,7 @@ spoke_all-requires c =
 pub tie_all-count-requires : goal.tie_all-count-requires
 tie_all-count-requires c =
     let g = rei-accepted _ _ _ _ _ _ _ _ _ c.refusal-f.ensures c.if-f-ne0.false in
-    ((g.0, g.1, c.join_lists.auto.out ∙ g.2), (g.4, g.5))
+    record { sizes = (g.0, g.1, c.join_lists.auto.out ∙ g.2); room = (g.4, g.5) }
 
 pub returns : goal.returns
 unfolding rei_shape_refusal rei_size rei_buses spokes_of one

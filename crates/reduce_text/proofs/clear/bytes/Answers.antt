@@ -12,5 +12,6 @@ loop-i-preserved c =
 
 pub returns : goal.returns
 returns c =
-    let e : c.loop-i.i ≡ length c.args.s.now = omega arith in
-    c.loop-i.invariant.2 ∙ fill-all c.loop-i.i 0 c.args.s.now (omega arith) ∙ ap (λ (k : ℕ). replicate k 0) e
+    let d = c.args.s.now in
+    let e : c.loop-i.i ≡ length d = omega arith in
+    c.loop-i.invariant.2 ∙ fill-all c.loop-i.i 0 d (omega arith) ∙ ap (λ (k : ℕ). replicate k 0) e

@@ -15,12 +15,13 @@ put_entry-p-requires c =
     (entry-room c.args.out.now c.loop-i.out c.args.at c.loop-i.p c.args.ys.now c.loop-i.i c.args.n c.requires.1 c.loop-i-test.true c.loop-i.invariant.2 c.loop-i.invariant.1)
 
 pub loop-i-preserved : goal.loop-i-preserved
-loop-i-preserved c = (
-  omega arith,
-  c.put_entry-p.auto.out ∙ c.loop-i.invariant.1,
-  entry_more c.args.out.now c.loop-i.out c.args.at c.loop-i.p c.args.ys.now c.loop-i.i c.args.n c.requires.1 c.loop-i-test.true c.loop-i.invariant.2
-      (rw c.get.ensures at c.put_entry-p.ensures),
-)
+loop-i-preserved c =
+    (
+      omega arith,
+      c.put_entry-p.auto.out ∙ c.loop-i.invariant.1,
+      entry_more c.args.out.now c.loop-i.out c.args.at c.loop-i.p c.args.ys.now c.loop-i.i c.args.n c.requires.1 c.loop-i-test.true c.loop-i.invariant.2
+          (rw c.get.ensures at c.put_entry-p.ensures),
+    )
 
 pub returns : goal.returns
 returns c =

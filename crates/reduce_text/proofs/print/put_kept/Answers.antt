@@ -27,7 +27,7 @@ printed c =
 pub put_buses-b-requires : goal.put_buses-b-requires
 put_buses-b-requires c =
     let l : length c.active_numbers-buses.result ≡ limit = search rules in
-    let e = ap length (printed (c.before.before.before.before.before.before.before)) in
+    let e = ap length (printed (goal.at.put_buses-b-requires c).After-active_numbers-buses) in
     (omega (arith, l, (sound-has c.args.rec c.requires.0.1).room), omega (arith, c.requires.1, length-kept c.args.rec c.args.ys.now, e, c.put_line-a.ensures.here, c.put_line-a.auto.out))
 
 pub overflow_mul-n : goal.overflow_mul-n
@@ -36,7 +36,7 @@ overflow_mul-n c =
 
 pub put_entries-requires : goal.put_entries-requires
 put_entries-requires c =
-    let e = ap length (printed (c.before.before.before.before.before.before.before.before.before.before.before)) in (
+    let e = ap length (printed (goal.at.put_entries-requires c).After-active_numbers-buses) in (
       c.requires.0.2,
       omega
           (arith, c.requires.1, length-kept c.args.rec c.args.ys.now, length-entry-lines (c.args.rec.n_buses * c.args.rec.n_buses) c.args.ys.now, e, c.put_line-a.ensures.here, c.put_line-a.auto.out, c.put_buses-b.ensures.here, c.put_buses-b.auto.out),
@@ -45,5 +45,5 @@ put_entries-requires c =
 pub returns : goal.returns
 unfolding kept_text
 returns c =
-    let w = subst (λ (t : Bytes). Wrote c.put_line-a.new.out c.put_line-a.result t c.put_buses-b.result c.put_buses-b.new.out) (printed (c.before.before.before.before.before.before.before.before.before.before.before.before.before.before)) c.put_buses-b.ensures in
+    let w = subst (λ (t : Bytes). Wrote c.put_line-a.new.out c.put_line-a.result t c.put_buses-b.result c.put_buses-b.new.out) (printed (goal.at.returns c).After-active_numbers-buses) c.put_buses-b.ensures in
     then₃ c.requires.1 c.put_line-a.ensures w c.put_entries.ensures

@@ -11,18 +11,18 @@ slice_bounds-drops-end c = omega (arith, c.requires.1, square c.args.n c.require
 
 pub returns : goal.returns
 returns c =
-    let m = 2 * (c.args.n * c.args.n) in
-    let k : m ≤ length c.args.matrix.now = omega (arith, c.requires.1, square c.args.n c.requires.0) in
-    let len : length c.drops-out.new.y ≡ m = c.drops-out.auto.y ∙ ap (λ (j : ℕ). length (take j c.args.matrix.now)) (sub-zero m) ∙ length-take-le m c.args.matrix.now k in
-    let R : drops finish (place_behind c.args.n) c.args.rec (take m c.args.matrix.now) (behind c.args.input.now c.args.from) ≡ ended c.end_of.result c.drops-out.result.rec c.drops-out.new.y =
-    ap (λ (j : ℕ). drops finish (place_behind c.args.n) c.args.rec (take j c.args.matrix.now) (behind c.args.input.now c.args.from)) (sym (sub-zero m))
+    let M = c.args.matrix.now in let m = 2 * (c.args.n * c.args.n) in
+    let k : m ≤ length M = omega (arith, c.requires.1, square c.args.n c.requires.0) in
+    let len : length c.drops-out.new.y ≡ m = c.drops-out.auto.y ∙ ap (λ (j : ℕ). length (take j M)) (sub-zero m) ∙ length-take-le m M k in
+    let R : drops finish (place_behind c.args.n) c.args.rec (take m M) (behind c.args.input.now c.args.from) ≡ ended c.end_of.result c.drops-out.result.rec c.drops-out.new.y =
+    ap (λ (j : ℕ). drops finish (place_behind c.args.n) c.args.rec (take j M) (behind c.args.input.now c.args.from)) (sym (sub-zero m))
     ∙ c.drops-out.ensures finish
     ∙ stopped c.args.input.now c.drops-out.result.stop c.drops-out.result.rec c.drops-out.new.y
     ∙ ap (λ (e : End). ended e c.drops-out.result.rec c.drops-out.new.y) (sym c.end_of.ensures) in
     record {
       says = sym (ap (λ (r : Run). r.reading) R);
       whole = ap (λ (r : Run). length r.numbers) R ∙ len;
-      leaves = ap (λ (j : ℕ). c.drops-out.new.y ++ drop j c.args.matrix.now) (sub-zero m) ∙ sym (ap (λ (r : Run). r.numbers ++ drop m c.args.matrix.now) R);
+      leaves = ap (λ (j : ℕ). c.drops-out.new.y ++ drop j M) (sub-zero m) ∙ sym (ap (λ (r : Run). r.numbers ++ drop m M) R);
     }
 
 pub overflow_mul-count : goal.overflow_mul-count

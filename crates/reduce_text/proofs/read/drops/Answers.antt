@@ -48,14 +48,15 @@ loop-at-smaller c =
     omega (arith, c.loop-at-test.true, (within c).1)
 
 pub loop-at-preserved : goal.loop-at-preserved
-loop-at-preserved c = (
-  omega (arith, c.loop-at.invariant.0, (within c).1),
-  c.remove_bus-t.auto.y ∙ c.loop-at.invariant.1,
-  λ rest.
-      c.loop-at.invariant.2 rest
-      ∙ drops-done rest c.args.input.now c.loop-at.at c.loop-at.p c.loop-at.r c.loop-at.y c.loop-at-test.true c.in-Is.bus (sym c.number_at.ensures ∙ c.in-Is.is) c.remove_bus-t.result c.remove_bus-t.new.y c.remove_bus-t.ensures.0 c.remove_bus-t.ensures.1 c.in_default-answer.is
-      ∙ ap (λ (k : ℕ). drops rest (c.loop-at.p + 1) c.remove_bus-t.result.rec c.remove_bus-t.new.y (behind c.args.input.now (k + 1))) (sym c.line_end-at.ensures),
-)
+loop-at-preserved c =
+    (
+      omega (arith, c.loop-at.invariant.0, (within c).1),
+      c.remove_bus-t.auto.y ∙ c.loop-at.invariant.1,
+      λ rest.
+          c.loop-at.invariant.2 rest
+          ∙ drops-done rest c.args.input.now c.loop-at.at c.loop-at.p c.loop-at.r c.loop-at.y c.loop-at-test.true c.in-Is.bus (sym c.number_at.ensures ∙ c.in-Is.is) c.remove_bus-t.result c.remove_bus-t.new.y c.remove_bus-t.ensures.0 c.remove_bus-t.ensures.1 c.in_default-answer.is
+          ∙ ap (λ (k : ℕ). drops rest (c.loop-at.p + 1) c.remove_bus-t.result.rec c.remove_bus-t.new.y (behind c.args.input.now (k + 1))) (sym c.line_end-at.ensures),
+    )
 
 pub returns : goal.returns
 returns c =

@@ -65,18 +65,18 @@ loop-i-preserved c =
 
 pub returns : goal.returns
 returns c =
-    let ys = take (2 * c.loop-i.i) c.loop-i.matrix in
-    let i : c.loop-i.i ≡ c.args.n * c.args.n = omega (arith, c.loop-i.invariant.0, c.loop-i-test.false) in
-    let k : 2 * c.loop-i.i ≤ length c.loop-i.matrix = omega (arith, c.loop-i.invariant.2, c.requires.1, square c.args.n c.requires.0) in
+    let n = c.args.n in let ys = take (2 * c.loop-i.i) c.loop-i.matrix in
+    let i : c.loop-i.i ≡ n * n = omega (arith, c.loop-i.invariant.0, c.loop-i-test.false) in
+    let k : 2 * c.loop-i.i ≤ length c.loop-i.matrix = omega (arith, c.loop-i.invariant.2, c.requires.1, square n c.requires.0) in
     record {
       ys = ys;
       leaves = at_front (2 * c.loop-i.i) c.loop-i.matrix c.args.matrix.now k c.loop-i.invariant.3;
       full = length-take-le (2 * c.loop-i.i) c.loop-i.matrix k ∙ ap (λ (j : ℕ). 2 * j) i;
       goes = λ go ns.
           c.loop-i.invariant.4 go ns
-          ∙ ap (λ (j : ℕ). entries go c.args.n ns j (c.loop-i.i + (c.args.n + 2)) ys (behind c.args.input.now c.loop-i.at)) (let z : c.args.n * c.args.n - c.loop-i.i ≡ 0 = omega arith in z)
-          ∙ entries_none go ns c.args.n (c.loop-i.i + (c.args.n + 2)) ys (behind c.args.input.now c.loop-i.at)
-          ∙ ap (λ (j : ℕ). go (j + (c.args.n + 2)) (after_new (reducer_input_of c.args.n ys ns)).rec ys (behind c.args.input.now c.loop-i.at)) i;
+          ∙ ap (λ (j : ℕ). entries go n ns j (c.loop-i.i + (n + 2)) ys (behind c.args.input.now c.loop-i.at)) (let z : n * n - c.loop-i.i ≡ 0 = omega arith in z)
+          ∙ entries_none go ns n (c.loop-i.i + (n + 2)) ys (behind c.args.input.now c.loop-i.at)
+          ∙ ap (λ (j : ℕ). go (j + (n + 2)) (after_new (reducer_input_of n ys ns)).rec ys (behind c.args.input.now c.loop-i.at)) i;
     }
 
 pub overflow_add-first : goal.overflow_add-first

@@ -67,13 +67,13 @@ pub returns : goal.returns
 unfolding most
 returns c =
     let Q = numbered c.args.input.now c.args.from c.args.n _ _ c.names-named.new.numbers c.requires.0 c.names-named.ensures in
-    let full : length c.entries-filled.ensures.ys ≡ 2 * (c.args.n * c.args.n) = subst (Full c.args.n c.entries-filled.ensures.ys) c.in-At-filled.is c.entries-filled.ensures.full in
-    let made : (after_new (reducer_input_of c.args.n c.entries-filled.ensures.ys c.names-named.new.numbers)).rec ≡ c.new-made.result.rec =
-    ap (λ (zs : List Float). (after_new (reducer_input_of c.args.n zs c.names-named.new.numbers)).rec) (sym (ap (take (2 * (c.args.n * c.args.n) - 0)) c.entries-filled.ensures.leaves ∙ front-is c.entries-filled.ensures.ys (drop (length c.entries-filled.ensures.ys) c.args.matrix.now) (2 * (c.args.n * c.args.n)) full))
+    let ys = c.entries-filled.ensures.ys in let full : length ys ≡ 2 * (c.args.n * c.args.n) = subst (Full c.args.n ys) c.in-At-filled.is c.entries-filled.ensures.full in
+    let made : (after_new (reducer_input_of c.args.n ys c.names-named.new.numbers)).rec ≡ c.new-made.result.rec =
+    ap (λ (zs : List Float). (after_new (reducer_input_of c.args.n zs c.names-named.new.numbers)).rec) (sym (ap (take (2 * (c.args.n * c.args.n) - 0)) c.entries-filled.ensures.leaves ∙ front-is ys (drop (length ys) c.args.matrix.now) (2 * (c.args.n * c.args.n)) full))
     ∙ ap (λ (ms : List ℕ). (after_new (reducer_input_of c.args.n (take (2 * (c.args.n * c.args.n) - 0) c.entries-filled.new.matrix) ms)).rec) (sym (front-is c.names-named.new.numbers _ c.args.n (c.names-named.auto.numbers ∙ room c.args.n _ c.requires.0)))
     ∙ sym (ap (λ (q : NewReducer). q.rec) c.new-made.ensures.0) in
     record {
-      c.entries-filled.ensures.ys = c.entries-filled.ensures.ys;
+      ys = ys;
       leaves = c.entries-filled.ensures.leaves;
       few = c.requires.0;
       full = c.entries-filled.ensures.full;
@@ -81,9 +81,9 @@ returns c =
           Q.goes go
           ∙ ap (λ (x : Next). on_next x (λ at. entries go c.args.n c.names-named.new.numbers (c.args.n * c.args.n) (c.args.n + 2) [] (behind c.args.input.now at)) bad_at) c.in-At.is
           ∙ c.entries-filled.ensures.goes go c.names-named.new.numbers
-          ∙ ap (λ (x : Next). on_next x (λ at. go (place_behind c.args.n) (after_new (reducer_input_of c.args.n c.entries-filled.ensures.ys c.names-named.new.numbers)).rec c.entries-filled.ensures.ys (behind c.args.input.now at)) (λ p. ended (BadLine p) no_reducer c.entries-filled.ensures.ys)) c.in-At-filled.is
-          ∙ ap (λ (q : KronReducer). go (place_behind c.args.n) q c.entries-filled.ensures.ys (behind c.args.input.now c.in-At-filled.field-0)) made
-          ∙ sym (ap (λ (x : Next). on_next x (λ at. go (place_behind c.args.n) c.new-made.result.rec c.entries-filled.ensures.ys (behind c.args.input.now at)) (λ p. ended (BadLine p) c.new-made.result.rec c.entries-filled.ensures.ys)) c.in-At-filled.is);
+          ∙ ap (λ (x : Next). on_next x (λ at. go (place_behind c.args.n) (after_new (reducer_input_of c.args.n ys c.names-named.new.numbers)).rec ys (behind c.args.input.now at)) (λ p. ended (BadLine p) no_reducer ys)) c.in-At-filled.is
+          ∙ ap (λ (q : KronReducer). go (place_behind c.args.n) q ys (behind c.args.input.now c.in-At-filled.field-0)) made
+          ∙ sym (ap (λ (x : Next). on_next x (λ at. go (place_behind c.args.n) c.new-made.result.rec ys (behind c.args.input.now at)) (λ p. ended (BadLine p) c.new-made.result.rec ys)) c.in-At-filled.is);
     }
 
 pub overflow_mul-m : goal.overflow_mul-m

@@ -7,7 +7,8 @@ use Rattle.rei_equivalent.specs.Rei.{of_spokes}
 use Rattle.rei_equivalent.proofs.spokes.spokes_finite.Given as goal
 
 abbrev pub invariant-loop-i : goal.invariant-loop-i
-invariant-loop-i l = of_spokes (of_int binary64 (pos l.n)) (entry_at l.n l.y) in
+invariant-loop-i l =
+    let all = of_spokes (of_int binary64 (pos l.n)) (entry_at l.n l.y) in
     (l.i ≤ l.n) × (l.d ≡ l.i * l.n + l.i) × (all_finite (all (drop l.i (up_to l.n))) ≡ all_finite (all (up_to l.n)))
 
 abbrev pub decreases-loop-i : goal.decreases-loop-i

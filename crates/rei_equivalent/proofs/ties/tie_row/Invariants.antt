@@ -5,7 +5,8 @@ use Rattle.rei_equivalent.proofs.TieLaws.{left_in_row}
 use Rattle.rei_equivalent.proofs.ties.tie_row.Given as goal
 
 abbrev pub invariant-loop-j : goal.invariant-loop-j
-invariant-loop-j l = left_in_row l.buses (entry l.row) l.i l.n in
+invariant-loop-j l =
+    let left = left_in_row l.buses (entry l.row) l.i l.n in
     (l.i + 1 ≤ l.j)
     × (l.j ≤ l.n)
     × (l.count + (l.n - l.j) ≤ l.from + (l.n - (l.i + 1)))

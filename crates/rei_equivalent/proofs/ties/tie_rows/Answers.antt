@@ -31,7 +31,10 @@ more c =
 pub tie_row-count-requires : goal.tie_row-count-requires
 tie_row-count-requires c =
     let part = length_part c.loop-i.a (2 * c.args.n) c.args.y.now (room (goal.at.tie_row-count-requires c).In-loop-i) in
-    ((c.loop-i-test.true, part, c.requires.sizes.2), (omega (arith, more (goal.at.tie_row-count-requires c).In-loop-i, c.loop-i.invariant), omega (arith, c.loop-i.invariant)))
+    record {
+      row = (c.loop-i-test.true, part, c.requires.sizes.2);
+      room = (omega (arith, more (goal.at.tie_row-count-requires c).In-loop-i, c.loop-i.invariant), omega (arith, c.loop-i.invariant));
+    }
 
 pub loop-i-preserved : goal.loop-i-preserved
 loop-i-preserved c =

@@ -5,7 +5,8 @@ use Rattle.rei_equivalent.proofs.TieLaws.{left_in_all}
 use Rattle.rei_equivalent.proofs.ties.tie_rows.Given as goal
 
 abbrev pub invariant-loop-i : goal.invariant-loop-i
-invariant-loop-i l = left_in_all l.buses (entry_at l.n l.y) l.n in
+invariant-loop-i l =
+    let left = left_in_all l.buses (entry_at l.n l.y) l.n in
     (l.i ≤ l.n)
     × (l.w ≡ 2 * l.n)
     × (l.a ≡ 2 * (l.i * l.n))
