@@ -37,7 +37,7 @@ in_rows : (ns : List ℕ) (k : ℕ) (ks : List ℕ) → k is_one_of ks → place
 unfolding rows_in
 in_rows ns k [] m = absurd m
 in_rows ns k (x ∷ ks) m = elim (in-cases k x ks m) [
-  | inl p ↦ rw p (in_head (place x ns) (rows_in ns ks))
+  | inl p ↦ subst (λ (z : ℕ). place z ns is_one_of place x ns ∷ rows_in ns ks) (sym p) (in_head (place x ns) (rows_in ns ks))
   | inr t ↦ in_tail (place k ns) (place x ns) (rows_in ns ks) (in_rows ns k ks t)
 ]
 

@@ -19,7 +19,7 @@ use Rattle.claims.proofs.Removals.{unchanged as by_row, finite, same-or-joined, 
 in_map : (f : ℕ → ℕ) (k : ℕ) (ks : List ℕ) → k is_one_of ks → f k is_one_of map f ks
 in_map f k [] m = absurd m
 in_map f k (x ∷ ks) m = elim (in-cases k x ks m) [
-  | inl p ↦ rw p (in_head (f x) (map f ks))
+  | inl p ↦ subst (λ (z : ℕ). f z is_one_of f x ∷ map f ks) (sym p) (in_head (f x) (map f ks))
   | inr t ↦ in_tail (f k) (f x) (map f ks) (in_map f k ks t)
 ]
 
@@ -32,7 +32,7 @@ grouped-number : (ns G : List ℕ) (g : ℕ) → ((k : ℕ) → k is_one_of G �
 unfolding rows_in
 grouped-number ns [] g among m = absurd m
 grouped-number ns (x ∷ G) g among m = elim (in-cases g (place x ns) (rows_in ns G) m) [
-  | inl p ↦ rw (p, get_or-place x ns (among x (in_head x G))) (in_head x G)
+  | inl p ↦ subst (λ (z : ℕ). z is_one_of x ∷ G) (sym (ap (λ (z : ℕ). get_or ns z 0) p ∙ get_or-place x ns (among x (in_head x G)))) (in_head x G)
   | inr t ↦ in_tail (get_or ns g 0) x G (grouped-number ns G g (λ (k : ℕ) (l : k is_one_of G). among k (in_tail k x G l)) t)
 ]
 

@@ -13,18 +13,18 @@ pub data Walk (L : Links) (R : List ℕ) (b : ℕ) : ℕ → Type 0 where
   last : {a : ℕ} → L a b → Walk L R b a
   via : {a k : ℕ} → L a k → k is_one_of R → Walk L R b k → Walk L R b a
 
-pub join : {L : Links} {R : List ℕ} {a k b : ℕ} → Walk L R k a → k is_one_of R → Walk L R b k → Walk L R b a
+pub join : {L : Links} {R : List ℕ} {k a b : ℕ} → Walk L R k a → k is_one_of R → Walk L R b k → Walk L R b a
 join (last l) m w = via l m w
 join (via l m' v) m w = via l m' (join v m w)
 
-pub map-walk : {L M : Links} {R : List ℕ} {a b : ℕ} → ((i j : ℕ) → L i j → M i j) → Walk L R b a → Walk M R b a
-map-walk {a} {b} f (last l) = last (f a b l)
-map-walk {a} f (via {k = x} l m w) = via (f a x l) m (map-walk f w)
+pub map-walk : {L M : Links} {R : List ℕ} {b a : ℕ} → ((i j : ℕ) → L i j → M i j) → Walk L R b a → Walk M R b a
+map-walk {b} {a} f (last l) = last (f a b l)
+map-walk {a = a} f (via {k = x} l m w) = via (f a x l) m (map-walk f w)
 
 abbrev pub flip : Links → Links
 flip L i j = L j i
 
-turn : {L : Links} {R : List ℕ} {a b : ℕ} → Walk L R b a → Walk (flip L) R a b
+turn : {L : Links} {R : List ℕ} {b a : ℕ} → Walk L R b a → Walk (flip L) R a b
 turn (last l) = last l
 turn (via l m w) = join (turn w) m (last l)
 
@@ -33,7 +33,7 @@ turn (via l m w) = join (turn w) m (last l)
 abbrev Listed : Matrix → List ℕ → ℕ → ℕ → Type 0
 Listed Y R a b = (ks : List ℕ) × Within ks R × Steps Y a ks b
 
-steps : (Y : Matrix) {R : List ℕ} {a b : ℕ} → Walk (Linked Y) R b a → Listed Y R a b
+steps : (Y : Matrix) {R : List ℕ} {b a : ℕ} → Walk (Linked Y) R b a → Listed Y R a b
 steps Y (last l) = ([], tt, l)
 steps Y (via {k = x} l m w) = (x ∷ (steps Y w).0, (m, (steps Y w).1), (l, (steps Y w).2))
 
@@ -65,10 +65,10 @@ SameLinks Bus G L M = (i j : ℕ) → Bus i → Bus j → (i is_one_of G → ⊥
 
 -- a walk by links of either into G, cut at the first bus of G, is a walk by one of them
 module _ (Bus : ℕ → Type 0) (R G : List ℕ) (bus : (k : ℕ) → k is_one_of R → Bus k) where
-  pub into_one : (L M : Links) → SameLinks Bus G L M → {a g : ℕ} → Bus a → (a is_one_of G → ⊥) → g is_one_of G → Walk (Either L M) R g a → IntoBy L R G a ⊎ IntoBy M R G a
-  into_one L M alike {a} {g} here out h (last (inl l)) = inl (g, h, last l)
-  into_one L M alike {a} {g} here out h (last (inr l)) = inr (g, h, last l)
-  into_one L M alike {a} {g} here out h (via {k = x} l m w) = elim (in-or-out x G) [
+  pub into_one : (L M : Links) → SameLinks Bus G L M → {g a : ℕ} → Bus a → (a is_one_of G → ⊥) → g is_one_of G → Walk (Either L M) R g a → IntoBy L R G a ⊎ IntoBy M R G a
+  into_one L M alike {g} {a} here out h (last (inl l)) = inl (g, h, last l)
+  into_one L M alike {g} {a} here out h (last (inr l)) = inr (g, h, last l)
+  into_one L M alike {g} {a} here out h (via {k = x} l m w) = elim (in-or-out x G) [
     | inl y ↦ elim l [ inl u ↦ inl (x, y, last u) | inr u ↦ inr (x, y, last u) ]
     | inr y ↦ let s = alike a x here (bus x m) out y in elim (into_one L M alike (bus x m) y h w) [
       | inl (g, y, v) ↦ inl (g, y, via (⊎_elim (λ (u : L a x). u) s.0 l) m v)
