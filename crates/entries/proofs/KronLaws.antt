@@ -60,7 +60,8 @@ removed-fit rec ys bus f r t rec' ys' h i e s g k = record { told = rw fit cc; s
 -- 1 and 2 are no stops, and leave an answer as it was
 unfit-answer_after : (b : Bool) (x held : ℕ) → held ≡ answer_after (from_input (refuse b too_many wrong_length)) x held
 unfolding answer_after from_input
-unfit-answer_after b x held = elim b [ true ↦ refl | false ↦ refl ]
+unfit-answer_after true x held = refl
+unfit-answer_after false x held = refl
 
 pub listed-unfit : (rec : List ℕ) (ys : List Float) (ks : List ℕ) (removed f : ℕ)
     → (Fits rec → ⊥) → f ≡ refuse (ltb limit 0 || ltb limit (length ks)) too_many wrong_length → ListRemoved rec ys ks removed f rec ys removed

@@ -2,8 +2,8 @@
 ghost use Rattle.std.specs.Prelude.{◌≡◌, length};
 ghost use Rattle.entries.specs.Records as spec;
 
-use number_bytes::{put_word, read_halves, word_at, write_halves};
 use kron_reduction::KronReducer;
+use number_bytes::{put_word, read_halves, word_at, write_halves};
 use refusals::LIMIT;
 
 // The two sizes, and the rows of the active buses, a byte each.
