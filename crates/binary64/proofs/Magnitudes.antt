@@ -7,7 +7,7 @@ use Prim.Native.Nat.compare
 use Prim.Native.Nat.{ℕ, zero, suc, ◌+◌, ◌-◌, ◌*◌, ◌/◌, ◌%◌, ◌^◌, ◌≤◌, ◌<◌, compare, Ordering}
 use native.Mathlib.Nat.{le_trans, le_of_eq, lt_of_le_of_lt, lt_irrefl, mul_comm, mul_assoc, mul_right_comm, mul-mul-mul_comm, mul-le-mul, mul-le-mul_right, le_of_mul-le-mul_right, mul-pos, add-mul, mul-div_cancel, mul-mod_left, mul-lt-mul_of_pos_right, lt_of_lt_of_le, zero-mul, mul-zero, zero-lt-suc}
 use native.Mathlib.Omega.{arith}
-use lib.Dec.{T, ltb, eqb, eqb-suc-zero}
+use lib.Dec.{T, ltb, eqb-suc-zero}
 use lib.Pow.{pow-add, pow_pos, shl_lt}
 use lib.Ieee.{Float, nan, inf, fin, Format, prec, emax, low, up, down, unlike, size, nearest, units, round, sum, neg, add, sub, mul, div}
 use lib.Ieee.Digits.{size-le, back}

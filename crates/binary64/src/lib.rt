@@ -1,6 +1,7 @@
 // The root of a binary64 number, from its bits and whole numbers; `words` has a number as a 64-bit word, and back. For the layers above:
 // callers of the library take `complex::magnitude::sqrt`, which answers a finite root or none.
 #![tactic(auto)]
+
 ghost use Rattle.std.specs.Prelude.{◌≡◌};
 ghost use Rattle.binary64.specs.Root.{root, Root};
 

@@ -1,19 +1,19 @@
 -- The claims by number (`number-claims`), from those by row: chains by row are chains by number.
-use Rattle.prelude.proofs.Prelude.{◌≡◌, refl, sym, ap, ◌∙◌, subst, ◌⊎◌, inl, inr, ⊎_elim, List, [], ◌∷◌, ℕ, ◌<◌, length, get_or, ap₂, map, length-map}
+use Rattle.prelude.proofs.Prelude.{◌≡◌, sym, ap, ◌∙◌, subst, ◌⊎◌, inl, inr, ⊎_elim, List, [], ◌∷◌, ℕ, ◌<◌, length, get_or, ap₂, map, length-map}
 use mathlib.Core.Path.{subst₂}
-use Rattle.complex.specs.{Complex, ◌≈◌}
+use Rattle.complex.specs.{◌≈◌}
 use Rattle.binary64.specs.Values.{F64s}
-use Rattle.lists.specs.Buses.{up_to, ◌is_one_of◌, others, place, rows_in, within, all_below}
+use Rattle.lists.specs.Buses.{up_to, ◌is_one_of◌, others, place, rows_in}
 use Rattle.lists.proofs.Buses.{in_head, in_tail, in-cases, get_or-in, get_or-place, place-lt, below_all, all-below-others, all-below-up_to}
 use Rattle.lists.proofs.Naming.{place-number}
 use Rattle.lists.proofs.Lookups.{get_d_map}
 use Rattle.kron_reduction.specs.Reducer.{ReducerInput, AcceptedMaking}
 use Rattle.kron_reduction.specs.Reading.{active_numbers}
-use Rattle.claims.specs.Accounts.{Call, left, entry_in, Account, account, kept, row_at, bus_at, numbers_at}
+use Rattle.claims.specs.Accounts.{Call, left, entry_in, Account, account, kept, row_at, numbers_at}
 use Rattle.claims.specs.Chains.{Steps, Within, Chain, Into, Out, SameOutside}
 use Rattle.claims.specs.Removals.{NoInto, NoOut}
-use Rattle.claims.specs.ByNumber.{old_between, left_between, by_number, AlikeByNumber, UnchangedByNumber, IndependentByNumber, NumberClaims}
-use Rattle.claims.proofs.ByNumber.{account-many, account-distinct, removed-below, row-of-bus, kept-numbers, alike-by-number}
+use Rattle.claims.specs.ByNumber.{old_between, left_between, by_number, AlikeByNumber, UnchangedByNumber, NumberClaims}
+use Rattle.claims.proofs.ByNumber.{account-many, account-distinct, removed-below, kept-numbers, alike-by-number}
 use Rattle.claims.proofs.Removals.{unchanged as by_row, finite, same-or-joined, cut}
 
 in_map : (f : ℕ → ℕ) (k : ℕ) (ks : List ℕ) → k is_one_of ks → f k is_one_of map f ks

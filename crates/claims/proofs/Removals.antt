@@ -15,7 +15,7 @@ use Rattle.kron_reduction.proofs.States.{eliminate-active}
 use Rattle.claims.specs.Accounts.{Call, left, entry_in, Account, fresh, state_after, account, kept, row_at}
 use Rattle.claims.specs.Chains.{Chain, Into, Out, SameOutside}
 use Rattle.claims.specs.Finite.{of_account, Finite}
-use Rattle.claims.specs.Removals.{Unchanged, Alike, Independent, RemovalClaims}
+use Rattle.claims.specs.Removals.{Unchanged, Independent, RemovalClaims}
 use Rattle.claims.specs.Untested.{untested_account}
 use Rattle.claims.proofs.Locality.{Carried, after-all, old-or-chain, same-or-chains}
 use Rattle.claims.proofs.Computed.{computed-finite}

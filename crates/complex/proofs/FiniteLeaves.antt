@@ -3,7 +3,6 @@ use Rattle.prelude.proofs.Prelude.{◌≡◌, refl, sym, ap, subst, ◌∙◌, B
 use Rattle.binary64.specs.Values.{all_finite}
 use Rattle.binary64.specs.Root.{root}
 use Rattle.complex.specs.declared.Complex.{Complex}
-use Rattle.complex.specs.declared.Pair.TheVariants as pairs
 use Rattle.complex.specs.declared.magnitude.Real.{Real}
 use Rattle.complex.specs.declared.magnitude.Real.TheVariants as reals
 use Rattle.complex.specs.Arithmetic.{cadd, csub, cneg, cmul, cdiv, unit}

@@ -1,6 +1,6 @@
 -- Which numbers of `lodf_matrix` tell that all are finite: of two branches or more the denominators and the factors; of one, none; and where the PTDF is
 -- of ordinary size, all are.
-use Rattle.prelude.proofs.Prelude.{◌≡◌, refl, sym, ap, subst, ◌∙◌, Bool, true, false, ◌&&◌, cond, List, [], ◌∷◌, ◌++◌, inl, inr, ℕ, zero, suc, ◌+◌, ◌*◌, ◌≤◌, ◌<◌, arith, T, eqb, length, get_or, Float, nan, binary64, lt, neg, of_bits, and_i, and_l, and_r, finite, eq-eqb, ne_eqb, lit≤}
+use Rattle.prelude.proofs.Prelude.{◌≡◌, refl, sym, ap, subst, ◌∙◌, Bool, true, false, ◌&&◌, cond, List, [], ◌∷◌, ◌++◌, inl, inr, ℕ, zero, suc, ◌+◌, ◌*◌, ◌≤◌, ◌<◌, arith, T, eqb, length, get_or, Float, binary64, lt, neg, of_bits, and_i, and_l, and_r, finite, eq-eqb, ne_eqb, lit≤}
 use Rattle.binary64.specs.Values.{all_finite}
 use Rattle.binary64.proofs.Operands.{sub-operands, dividend}
 use Rattle.complex.proofs.Sizes.{In, in-finite, larger-in, sub_in, ordinary-at}

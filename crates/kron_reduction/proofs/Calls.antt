@@ -1,5 +1,5 @@
 -- What the calls on a record answer and leave, from the tests that the code makes and from what a list of removals leaves.
-use Rattle.prelude.proofs.Prelude.{◌≡◌, refl, sym, ap, ◌∙◌, true, false, not, ◌||◌, ◌⊎◌, inl, inr, List, [], ◌∷◌, ◌++◌, ℕ, zero, suc, ◌+◌, ◌-◌, ◌*◌, ◌≤◌, ◌<◌, arith, T, eqb, ltb, length, take, drop, Float, ap₂, append-nil, zero-add, sub-zero, le_trans, mul-le-mul, mul-le-mul_left, ne_eqb, ltb-false, length-drop, drop_of_length-le, length-take-le}
+use Rattle.prelude.proofs.Prelude.{◌≡◌, refl, sym, ap, ◌∙◌, true, false, not, ◌||◌, ◌⊎◌, inl, inr, List, [], ◌∷◌, ◌++◌, ℕ, zero, suc, ◌+◌, ◌-◌, ◌*◌, ◌≤◌, arith, T, eqb, ltb, length, take, drop, Float, ap₂, append-nil, zero-add, sub-zero, le_trans, mul-le-mul, mul-le-mul_left, ne_eqb, ltb-false, length-drop, drop_of_length-le, length-take-le}
 use Rattle.complex.specs.{zeros}
 use Rattle.lists.proofs.Parts.{back}
 use Rattle.refusals.proofs.Answering.{passed, accepting}

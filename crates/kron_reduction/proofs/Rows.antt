@@ -1,5 +1,5 @@
 -- The refusal of a removal, told of the n rows at the front of a slice, and the same of the state that they hold.
-use Rattle.prelude.proofs.Prelude.{◌≡◌, refl, sym, ap, ◌∙◌, subst, Bool, true, false, cond, List, [], ◌∷◌, inl, inr, ℕ, ◌*◌, ◌≤◌, ◌<◌, T, length, get_or, take, Float, finite, ap₂, is_true, lt, arith}
+use Rattle.prelude.proofs.Prelude.{◌≡◌, refl, sym, ap, ◌∙◌, subst, Bool, true, false, cond, List, [], ◌∷◌, inl, inr, ℕ, ◌*◌, ◌≤◌, ◌<◌, T, length, get_or, take, Float, finite, ap₂, is_true, lt}
 use Rattle.binary64.specs.Values.{all_finite}
 use Rattle.complex.specs.{Matrix, entry_at, division_limit, sqmag, too_small}
 use Rattle.complex.specs.Inner.Ordinary.{ordinary_square, all_ordinary}

@@ -4,7 +4,7 @@
 use Rattle.prelude.proofs.Prelude.{◌≡◌, refl, sym, ap, ◌∙◌, subst, Bool, true, false, not, ◌||◌, cond, List, [], ◌∷◌, ◌++◌, ℕ, zero, suc, ◌+◌, ◌-◌, ◌≤◌, ◌<◌, arith, T, eqb, ltb, length, Float, eqb-true, le-ltb, is_true}
 use Rattle.binary64.specs.Values.{all_finite}
 use Rattle.complex.specs.{cmul, csub, complex_inv, unit, of_quotient, of_sqmag, entry, entry_at, grid, zeros, Matrix}
-use Rattle.complex.proofs.Finite.{none, all_left, all_right}
+use Rattle.complex.proofs.Finite.{all_left, all_right}
 use Rattle.complex.proofs.Sticky.{Finite}
 use Rattle.complex.proofs.FiniteEntries.{Each, each_at, AllFinite, grid-finite, slice-entries}
 use Rattle.lists.specs.Buses.{up_to}

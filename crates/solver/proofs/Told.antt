@@ -3,7 +3,7 @@
 --     told-ended    a part that is not done ends the whole
 --     told-numbers  numbers that the slice then holds
 --     came-then     a loop's next steps
-use Rattle.prelude.proofs.Prelude.{◌≡◌, refl, sym, ap, ◌∙◌, subst, Bool, true, false, cond, true≢false, List, [], ◌∷◌, ◌++◌, append_assoc, append-nil, ℕ, suc, ◌+◌, ◌-◌, arith, T, eqb, is_true, Float}
+use Rattle.prelude.proofs.Prelude.{◌≡◌, refl, sym, ap, ◌∙◌, subst, Bool, true, false, cond, true≢false, List, [], ◌∷◌, ◌++◌, append_assoc, append-nil, ℕ, suc, ◌-◌, arith, T, eqb, is_true, Float}
 use Rattle.binary64.specs.Values.{all_finite}
 use Rattle.refusals.specs.Work.{Step, reduces, computing, reductions, meets}
 use Rattle.refusals.proofs.Work.{meets-after, meets-first, meets-numbers, numbers-met, count-both, none-counted}

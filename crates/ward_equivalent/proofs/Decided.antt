@@ -1,5 +1,5 @@
 -- The decision: what the work of a study met, and that the solutions it left give the study's equivalent.
-use Rattle.prelude.proofs.Prelude.{◌≡◌, refl, sym, ap, ◌∙◌, subst, List, ℕ, zero, suc, ◌+◌, ◌-◌, ◌*◌, ◌≤◌, ◌<◌, arith, T, length, get_or, take, drop, Float, length-take-le, length-drop, take_all, drop-drop, get_or-drop}
+use Rattle.prelude.proofs.Prelude.{◌≡◌, refl, sym, ap, ◌∙◌, subst, List, ℕ, zero, suc, ◌+◌, ◌-◌, ◌*◌, ◌≤◌, ◌<◌, arith, length, get_or, take, drop, Float, length-take-le, length-drop, take_all, drop-drop, get_or-drop}
 use Rattle.complex.specs.{entry_at, zeros}
 use Rattle.complex.proofs.Entries.{entry-take}
 use Rattle.complex.proofs.Matrices.{entry-within}

@@ -1,5 +1,5 @@
 -- What an accepted study writes is finite, and what is accepted.
-use Rattle.prelude.proofs.Prelude.{◌≡◌, refl, sym, ap, ◌∙◌, subst, Bool, true, false, not, cond, List, [], ◌∷◌, ◌++◌, ℕ, suc, ◌+◌, ◌<◌, arith, T, eqb, ltb, is_true, and_r, length, get_or, map, Float, finite, eq-eqb, le-ltb, of_bits}
+use Rattle.prelude.proofs.Prelude.{◌≡◌, refl, sym, ap, ◌∙◌, subst, Bool, true, false, not, cond, List, [], ◌∷◌, ◌++◌, ℕ, suc, ◌<◌, arith, T, eqb, ltb, is_true, and_r, length, get_or, map, Float, finite, eq-eqb, le-ltb, of_bits}
 use Rattle.binary64.specs.Values.{all_finite}
 use Rattle.complex.specs.{plus0, csub, zeros}
 use Rattle.complex.proofs.Finite.{none, all_more, all_left}

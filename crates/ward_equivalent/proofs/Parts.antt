@@ -1,7 +1,7 @@
 -- Work in the order of its steps: parts one after the other, numbers before and behind them.
 --     ended-then, ended-first   a part that is done and the next; a part that is not done ends the whole
 --     ended-numbers, ended-lost, ended-behind, ended-lost-behind   numbers that are finite or not
-use Rattle.prelude.proofs.Prelude.{◌≡◌, refl, sym, ap, ◌∙◌, subst, Bool, false, cond, List, [], ◌∷◌, ◌++◌, append_assoc, ℕ, ◌+◌, ◌-◌, arith, T, Float, is_true}
+use Rattle.prelude.proofs.Prelude.{◌≡◌, refl, sym, ap, ◌∙◌, subst, Bool, false, cond, List, [], ◌∷◌, ◌++◌, append_assoc, ℕ, ◌-◌, arith, T, Float, is_true}
 use Rattle.binary64.specs.Values.{all_finite}
 use Rattle.refusals.specs.Work.{Step, computes, computing, reductions, meets}
 use Rattle.refusals.proofs.Work.{meets-after, meets-first, meets-numbers, numbers-met, count-both, count-numbers, none-counted}

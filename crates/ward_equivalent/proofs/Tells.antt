@@ -4,7 +4,7 @@
 --     injection-tells   of an injection's
 --     correction-tells  of a correction's
 --     ratio-finite      the ratio's numbers are finite
-use Rattle.prelude.proofs.Prelude.{◌≡◌, refl, sym, ap, ◌∙◌, subst, Bool, true, false, ◌&&◌, and_i, and_l, and_r, List, [], ◌∷◌, ◌++◌, ℕ, zero, suc, ◌+◌, ◌<◌, arith, T, eqb, length, get_or, Float, binary64, neg, finite, inl, inr, eq-or-lt_of_le}
+use Rattle.prelude.proofs.Prelude.{◌≡◌, refl, sym, ap, ◌∙◌, subst, Bool, true, false, ◌&&◌, and_i, and_l, and_r, List, [], ◌∷◌, ◌++◌, ℕ, zero, suc, ◌<◌, arith, T, eqb, length, get_or, Float, binary64, neg, finite, inl, inr, eq-or-lt_of_le}
 use lib.Ieee.{inf, fin, nan, of_bits}
 use Rattle.binary64.specs.Values.{all_finite}
 use Rattle.binary64.proofs.Operands.{add-operands, mul-operands}

@@ -1,6 +1,6 @@
 -- Finite numbers only: what an accepted study writes is finite; and nothing else than a number given or computed that is not finite, a
 -- pivot too small or an allowance refuses a study whose lengths and lists are right.
-use Rattle.std.specs.Prelude.{ℕ, ◌≡◌, not, ◌++◌, T}
+use Rattle.std.specs.Prelude.{◌≡◌, not, ◌++◌, T}
 use Rattle.std.specs.Float.Ieee.Scale.{finite}
 use Rattle.binary64.specs.Values.{all_finite}
 use Rattle.refusals.specs.declared.Allowance.{Allowance}

@@ -1,5 +1,5 @@
 -- `complex::both_finite` meets its contract.
-use Rattle.prelude.proofs.Prelude.{sym, ◌∙◌, finite}
+use Rattle.prelude.proofs.Prelude.{sym, ◌∙◌}
 use Rattle.complex.proofs.both_finite.Goals as goal
 
 pub returns-then-finite : goal.returns-then-finite

@@ -1,5 +1,5 @@
 -- `kron_reduction::active_numbers` meets its contract. The loop's invariant: the numbers of the rows passed stand in their places, 0 in the others.
-use Rattle.prelude.proofs.Prelude.{◌≡◌, sym, ◌-◌, ◌≤◌, arith, rules, length}
+use Rattle.prelude.proofs.Prelude.{◌≡◌, sym, ◌≤◌, arith, rules, length}
 use Rattle.refusals.specs.Refusals.{limit}
 use Rattle.lists.proofs.Fronts.{filling-start}
 use Rattle.kron_reduction.proofs.Showing.{places-more, places-end}

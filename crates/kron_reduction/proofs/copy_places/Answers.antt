@@ -1,5 +1,5 @@
 -- `kron_reduction::copy_places` meets its contract. The invariant: the first i places are copied.
-use Rattle.prelude.proofs.Prelude.{refl, ◌-◌, arith}
+use Rattle.prelude.proofs.Prelude.{refl, arith}
 use Rattle.lists.proofs.Fronts.{filling-start, filling-more, filling-front}
 use Rattle.kron_reduction.proofs.copy_places.Goals as goal
 

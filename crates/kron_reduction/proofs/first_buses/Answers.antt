@@ -1,5 +1,5 @@
 -- `kron_reduction::first_buses` meets its contract. The loop's invariant: bus i stands in each place passed, 0 in the others.
-use Rattle.prelude.proofs.Prelude.{sym, ◌-◌, arith}
+use Rattle.prelude.proofs.Prelude.{sym, arith}
 use Rattle.lists.specs.Buses.{up_to}
 use Rattle.lists.proofs.Order.{length-up_to, get_or-up_to}
 use Rattle.lists.proofs.Fronts.{filling-start}

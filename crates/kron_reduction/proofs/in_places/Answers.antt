@@ -1,5 +1,5 @@
 -- `kron_reduction::in_places` meets its contract. The loop's invariant: the numbers passed stand in their places, 0 in the others.
-use Rattle.prelude.proofs.Prelude.{refl, ◌-◌}
+use Rattle.prelude.proofs.Prelude.{refl}
 use Rattle.lists.proofs.Fronts.{filling-start}
 use Rattle.kron_reduction.proofs.Showing.{places-more, places-end}
 use Rattle.kron_reduction.proofs.in_places.Goals as goal

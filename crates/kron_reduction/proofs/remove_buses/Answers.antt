@@ -68,8 +68,7 @@ remove_accepted-ran-requires c =
 
 pub returns : goal.returns
 returns c =
-    let s = begun (test (goal.at.returns c).After-given_finite) in
-    (
+    let s = begun (test (goal.at.returns c).After-given_finite) in (
       ap (λ (a : Outcome). record { removals = record { answer = a; removed = c.remove_accepted-ran.result.done }; rec = reducer_of s.args.r.made (s.args.r.n_buses - c.remove_accepted-ran.result.done) c.remove_accepted-ran.new.active s.args.r.numbers }) c.answer_of.ensures
           ∙ c.remove_accepted-ran.ensures.1,
       c.remove_accepted-ran.ensures.2,

@@ -1,5 +1,4 @@
 -- `number_bytes::read_halves` meets its contract. The invariant: the first i elements are read.
-use Rattle.prelude.proofs.Prelude.{◌-◌}
 use Rattle.number_bytes.proofs.BytesLaws.{reading}
 use Rattle.number_bytes.proofs.read_halves.Goals as goal
 

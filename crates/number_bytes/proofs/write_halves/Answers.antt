@@ -1,5 +1,4 @@
 -- `number_bytes::write_halves` meets its contract. The invariant: the first i elements are written.
-use Rattle.prelude.proofs.Prelude.{◌-◌}
 use Rattle.number_bytes.proofs.BytesLaws.{writing}
 use Rattle.number_bytes.proofs.write_halves.Goals as goal
 

@@ -27,12 +27,11 @@ read-reading-requires c = omega (arith, c.if-matrix-ne-MATRIX.false)
 
 pub print-n-requires : goal.print-n-requires
 unfolding most matrix_length output_length
-print-n-requires c =
-    (
-      whole_is c.args.input.now c.args.matrix.now c.read-reading.new.matrix c.read-reading.result c.read-reading.ensures,
-      rw (text-is c.args.input.now c.args.matrix.now c.read-reading.new.matrix c.read-reading.result c.read-reading.ensures)
-          (omega (arith, printed-room c.args.input.now, c.bytes.auto.s, c.if-output-ne-OUTPUT.false)),
-    )
+print-n-requires c = (
+  whole_is c.args.input.now c.args.matrix.now c.read-reading.new.matrix c.read-reading.result c.read-reading.ensures,
+  rw (text-is c.args.input.now c.args.matrix.now c.read-reading.new.matrix c.read-reading.result c.read-reading.ensures)
+      (omega (arith, printed-room c.args.input.now, c.bytes.auto.s, c.if-output-ne-OUTPUT.false)),
+)
 
 pub returns : goal.returns
 unfolding most matrix_length output_length

@@ -1,6 +1,5 @@
 -- `text_numbers::decimal` meets its contract: what is read so far, and the digits left, make the number of the whole word.
-use Rattle.prelude.proofs.Prelude.{sym, ◌∙◌, ◌-◌, arith}
-use Rattle.text_numbers.specs.Words.{spare}
+use Rattle.prelude.proofs.Prelude.{sym, ◌∙◌, arith}
 use Rattle.text_numbers.proofs.WordLaws.{decimal-spare, decimal-plain, decimal-no, decimal-over, decimal-more, decimal-end}
 use Rattle.text_numbers.proofs.decimal.Goals as goal
 

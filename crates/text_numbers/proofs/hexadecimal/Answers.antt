@@ -1,5 +1,5 @@
 -- `text_numbers::hexadecimal` meets its contract: what is read so far, and the digits left, make the word.
-use Rattle.prelude.proofs.Prelude.{◌≡◌, sym, ◌∙◌, subst, ℕ, ◌+◌, ◌-◌, ◌*◌, ◌<◌, arith, ◌^◌, lt_of_lt_of_le}
+use Rattle.prelude.proofs.Prelude.{◌≡◌, sym, ◌∙◌, subst, ℕ, ◌+◌, ◌*◌, ◌<◌, arith, ◌^◌, lt_of_lt_of_le}
 use lib.Pow.{pow_mono, pow-add}
 use Rattle.text_numbers.proofs.WordLaws.{hex-short, hex-long, hex-no, hex-more, hex-end}
 use Rattle.text_numbers.proofs.hexadecimal.Goals.{Else-d-ge16}

@@ -1,5 +1,5 @@
 -- `binary64::finite::all_finite` meets its contract: all are finite where those passed are and those to come are.
-use Rattle.prelude.proofs.Prelude.{refl, List, ◌-◌, arith, Float, finite}
+use Rattle.prelude.proofs.Prelude.{refl, List, arith, Float, finite}
 use Rattle.binary64.specs.Values.{all_finite}
 use Rattle.binary64.proofs.Flags.{flag-next, flag-ended}
 use Rattle.binary64.proofs.finite.all_finite.Goals as goal

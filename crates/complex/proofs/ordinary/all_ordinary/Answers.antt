@@ -1,5 +1,5 @@
 -- `complex::ordinary::all_ordinary` meets its contract: all are ordinary where those passed are and those to come are.
-use Rattle.prelude.proofs.Prelude.{refl, List, ◌-◌, arith, Float}
+use Rattle.prelude.proofs.Prelude.{refl, List, arith, Float}
 use Rattle.complex.specs.Inner.Ordinary.{ordinary, all_ordinary}
 use Rattle.binary64.proofs.Flags.{flag-next, flag-ended}
 use Rattle.complex.proofs.ordinary.all_ordinary.Goals as goal

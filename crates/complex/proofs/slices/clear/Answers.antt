@@ -1,5 +1,5 @@
 -- `complex::slices::clear` meets its contract: so many times +0 stand before what was there.
-use Rattle.prelude.proofs.Prelude.{◌≡◌, refl, ◌∙◌, ◌-◌, arith, length, length-set}
+use Rattle.prelude.proofs.Prelude.{◌≡◌, refl, ◌∙◌, arith, length, length-set}
 use Rattle.complex.specs.Constants.{plus0}
 use Rattle.complex.specs.Matrices.{zeros}
 use Rattle.lists.proofs.Fronts.{fill-next, fill-all}

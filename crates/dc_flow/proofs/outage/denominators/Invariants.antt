@@ -1,4 +1,4 @@
-use Rattle.prelude.proofs.Prelude.{◌≡◌, ◌++◌, ◌+◌, ◌-◌, ◌*◌, ◌≤◌, length, drop}
+use Rattle.prelude.proofs.Prelude.{◌≡◌, ◌++◌, ◌-◌, ◌*◌, ◌≤◌, length, drop}
 use Rattle.dc_flow.specs.Dc.{real_row, denominator}
 use Rattle.dc_flow.proofs.outage.denominators.Given as goal
 

@@ -1,5 +1,5 @@
 -- `dc_flow::outage::quotient_row` meets its contract: the factors of the branches passed stand before what was there.
-use Rattle.prelude.proofs.Prelude.{◌≡◌, refl, ◌∙◌, ◌+◌, ◌-◌, arith, length-set, set}
+use Rattle.prelude.proofs.Prelude.{◌≡◌, refl, ◌∙◌, ◌+◌, arith, length-set, set}
 use Rattle.dc_flow.specs.Dc.{real_row}
 use Rattle.dc_flow.proofs.OutageLaws.{real_row-step, real_row-all}
 use Rattle.dc_flow.proofs.outage.quotient_row.Goals as goal

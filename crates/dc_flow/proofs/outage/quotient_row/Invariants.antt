@@ -1,4 +1,4 @@
-use Rattle.prelude.proofs.Prelude.{◌≡◌, false, ◌++◌, ◌+◌, ◌-◌, ◌≤◌, length, drop}
+use Rattle.prelude.proofs.Prelude.{◌≡◌, false, ◌++◌, ◌-◌, ◌≤◌, length, drop}
 use Rattle.dc_flow.specs.Dc.{real_row}
 use Rattle.dc_flow.specs.Inner.Rows.{row_factor}
 use Rattle.dc_flow.proofs.outage.quotient_row.Given as goal

@@ -1,5 +1,5 @@
 -- `dc_flow::outage::row_finite` meets its contract: the factors passed are finite.
-use Rattle.prelude.proofs.Prelude.{◌≡◌, sym, subst, ◌∙◌, Float, ℕ, ◌-◌, arith, T, length, finite}
+use Rattle.prelude.proofs.Prelude.{◌≡◌, sym, subst, ◌∙◌, Float, ℕ, arith, T, length, finite}
 use Rattle.dc_flow.specs.Inner.Rows.{row_outage}
 use Rattle.dc_flow.proofs.OutageLaws.{ends}
 use Rattle.dc_flow.proofs.OutageFinite.{row-passed, row-failed, one-more-finite}
@@ -23,11 +23,10 @@ returns-then-not-finite c =
 
 pub loop-k-preserved : goal.loop-k-preserved
 unfolding factors
-loop-k-preserved c =
-    (
-      omega (arith, c.loop-k-test.true),
-      one-more-finite (factors (goal.at.loop-k-preserved c).After-finite) c.loop-k.k c.loop-k.invariant.1 (subst T (sym (sym (told (goal.at.loop-k-preserved c).After-finite) ∙ c.if-not-finite.false)) tt),
-    )
+loop-k-preserved c = (
+  omega (arith, c.loop-k-test.true),
+  one-more-finite (factors (goal.at.loop-k-preserved c).After-finite) c.loop-k.k c.loop-k.invariant.1 (subst T (sym (sym (told (goal.at.loop-k-preserved c).After-finite) ∙ c.if-not-finite.false)) tt),
+)
 
 pub returns : goal.returns
 returns c = row-passed _ (length c.args.froms.now) c.loop-k.k c.loop-k-test.false c.loop-k.invariant.1

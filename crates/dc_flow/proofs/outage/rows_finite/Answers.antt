@@ -40,13 +40,12 @@ returns-then-not-row_finite c =
 
 pub loop-l-preserved : goal.loop-l-preserved
 unfolding factors
-loop-l-preserved c =
-    (
-      omega (arith, c.loop-l-test.true),
-      rw (c.loop-l.invariant.1, add-one, suc-mul),
-      grid-more (factors (goal.at.loop-l-preserved c).After-row_finite) (length c.args.froms.now) c.loop-l.l c.loop-l.invariant.2
-          (subst T (sym (sym (told (goal.at.loop-l-preserved c).After-row_finite) ∙ c.if-not-row_finite.false)) tt),
-    )
+loop-l-preserved c = (
+  omega (arith, c.loop-l-test.true),
+  rw (c.loop-l.invariant.1, add-one, suc-mul),
+  grid-more (factors (goal.at.loop-l-preserved c).After-row_finite) (length c.args.froms.now) c.loop-l.l c.loop-l.invariant.2
+      (subst T (sym (sym (told (goal.at.loop-l-preserved c).After-row_finite) ∙ c.if-not-row_finite.false)) tt),
+)
 
 pub returns : goal.returns
 returns c =

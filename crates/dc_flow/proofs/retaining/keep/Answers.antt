@@ -1,5 +1,5 @@
 -- `dc_flow::retaining::keep` meets its contract: the buses still to be retained, written over what stands, are all of them.
-use Rattle.prelude.proofs.Prelude.{refl, ap, ◌∙◌, ◌-◌, ◌<◌, add-one, arith, length, zero-add, length-replicate, length-set}
+use Rattle.prelude.proofs.Prelude.{refl, ap, ◌∙◌, ◌<◌, add-one, arith, length, zero-add, length-replicate, length-set}
 use Rattle.lists.specs.Buses.{mem, others}
 use Rattle.dc_flow.specs.Dc.{retained_of, retained_slice}
 use Rattle.dc_flow.specs.Inner.Rows.{mark_of}
@@ -21,12 +21,12 @@ loop-k-preserved c =
     let tells = mark-tells (mem c.loop-k.k c.args.interior.now) _ (c.requires.2 c.loop-k.k (omega (arith, c.requires.1))) in
     elim c.if-marks-k-eq0.branch [
       | then-marks-k-eq0 w ↦
-    let here = retained-here c.args.n c.loop-k.k c.args.interior.now h (tells.0 w.if-marks-k-eq0.true) in
-    let more = rw here at c.loop-k.invariant.4 in
-    rw (w.retained-is, w.count-is) (omega arith, omega arith, length-set c.loop-k.retained _ _ ∙ c.loop-k.invariant.2, c.loop-k.invariant.3, omega arith, rw (add-one c.loop-k.count) (rw here at c.loop-k.invariant.5))
+          let here = retained-here c.args.n c.loop-k.k c.args.interior.now h (tells.0 w.if-marks-k-eq0.true) in
+          let more = rw here at c.loop-k.invariant.4 in
+          rw (w.retained-is, w.count-is) (omega arith, omega arith, length-set c.loop-k.retained _ _ ∙ c.loop-k.invariant.2, c.loop-k.invariant.3, omega arith, rw (add-one c.loop-k.count) (rw here at c.loop-k.invariant.5))
       | else-marks-k-eq0 w ↦
-    let skip = retained-skip c.args.n c.loop-k.k c.args.interior.now h (tells.1 w.if-marks-k-eq0.false) in
-    rw (w.count-is, w.retained-is) (omega arith, omega arith, c.loop-k.invariant.2, c.loop-k.invariant.3, (rw skip at c.loop-k.invariant.4), (rw skip at c.loop-k.invariant.5))
+          let skip = retained-skip c.args.n c.loop-k.k c.args.interior.now h (tells.1 w.if-marks-k-eq0.false) in
+          rw (w.count-is, w.retained-is) (omega arith, omega arith, c.loop-k.invariant.2, c.loop-k.invariant.3, (rw skip at c.loop-k.invariant.4), (rw skip at c.loop-k.invariant.5))
     ]
 
 pub returns : goal.returns

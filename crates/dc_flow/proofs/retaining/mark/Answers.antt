@@ -1,5 +1,5 @@
 -- `dc_flow::retaining::mark` meets its contract.
-use Rattle.prelude.proofs.Prelude.{refl, ◌∙◌, ◌-◌, arith, length-set}
+use Rattle.prelude.proofs.Prelude.{refl, ◌∙◌, arith, length-set}
 use Rattle.dc_flow.proofs.RetainedLaws.{unmarked-yet, all-marked, mark-next, mark-none}
 use Rattle.dc_flow.proofs.retaining.mark.Goals.{else-bus-marks, then-bus-marks}
 use Rattle.dc_flow.proofs.retaining.mark.Goals as goal

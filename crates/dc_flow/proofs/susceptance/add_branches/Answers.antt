@@ -1,5 +1,5 @@
 -- `dc_flow::susceptance::add_branches` meets its contract: the matrix is that of the branches passed.
-use Rattle.prelude.proofs.Prelude.{◌≡◌, ap, ◌∙◌, ◌-◌, add-one, arith, length}
+use Rattle.prelude.proofs.Prelude.{◌≡◌, ap, ◌∙◌, add-one, arith, length}
 use Rattle.complex.proofs.Matrices.{length-zeros}
 use Rattle.dc_flow.specs.Dc.{susceptances}
 use Rattle.dc_flow.proofs.OutageLaws.{ends}

@@ -1,5 +1,5 @@
 -- `entries::records::copy` meets its contract. The invariant: the first i bytes are copied.
-use Rattle.prelude.proofs.Prelude.{refl, sym, ◌∙◌, ℕ, ◌-◌, add-one, arith, rules, get_or, take, length-set, take_all, take-suc}
+use Rattle.prelude.proofs.Prelude.{refl, sym, ◌∙◌, ℕ, add-one, arith, rules, get_or, take, length-set, take_all, take-suc}
 use Rattle.number_bytes.proofs.BytesLaws.{filled_more}
 use Rattle.entries.proofs.records.copy.Goals as goal
 

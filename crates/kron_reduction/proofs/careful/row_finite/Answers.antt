@@ -1,5 +1,5 @@
 -- `kron_reduction::careful::row_finite` meets its contract. The loop's invariant: it is so of the columns passed.
-use Rattle.prelude.proofs.Prelude.{ℕ, ◌-◌, ◌<◌, arith}
+use Rattle.prelude.proofs.Prelude.{ℕ, ◌<◌, arith}
 use Rattle.kron_reduction.proofs.Told.{sure-more, sure-end, sure-not}
 use Rattle.kron_reduction.proofs.careful.row_finite.Goals as goal
 

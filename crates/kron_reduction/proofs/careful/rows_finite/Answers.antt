@@ -1,5 +1,5 @@
 -- `kron_reduction::careful::rows_finite` meets its contract. The loop's invariant: it is so of the rows passed.
-use Rattle.prelude.proofs.Prelude.{ℕ, ◌-◌, ◌<◌, arith}
+use Rattle.prelude.proofs.Prelude.{ℕ, ◌<◌, arith}
 use Rattle.kron_reduction.proofs.Told.{sure-more, sure-end, sure-not}
 use Rattle.kron_reduction.proofs.careful.rows_finite.Goals as goal
 

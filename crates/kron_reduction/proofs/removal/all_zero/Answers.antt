@@ -1,5 +1,4 @@
 -- `kron_reduction::removal::all_zero` meets its contract: all are zero where those passed are and the rest is.
-use Rattle.prelude.proofs.Prelude.{◌-◌}
 use Rattle.lists.proofs.Lookups.{passing}
 use Rattle.kron_reduction.proofs.removal.all_zero.Goals as goal
 

@@ -1,5 +1,5 @@
 -- `kron_reduction::removal::find_bus` meets its contract. The loop's invariant: the bus stands where it stands in what is left of the list.
-use Rattle.prelude.proofs.Prelude.{◌-◌, arith}
+use Rattle.prelude.proofs.Prelude.{arith}
 use Rattle.lists.proofs.Lookups.{seeking}
 use Rattle.kron_reduction.proofs.removal.find_bus.Goals as goal
 

@@ -1,5 +1,5 @@
 -- `kron_reduction::removal::in_order` meets its contract. The loop's invariant: the list is in order where what is left is, from `low` up.
-use Rattle.prelude.proofs.Prelude.{sym, ap, ◌∙◌, ◌-◌, arith, drop_of_length-le}
+use Rattle.prelude.proofs.Prelude.{sym, ap, ◌∙◌, arith, drop_of_length-le}
 use Rattle.kron_reduction.proofs.Positions.{rises_from, rises-from, rises-on, rises-low, rises-high}
 use Rattle.kron_reduction.proofs.removal.in_order.Goals as goal
 

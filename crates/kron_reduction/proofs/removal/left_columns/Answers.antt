@@ -12,13 +12,12 @@ reduce_columns-requires c =
     (λ (q : ℕ) (l : 0 ≤ q) (u : q < k). kept-before k q u ∙ sym (add-zero q), omega arith, refl, omega arith, omega arith, omega arith, omega arith)
 
 pub returns-then-at-eq0 : goal.returns-then-at-eq0
-returns-then-at-eq0 c =
-    (
-      λ (q : ℕ) (l : q < c.args.k).
-          c.reduce_columns.ensures.0 q (omega arith) l
-          ∙ ap (λ (at : ℕ). new_entry (entry c.args.s.now (at + old_row c.args.k q)) (entry c.args.s.now (at + c.args.k)) (entry c.args.row.now (old_row c.args.k q)) (entry c.args.row.now c.args.k)) (sym c.if-at-eq0.true),
-      c.reduce_columns.ensures.2,
-    )
+returns-then-at-eq0 c = (
+  λ (q : ℕ) (l : q < c.args.k).
+      c.reduce_columns.ensures.0 q (omega arith) l
+      ∙ ap (λ (at : ℕ). new_entry (entry c.args.s.now (at + old_row c.args.k q)) (entry c.args.s.now (at + c.args.k)) (entry c.args.row.now (old_row c.args.k q)) (entry c.args.row.now c.args.k)) (sym c.if-at-eq0.true),
+  c.reduce_columns.ensures.2,
+)
 
 pub reduce_columns-requires-2 : goal.reduce_columns-requires-2
 reduce_columns-requires-2 c =

@@ -13,16 +13,15 @@ put_rows-requires c =
     (c.requires.0, c.requires.1, omega arith, omega (arith, c.requires.1), λ (p : ℕ) (l : 0 ≤ p) (u : p < k). kept-before k p u ∙ sym (add-zero p), c.requires.2, c.requires.3)
 
 pub put_rows-requires-2 : goal.put_rows-requires-2
-put_rows-requires-2 c =
-    (
-      c.requires.0,
-      c.requires.1,
-      omega (arith, c.requires.1),
-      omega (arith, c.requires.1),
-      λ (p : ℕ) (l : c.args.k ≤ p) (u : p < c.args.n - 1). kept-after c.args.k p l ∙ sym (add-one p),
-      omega (arith, c.requires.2, c.put_rows.auto.y),
-      c.requires.3,
-    )
+put_rows-requires-2 c = (
+  c.requires.0,
+  c.requires.1,
+  omega (arith, c.requires.1),
+  omega (arith, c.requires.1),
+  λ (p : ℕ) (l : c.args.k ≤ p) (u : p < c.args.n - 1). kept-after c.args.k p l ∙ sym (add-one p),
+  omega (arith, c.requires.2, c.put_rows.auto.y),
+  c.requires.3,
+)
 
 pub returns : goal.returns
 returns c =

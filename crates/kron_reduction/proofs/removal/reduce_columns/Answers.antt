@@ -1,5 +1,5 @@
 -- `kron_reduction::removal::reduce_columns` meets its contract. The loop's invariant: the entries passed are Kron's; those before `first`, and those not yet passed, are as they were.
-use Rattle.prelude.proofs.Prelude.{◌≡◌, refl, ap, ◌∙◌, List, ℕ, ◌+◌, ◌-◌, ◌*◌, ◌≤◌, ◌<◌, arith, length, Float}
+use Rattle.prelude.proofs.Prelude.{◌≡◌, refl, ap, ◌∙◌, List, ℕ, ◌+◌, ◌*◌, ◌≤◌, ◌<◌, arith, length, Float}
 use Rattle.complex.specs.{Complex, entry}
 use Rattle.complex.proofs.Entries.{length-put, entry-put-other}
 use Rattle.kron_reduction.specs.Kron.{new_entry}

@@ -1,5 +1,5 @@
 -- `kron_reduction::removal::remove_list` meets its contract. The loop's invariant: the first `done` buses of the list are removed.
-use Rattle.prelude.proofs.Prelude.{refl, ◌∙◌, ◌-◌, arith}
+use Rattle.prelude.proofs.Prelude.{refl, ◌∙◌, arith}
 use Rattle.kron_reduction.specs.Inner.Removal.{left_by}
 use Rattle.kron_reduction.proofs.Taking.{holds-long, first-ordinary, ongoing-start, ongoing-same, ongoing-holds, ongoing-stopped, ongoing-next, ongoing-left, left-none, took-so-far, took-all}
 use Rattle.kron_reduction.proofs.removal.remove_list.Goals.{After-remove_one-f, At-loop-done, Start}
@@ -36,14 +36,13 @@ returns-then-f-ne0 c =
     took-so-far _ _ _ (start (goal.at.returns-then-f-ne0 c).After-remove_one-f).requires.0 _ _ _ _ _ (ongoing-same (head (goal.at.returns-then-f-ne0 c).After-remove_one-f).loop-done.invariant.0 same.0 same.1) ends.0 ends.1 (same.1 ∙ (head (goal.at.returns-then-f-ne0 c).After-remove_one-f).loop-done.invariant.4)
 
 pub loop-done-preserved : goal.loop-done-preserved
-loop-done-preserved c =
-    (
-      ongoing-next _ _ _ _ _ (start (goal.at.loop-done-preserved c).After-remove_one-f).requires.0.rises _ (holds-long _ _ _ (start (goal.at.loop-done-preserved c).After-remove_one-f).requires.0) (head (goal.at.loop-done-preserved c).After-remove_one-f).loop-done.invariant.0 _ _ _ c.loop-done-test.true c.remove_one-f.ensures c.if-f-ne0.false,
-      c.remove_one-f.auto.active ∙ (head (goal.at.loop-done-preserved c).After-remove_one-f).loop-done.invariant.1,
-      c.remove_one-f.auto.y ∙ (head (goal.at.loop-done-preserved c).After-remove_one-f).loop-done.invariant.2,
-      c.remove_one-f.auto.row ∙ (head (goal.at.loop-done-preserved c).After-remove_one-f).loop-done.invariant.3,
-      ongoing-left _ _ _ _ _ (start (goal.at.loop-done-preserved c).After-remove_one-f).requires.0.rises _ (holds-long _ _ _ (start (goal.at.loop-done-preserved c).After-remove_one-f).requires.0) (head (goal.at.loop-done-preserved c).After-remove_one-f).loop-done.invariant.0 _ _ _ c.loop-done-test.true c.remove_one-f.ensures c.if-f-ne0.false _ (head (goal.at.loop-done-preserved c).After-remove_one-f).loop-done.invariant.4 c.remove_one-f.auto.y (ongoing-holds _ _ _ _ _ (start (goal.at.loop-done-preserved c).After-remove_one-f).requires.0.rises _ (holds-long _ _ _ (start (goal.at.loop-done-preserved c).After-remove_one-f).requires.0) (head (goal.at.loop-done-preserved c).After-remove_one-f).loop-done.invariant.0 _ (start (goal.at.loop-done-preserved c).After-remove_one-f).requires.0.room (head (goal.at.loop-done-preserved c).After-remove_one-f).loop-done.invariant.2 (start (goal.at.loop-done-preserved c).After-remove_one-f).requires.0.fits).fits,
-    )
+loop-done-preserved c = (
+  ongoing-next _ _ _ _ _ (start (goal.at.loop-done-preserved c).After-remove_one-f).requires.0.rises _ (holds-long _ _ _ (start (goal.at.loop-done-preserved c).After-remove_one-f).requires.0) (head (goal.at.loop-done-preserved c).After-remove_one-f).loop-done.invariant.0 _ _ _ c.loop-done-test.true c.remove_one-f.ensures c.if-f-ne0.false,
+  c.remove_one-f.auto.active ∙ (head (goal.at.loop-done-preserved c).After-remove_one-f).loop-done.invariant.1,
+  c.remove_one-f.auto.y ∙ (head (goal.at.loop-done-preserved c).After-remove_one-f).loop-done.invariant.2,
+  c.remove_one-f.auto.row ∙ (head (goal.at.loop-done-preserved c).After-remove_one-f).loop-done.invariant.3,
+  ongoing-left _ _ _ _ _ (start (goal.at.loop-done-preserved c).After-remove_one-f).requires.0.rises _ (holds-long _ _ _ (start (goal.at.loop-done-preserved c).After-remove_one-f).requires.0) (head (goal.at.loop-done-preserved c).After-remove_one-f).loop-done.invariant.0 _ _ _ c.loop-done-test.true c.remove_one-f.ensures c.if-f-ne0.false _ (head (goal.at.loop-done-preserved c).After-remove_one-f).loop-done.invariant.4 c.remove_one-f.auto.y (ongoing-holds _ _ _ _ _ (start (goal.at.loop-done-preserved c).After-remove_one-f).requires.0.rises _ (holds-long _ _ _ (start (goal.at.loop-done-preserved c).After-remove_one-f).requires.0) (head (goal.at.loop-done-preserved c).After-remove_one-f).loop-done.invariant.0 _ (start (goal.at.loop-done-preserved c).After-remove_one-f).requires.0.room (head (goal.at.loop-done-preserved c).After-remove_one-f).loop-done.invariant.2 (start (goal.at.loop-done-preserved c).After-remove_one-f).requires.0.fits).fits,
+)
 
 pub returns : goal.returns
 returns c =

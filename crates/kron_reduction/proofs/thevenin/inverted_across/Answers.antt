@@ -20,14 +20,13 @@ use Rattle.kron_reduction.proofs.thevenin.inverted_across.Goals.{After-eliminate
 use Rattle.kron_reduction.proofs.thevenin.inverted_across.Goals as goal
 
 pub eliminate-requires : goal.eliminate-requires
-eliminate-requires c =
-    (
-      omega arith,
-      omega (arith, c.requires.0),
-      search rules,
-      filled-finite c.args.n c.args.n (entry_at c.args.n c.args.mat.now) (λ (r k : ℕ). unit_column k r) _ c.fill_identity.ensures (search rules)
-          (slice-entries c.args.n c.args.n c.args.mat.now c.requires.3 c.requires.5) (identity-finite c.args.n c.args.n),
-    )
+eliminate-requires c = (
+  omega arith,
+  omega (arith, c.requires.0),
+  search rules,
+  filled-finite c.args.n c.args.n (entry_at c.args.n c.args.mat.now) (λ (r k : ℕ). unit_column k r) _ c.fill_identity.ensures (search rules)
+      (slice-entries c.args.n c.args.n c.args.mat.now c.requires.3 c.requires.5) (identity-finite c.args.n c.args.n),
+)
 
 -- the elimination, and what it began with
 module _ (c : After-number_of-met) where

@@ -1,5 +1,4 @@
 -- `lists::checks::all_below` meets its contract: all are below n exactly where those not yet passed are.
-use Rattle.prelude.proofs.Prelude.{◌-◌}
 use Rattle.lists.proofs.Scans.{scanning}
 use Rattle.lists.proofs.checks.all_below.Goals as goal
 

@@ -1,5 +1,4 @@
 -- `lists::checks::contains` meets its contract: the bus is among all exactly where it is among those not yet passed.
-use Rattle.prelude.proofs.Prelude.{◌-◌}
 use Rattle.lists.proofs.Scans.{scanning}
 use Rattle.lists.proofs.checks.contains.Goals as goal
 

@@ -1,5 +1,5 @@
 -- `lists::checks::no_buses` meets its contract: so many times 0 stand before what was there.
-use Rattle.prelude.proofs.Prelude.{◌≡◌, refl, ◌∙◌, ◌-◌, arith, length, length-set}
+use Rattle.prelude.proofs.Prelude.{◌≡◌, refl, ◌∙◌, arith, length, length-set}
 use Rattle.lists.proofs.Fronts.{fill-next, fill-all}
 use Rattle.lists.proofs.checks.no_buses.Goals as goal
 

@@ -1,5 +1,4 @@
 -- `lists::numbers::all_zero` meets its contract: all are zero where those passed are and the rest is.
-use Rattle.prelude.proofs.Prelude.{◌-◌}
 use Rattle.lists.proofs.Lookups.{passing}
 use Rattle.lists.proofs.numbers.all_zero.Goals as goal
 

@@ -1,5 +1,4 @@
 -- `lists::numbers::contains` meets its contract: the number is among all exactly where it was found or is among those not yet passed.
-use Rattle.prelude.proofs.Prelude.{◌-◌}
 use Rattle.lists.proofs.Lookups.{passing}
 use Rattle.lists.proofs.numbers.contains.Goals as goal
 

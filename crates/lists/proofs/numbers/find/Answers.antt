@@ -1,5 +1,4 @@
 -- `lists::numbers::find` meets its contract. The loop's invariant: the bus stands where it stands in what is left of the list.
-use Rattle.prelude.proofs.Prelude.{◌-◌}
 use Rattle.lists.proofs.Lookups.{seeking}
 use Rattle.lists.proofs.numbers.find.Goals as goal
 

@@ -1,5 +1,4 @@
 -- `lists::numbers::repeats` meets its contract. The invariant: whether a bus stands twice is whether one does from i on.
-use Rattle.prelude.proofs.Prelude.{◌-◌}
 use Rattle.lists.proofs.Scans.{scanning}
 use Rattle.lists.proofs.numbers.repeats.Goals as goal
 

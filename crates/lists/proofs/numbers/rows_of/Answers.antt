@@ -1,5 +1,5 @@
 -- `lists::numbers::rows_of` meets its contract. The loop's invariant: the rows of the buses passed are written.
-use Rattle.prelude.proofs.Prelude.{sym, ◌∙◌, ◌-◌, arith}
+use Rattle.prelude.proofs.Prelude.{sym, ◌∙◌, arith}
 use Rattle.lists.proofs.Fronts.{filling-start, filling-more, filling-whole}
 use Rattle.lists.proofs.Lookups.{length-rows_in, get_or-rows_in}
 use Rattle.lists.proofs.numbers.rows_of.Goals as goal

@@ -1,5 +1,5 @@
 -- `reduce_text::clear::bytes` meets its contract: what is passed is cleared.
-use Rattle.prelude.proofs.Prelude.{◌≡◌, refl, ap, ◌∙◌, ℕ, ◌-◌, arith, length, replicate, length-set}
+use Rattle.prelude.proofs.Prelude.{◌≡◌, refl, ap, ◌∙◌, ℕ, arith, length, replicate, length-set}
 use Rattle.lists.proofs.Fronts.{fill-next, fill-all}
 use Rattle.reduce_text.proofs.clear.bytes.Goals as goal
 

@@ -1,5 +1,5 @@
 -- `reduce_text::print::put_buses` meets its contract: the lines of the buses passed are written.
-use Rattle.prelude.proofs.Prelude.{◌≡◌, refl, ◌∙◌, ◌-◌, arith, length}
+use Rattle.prelude.proofs.Prelude.{◌≡◌, refl, ◌∙◌, arith, length}
 use borrow.Author.Rules.{scaled_Fits}
 use Rattle.reduce_text.specs.Printing.{bus_lines}
 use Rattle.text_numbers.proofs.Writing.{nothing}
@@ -19,12 +19,11 @@ put_line-p-requires c =
     bus-room c.args.out.now c.loop-i.out c.args.at c.loop-i.p c.args.buses.now c.loop-i.i c.args.n c.requires.1 c.loop-i-test.true c.loop-i.invariant.2 c.loop-i.invariant.1
 
 pub loop-i-preserved : goal.loop-i-preserved
-loop-i-preserved c =
-    (
-      omega arith,
-      c.put_line-p.auto.out ∙ c.loop-i.invariant.1,
-      bus-more c.args.out.now c.loop-i.out c.args.at c.loop-i.p c.args.buses.now c.loop-i.i c.args.n c.requires.1 c.loop-i-test.true c.loop-i.invariant.2 c.put_line-p.ensures,
-    )
+loop-i-preserved c = (
+  omega arith,
+  c.put_line-p.auto.out ∙ c.loop-i.invariant.1,
+  bus-more c.args.out.now c.loop-i.out c.args.at c.loop-i.p c.args.buses.now c.loop-i.i c.args.n c.requires.1 c.loop-i-test.true c.loop-i.invariant.2 c.put_line-p.ensures,
+)
 
 pub returns : goal.returns
 returns c =

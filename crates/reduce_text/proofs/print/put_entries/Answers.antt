@@ -1,5 +1,5 @@
 -- `reduce_text::print::put_entries` meets its contract: the lines of the entries passed are written.
-use Rattle.prelude.proofs.Prelude.{◌≡◌, refl, ◌∙◌, ◌-◌, arith}
+use Rattle.prelude.proofs.Prelude.{◌≡◌, refl, ◌∙◌, arith}
 use Rattle.reduce_text.specs.Printing.{entry_lines}
 use Rattle.text_numbers.proofs.Writing.{nothing}
 use Rattle.reduce_text.proofs.PrintLaws.{entry-room, entry_more}
@@ -15,13 +15,12 @@ put_entry-p-requires c =
     (entry-room c.args.out.now c.loop-i.out c.args.at c.loop-i.p c.args.ys.now c.loop-i.i c.args.n c.requires.1 c.loop-i-test.true c.loop-i.invariant.2 c.loop-i.invariant.1)
 
 pub loop-i-preserved : goal.loop-i-preserved
-loop-i-preserved c =
-    (
-      omega arith,
-      c.put_entry-p.auto.out ∙ c.loop-i.invariant.1,
-      entry_more c.args.out.now c.loop-i.out c.args.at c.loop-i.p c.args.ys.now c.loop-i.i c.args.n c.requires.1 c.loop-i-test.true c.loop-i.invariant.2
-          (rw c.get.ensures at c.put_entry-p.ensures),
-    )
+loop-i-preserved c = (
+  omega arith,
+  c.put_entry-p.auto.out ∙ c.loop-i.invariant.1,
+  entry_more c.args.out.now c.loop-i.out c.args.at c.loop-i.p c.args.ys.now c.loop-i.i c.args.n c.requires.1 c.loop-i-test.true c.loop-i.invariant.2
+      (rw c.get.ensures at c.put_entry-p.ensures),
+)
 
 pub returns : goal.returns
 returns c =

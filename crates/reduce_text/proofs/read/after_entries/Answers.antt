@@ -1,5 +1,5 @@
 -- `reduce_text::read::after_entries` meets its contract: the drops, and the end where they stopped.
-use Rattle.prelude.proofs.Prelude.{◌≡◌, sym, ap, ◌∙◌, ◌++◌, ℕ, ◌-◌, ◌*◌, ◌≤◌, arith, length, take, drop, sub-zero, length-take-le}
+use Rattle.prelude.proofs.Prelude.{◌≡◌, sym, ap, ◌∙◌, ◌++◌, ℕ, ◌*◌, ◌≤◌, arith, length, take, drop, sub-zero, length-take-le}
 use Rattle.reduce_text.specs.declared.read.End.{End}
 use Rattle.reduce_text.specs.Reading.{Run, ended, drops, finish}
 use Rattle.reduce_text.specs.Inner.Steps.{behind, place_behind}

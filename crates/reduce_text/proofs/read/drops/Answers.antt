@@ -1,5 +1,5 @@
 -- `reduce_text::read::drops` meets its contract: the run from the first drop line is the run from the line reached, with record and matrix as they are then.
-use Rattle.prelude.proofs.Prelude.{refl, sym, ap, ◌∙◌, ℕ, ◌+◌, ◌-◌, ◌≤◌, arith, length}
+use Rattle.prelude.proofs.Prelude.{refl, sym, ap, ◌∙◌, ℕ, ◌+◌, ◌≤◌, arith, length}
 use Rattle.text_numbers.specs.Bytes.{ascii}
 use Rattle.reduce_text.specs.Lines.{line_at}
 use Rattle.reduce_text.specs.Reading.{drops}
@@ -48,15 +48,14 @@ loop-at-smaller c =
     omega (arith, c.loop-at-test.true, (within c).1)
 
 pub loop-at-preserved : goal.loop-at-preserved
-loop-at-preserved c =
-    (
-      omega (arith, c.loop-at.invariant.0, (within c).1),
-      c.remove_bus-t.auto.y ∙ c.loop-at.invariant.1,
-      λ rest.
-          c.loop-at.invariant.2 rest
-          ∙ drops-done rest c.args.input.now c.loop-at.at c.loop-at.p c.loop-at.r c.loop-at.y c.loop-at-test.true c.in-Is.bus (sym c.number_at.ensures ∙ c.in-Is.is) c.remove_bus-t.result c.remove_bus-t.new.y c.remove_bus-t.ensures.0 c.remove_bus-t.ensures.1 c.in_default-answer.is
-          ∙ ap (λ (k : ℕ). drops rest (c.loop-at.p + 1) c.remove_bus-t.result.rec c.remove_bus-t.new.y (behind c.args.input.now (k + 1))) (sym c.line_end-at.ensures),
-    )
+loop-at-preserved c = (
+  omega (arith, c.loop-at.invariant.0, (within c).1),
+  c.remove_bus-t.auto.y ∙ c.loop-at.invariant.1,
+  λ rest.
+      c.loop-at.invariant.2 rest
+      ∙ drops-done rest c.args.input.now c.loop-at.at c.loop-at.p c.loop-at.r c.loop-at.y c.loop-at-test.true c.in-Is.bus (sym c.number_at.ensures ∙ c.in-Is.is) c.remove_bus-t.result c.remove_bus-t.new.y c.remove_bus-t.ensures.0 c.remove_bus-t.ensures.1 c.in_default-answer.is
+      ∙ ap (λ (k : ℕ). drops rest (c.loop-at.p + 1) c.remove_bus-t.result.rec c.remove_bus-t.new.y (behind c.args.input.now (k + 1))) (sym c.line_end-at.ensures),
+)
 
 pub returns : goal.returns
 returns c =

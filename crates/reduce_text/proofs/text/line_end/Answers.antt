@@ -1,5 +1,5 @@
 -- `reduce_text::text::line_end` meets its contract: no line feed stands between `at` and the index reached.
-use Rattle.prelude.proofs.Prelude.{◌-◌, arith}
+use Rattle.prelude.proofs.Prelude.{arith}
 use Rattle.reduce_text.proofs.LineLaws.{span-stop, span_more, span-end}
 use Rattle.reduce_text.proofs.text.line_end.Goals as goal
 

@@ -1,5 +1,5 @@
 -- `reduce_text::text::starts_with` meets its contract: the bytes passed are the keyword's.
-use Rattle.prelude.proofs.Prelude.{refl, sym, ◌∙◌, ◌-◌, arith}
+use Rattle.prelude.proofs.Prelude.{refl, sym, ◌∙◌, arith}
 use Rattle.reduce_text.proofs.LineLaws.{starts-short, starts-unlike, starts_more, starts-end}
 use Rattle.reduce_text.proofs.text.starts_with.Goals as goal
 

@@ -1,5 +1,5 @@
 -- `rei_equivalent::inputs::copy` meets its contract: the buses still to be copied, written over what stands, are all of them.
-use Rattle.prelude.proofs.Prelude.{refl, sym, ◌∙◌, ◌-◌, ◌<◌, add-one, arith, length, length-set, drop_of_length-le, drop-cons}
+use Rattle.prelude.proofs.Prelude.{refl, sym, ◌∙◌, ◌<◌, add-one, arith, length, length-set, drop_of_length-le, drop-cons}
 use Rattle.lists.proofs.Stores.{sets-whole}
 use Rattle.rei_equivalent.proofs.inputs.copy.Goals as goal
 

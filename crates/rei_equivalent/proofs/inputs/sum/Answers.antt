@@ -1,5 +1,5 @@
 -- `rei_equivalent::inputs::sum` meets its contract: the rest added to the sum so far gives the whole.
-use Rattle.prelude.proofs.Prelude.{refl, ◌-◌, ◌<◌, add-one, arith, length, nan, drop_of_length-le, drop-cons}
+use Rattle.prelude.proofs.Prelude.{refl, ◌<◌, add-one, arith, length, nan, drop_of_length-le, drop-cons}
 use Rattle.complex.specs.{plus0}
 use Rattle.rei_equivalent.specs.Rei.{total}
 use Rattle.rei_equivalent.proofs.inputs.sum.Goals as goal

@@ -1,9 +1,9 @@
 -- `rei_equivalent::spokes::spoke_all` meets its contract: the spokes not yet written, written over what stands, are all of them.
-use Rattle.prelude.proofs.Prelude.{refl, ◌∙◌, ◌-◌, ◌*◌, ◌≤◌, ◌<◌, add-one, arith, zero-mul, suc-mul, mul-le-mul, le_trans, lit≤, binary64, of_int}
+use Rattle.prelude.proofs.Prelude.{refl, ◌∙◌, ◌*◌, ◌≤◌, ◌<◌, add-one, arith, zero-mul, suc-mul, mul-le-mul, le_trans, lit≤, binary64, of_int}
 use lib.IntN.{pos}
 use lib.Dec.{le→leb}
 use lib.Ieee.{in_float}
-use Rattle.complex.specs.{put, entry_at}
+use Rattle.complex.specs.{entry_at}
 use Rattle.lists.specs.Buses.{up_to}
 use Rattle.complex.proofs.Matrices.{entry-within}
 use Rattle.lists.proofs.Order.{length-up_to}

@@ -1,5 +1,5 @@
 -- `rei_equivalent::spokes::spokes_finite` meets its contract: the spokes not yet looked at tell what all do.
-use Rattle.prelude.proofs.Prelude.{◌≡◌, refl, sym, ◌∙◌, ◌+◌, ◌-◌, ◌*◌, ◌≤◌, ◌<◌, add-one, arith, drop, zero-mul, suc-mul, mul-le-mul, binary64, of_int, ◌&&◌}
+use Rattle.prelude.proofs.Prelude.{◌≡◌, refl, sym, ◌∙◌, ◌+◌, ◌*◌, ◌≤◌, ◌<◌, add-one, arith, drop, zero-mul, suc-mul, mul-le-mul, binary64, of_int, ◌&&◌}
 use lib.IntN.{pos}
 use Rattle.binary64.specs.Values.{all_finite}
 use Rattle.complex.specs.{entry_at}
@@ -30,12 +30,11 @@ returns-then-not-spoke_finite c =
     sym (rw (told (goal.at.returns-then-not-spoke_finite c).After-spoke_finite, c.if-not-spoke_finite.true) at (sym c.loop-i.invariant.2))
 
 pub loop-i-preserved : goal.loop-i-preserved
-loop-i-preserved c =
-    (
-      omega (arith, c.loop-i-test.true),
-      rw (c.loop-i.invariant.1, add-one c.loop-i.i, suc-mul) (omega arith),
-      sym (rw (c.if-not-spoke_finite.false) at (told (goal.at.loop-i-preserved c).After-spoke_finite)) ∙ c.loop-i.invariant.2,
-    )
+loop-i-preserved c = (
+  omega (arith, c.loop-i-test.true),
+  rw (c.loop-i.invariant.1, add-one c.loop-i.i, suc-mul) (omega arith),
+  sym (rw (c.if-not-spoke_finite.false) at (told (goal.at.loop-i-preserved c).After-spoke_finite)) ∙ c.loop-i.invariant.2,
+)
 
 pub returns : goal.returns
 unfolding of_spokes all_finite

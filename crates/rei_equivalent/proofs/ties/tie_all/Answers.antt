@@ -10,12 +10,11 @@ use Rattle.rei_equivalent.proofs.ties.tie_all.Goals as goal
 within : (c : After-tie_rows-count) → (2 * c.tie_rows-count.result ≤ tie_room c.args.n)
     × (length c.tie_rows-count.new.ends ≡ tie_room c.args.n)
     × (length c.tie_rows-count.new.ties ≡ tie_room c.args.n)
-within c =
-    (
-      omega (arith, c.tie_rows-count.ensures.behind, ties-fit c.args.n c.args.y.now c.args.buses.now),
-      c.tie_rows-count.auto.ends ∙ c.requires.room.0,
-      c.tie_rows-count.auto.ties ∙ c.requires.room.1,
-    )
+within c = (
+  omega (arith, c.tie_rows-count.ensures.behind, ties-fit c.args.n c.args.y.now c.args.buses.now),
+  c.tie_rows-count.auto.ends ∙ c.requires.room.0,
+  c.tie_rows-count.auto.ties ∙ c.requires.room.1,
+)
 
 pub returns : goal.returns
 unfolding zeros

@@ -1,5 +1,5 @@
 -- `rei_equivalent::ties::tie_row` meets its contract: the ties not yet written, written over what stands, are all of the row.
-use Rattle.prelude.proofs.Prelude.{refl, sym, ◌∙◌, ◌+◌, ◌-◌, ◌≤◌, arith, add-zero}
+use Rattle.prelude.proofs.Prelude.{refl, sym, ◌∙◌, ◌+◌, ◌≤◌, arith, add-zero}
 use Rattle.complex.specs.{entry, put}
 use Rattle.rei_equivalent.specs.Rei.{is_tie, tie_ends, tie_parts}
 use Rattle.rei_equivalent.proofs.TieLaws.{tie_to, left_in_row, one_more, count-one, write-one, ends-flat, parts-flat, row_step, row_done}

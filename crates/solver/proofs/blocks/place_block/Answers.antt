@@ -1,5 +1,5 @@
 -- `solver::blocks::place_block` meets its contract. The invariant: the rows before row i have the block, the others are as they were.
-use Rattle.prelude.proofs.Prelude.{◌∙◌, ℕ, ◌-◌, arith}
+use Rattle.prelude.proofs.Prelude.{◌∙◌, ℕ, arith}
 use Rattle.solver.proofs.Passed.{rows_none, rows_more}
 use Rattle.solver.proofs.BlockParts.{placed_same}
 use Rattle.solver.proofs.blocks.place_block.Goals as goal

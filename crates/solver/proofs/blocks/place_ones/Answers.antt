@@ -1,5 +1,5 @@
 -- `solver::blocks::place_ones` meets its contract. The invariant: the rows before row i have their one, the others are as they were.
-use Rattle.prelude.proofs.Prelude.{refl, sym, ◌∙◌, subst, cond, List, ℕ, ◌+◌, ◌-◌, ◌*◌, ◌<◌, arith, eqb, length, Float}
+use Rattle.prelude.proofs.Prelude.{refl, sym, ◌∙◌, subst, cond, List, ℕ, ◌+◌, ◌*◌, ◌<◌, arith, eqb, length, Float}
 use Rattle.complex.specs.{entry_at, one, plus0, unit, put}
 use Rattle.solver.proofs.Passed.{RowsPassed, rows_none, rows_more}
 use Rattle.complex.proofs.Matrices.{entry-within}

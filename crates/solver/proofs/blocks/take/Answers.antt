@@ -1,5 +1,5 @@
 -- `solver::blocks::take` meets its contract. The invariant: the rows before row i are copied, the others as they were.
-use Rattle.prelude.proofs.Prelude.{refl, ◌∙◌, ℕ, ◌-◌, arith}
+use Rattle.prelude.proofs.Prelude.{refl, ◌∙◌, ℕ, arith}
 use Rattle.solver.proofs.Passed.{rows_none, rows_more}
 use Rattle.complex.proofs.Matrices.{grid-ext}
 use Rattle.solver.proofs.blocks.take.Goals as goal

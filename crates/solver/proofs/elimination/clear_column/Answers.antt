@@ -40,6 +40,7 @@ module _ (c : After-scale) where
 
   abbrev spanned : After-span_of-start
   spanned = (goal.at.After-scale c).After-span_of-start
+
   -- the slice then
   abbrev now : List Float
   now = back spanned.span_of-start.result.start (spanned.span_of-start.result.end - spanned.span_of-start.result.start) (start inverted).args.work.now c.scale.new.to

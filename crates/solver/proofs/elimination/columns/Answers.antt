@@ -1,5 +1,5 @@
 -- `solver::elimination::columns` meets its contract.
-use Rattle.prelude.proofs.Prelude.{◌-◌, refl}
+use Rattle.prelude.proofs.Prelude.{refl}
 use Rattle.solver.specs.Inner.Work.{is_done}
 use Rattle.solver.proofs.ColumnSteps.{running-first, running-ended, running-next, running-end}
 use Rattle.solver.proofs.elimination.columns.Goals as goal

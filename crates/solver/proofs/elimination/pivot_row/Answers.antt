@@ -1,5 +1,5 @@
 -- `solver::elimination::pivot_row` meets its contract. The invariant: what weighing the rows from `next` on would hold is the pivot's row.
-use Rattle.prelude.proofs.Prelude.{◌∙◌, ◌-◌, ◌<◌, arith}
+use Rattle.prelude.proofs.Prelude.{◌∙◌, ◌<◌, arith}
 use Rattle.complex.specs.{entry_at}
 use Rattle.solver.specs.Solving.{operations}
 use Rattle.solver.proofs.GaussJordan.{held_first, held_next, held-last, kept-below}

@@ -1,5 +1,5 @@
 -- `solver::elimination::reduce_others` meets its contract.
-use Rattle.prelude.proofs.Prelude.{◌≡◌, refl, sym, ap, ◌∙◌, inl, inr, ℕ, ◌+◌, ◌-◌, ◌*◌, ◌<◌, arith, length, add-one, not-true, not-false}
+use Rattle.prelude.proofs.Prelude.{◌≡◌, refl, sym, ap, ◌∙◌, ℕ, ◌+◌, ◌*◌, ◌<◌, arith, length, add-one}
 use native.Mathlib.Nat.{suc-mul}
 use Rattle.complex.proofs.Matrices.{row_within}
 use Rattle.solver.specs.Inner.Work.{is_done, number_of}

@@ -1,5 +1,5 @@
 -- `solver::rows::copy` meets its contract. The invariant: what stands below i is copied.
-use Rattle.prelude.proofs.Prelude.{refl, ◌-◌, arith, nan}
+use Rattle.prelude.proofs.Prelude.{refl, arith, nan}
 use Rattle.lists.proofs.Fronts.{filling-start, filling-more, filling-whole}
 use Rattle.solver.proofs.rows.copy.Goals as goal
 

@@ -1,5 +1,5 @@
 -- `solver::rows::exchange` meets its contract. The invariant: the entries below j have changed places, the others are as they were.
-use Rattle.prelude.proofs.Prelude.{◌≡◌, ap, ◌∙◌, List, ℕ, ◌+◌, ◌-◌, ◌*◌, ◌≤◌, ◌<◌, arith, length, Float}
+use Rattle.prelude.proofs.Prelude.{◌≡◌, ap, ◌∙◌, List, ℕ, ◌+◌, ◌*◌, ◌≤◌, ◌<◌, arith, length, Float}
 use Rattle.complex.specs.{entry, put}
 use Rattle.complex.proofs.Entries.{length-put, ext_entry}
 use Rattle.solver.proofs.Passed.{put-none, put-more}
@@ -26,17 +26,15 @@ loop-j-init c =
     (taking-none c.args.w c.args.a.now c.args.b.now c.requires.0, taking-none c.args.w c.args.b.now c.args.a.now c.requires.1)
 
 pub loop-j-preserved : goal.loop-j-preserved
-loop-j-preserved c =
-    (
-      taking-more c.args.w c.args.a.now c.args.b.now c.loop-j.a c.loop-j.b _ c.loop-j.j c.loop-j-test.true c.loop-j.invariant.0 c.loop-j.invariant.1
-          (c.put.ensures ∙ ap (put c.loop-j.a c.loop-j.j) c.get-y.ensures),
-      taking-more c.args.w c.args.b.now c.args.a.now c.loop-j.b c.loop-j.a _ c.loop-j.j c.loop-j-test.true c.loop-j.invariant.1 c.loop-j.invariant.0
-          (c.put-in-loop-j.ensures ∙ ap (put c.loop-j.b c.loop-j.j) c.get-x.ensures),
-    )
+loop-j-preserved c = (
+  taking-more c.args.w c.args.a.now c.args.b.now c.loop-j.a c.loop-j.b _ c.loop-j.j c.loop-j-test.true c.loop-j.invariant.0 c.loop-j.invariant.1
+      (c.put.ensures ∙ ap (put c.loop-j.a c.loop-j.j) c.get-y.ensures),
+  taking-more c.args.w c.args.b.now c.args.a.now c.loop-j.b c.loop-j.a _ c.loop-j.j c.loop-j-test.true c.loop-j.invariant.1 c.loop-j.invariant.0
+      (c.put-in-loop-j.ensures ∙ ap (put c.loop-j.b c.loop-j.j) c.get-x.ensures),
+)
 
 pub returns : goal.returns
-returns c =
-    (
-      taking-all c.args.w c.args.a.now c.args.b.now c.loop-j.a c.loop-j.j c.loop-j-test.false c.requires.1 c.loop-j.invariant.0,
-      taking-all c.args.w c.args.b.now c.args.a.now c.loop-j.b c.loop-j.j c.loop-j-test.false c.requires.0 c.loop-j.invariant.1,
-    )
+returns c = (
+  taking-all c.args.w c.args.a.now c.args.b.now c.loop-j.a c.loop-j.j c.loop-j-test.false c.requires.1 c.loop-j.invariant.0,
+  taking-all c.args.w c.args.b.now c.args.a.now c.loop-j.b c.loop-j.j c.loop-j-test.false c.requires.0 c.loop-j.invariant.1,
+)

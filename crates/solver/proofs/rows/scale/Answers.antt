@@ -1,5 +1,5 @@
 -- `solver::rows::scale` meets its contract.
-use Rattle.prelude.proofs.Prelude.{ap, ◌∙◌, List, ◌+◌, ◌-◌, Float}
+use Rattle.prelude.proofs.Prelude.{ap, ◌∙◌, List, ◌+◌, Float}
 use Rattle.complex.specs.{Complex, cmul, put}
 use Rattle.solver.proofs.TurnedRows.{scaled-none, scaled-next, scaled-all}
 use Rattle.solver.proofs.rows.scale.Goals as goal

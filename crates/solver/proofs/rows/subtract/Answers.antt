@@ -1,5 +1,5 @@
 -- `solver::rows::subtract` meets its contract. The invariant: the entries below j are reduced, the others as they were.
-use Rattle.prelude.proofs.Prelude.{sym, ap, ◌∙◌, ℕ, ◌-◌, ◌<◌, arith}
+use Rattle.prelude.proofs.Prelude.{sym, ap, ◌∙◌, ℕ, ◌<◌, arith}
 use Rattle.complex.specs.{Complex, cmul, csub, entry, put}
 use Rattle.solver.specs.Inner.Work.{turned}
 use Rattle.solver.proofs.Passed.{put-none, mapped-more}

@@ -16,14 +16,13 @@ use Rattle.solver.proofs.solving.inverted.Goals.{After-eliminate-end, After-numb
 use Rattle.solver.proofs.solving.inverted.Goals as goal
 
 pub eliminate-end-requires : goal.eliminate-end-requires
-eliminate-end-requires c =
-    (
-      omega arith,
-      omega (arith, c.requires.0),
-      search rules,
-      filled-finite c.args.n c.args.n (entry_at c.args.n c.args.mat.now) (λ (r k : ℕ). unit_column k r) _ c.fill_identity.ensures (search rules)
-          (slice-entries c.args.n c.args.n c.args.mat.now c.requires.2 c.requires.4) (identity-finite c.args.n c.args.n),
-    )
+eliminate-end-requires c = (
+  omega arith,
+  omega (arith, c.requires.0),
+  search rules,
+  filled-finite c.args.n c.args.n (entry_at c.args.n c.args.mat.now) (λ (r k : ℕ). unit_column k r) _ c.fill_identity.ensures (search rules)
+      (slice-entries c.args.n c.args.n c.args.mat.now c.requires.2 c.requires.4) (identity-finite c.args.n c.args.n),
+)
 
 -- the slice is filled and eliminated, and its end has a number
 module _ (c : After-number_of-number) where

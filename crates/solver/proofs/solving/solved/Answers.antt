@@ -12,14 +12,13 @@ use Rattle.solver.proofs.solving.solved.Goals.{After-eliminate-end, Start}
 use Rattle.solver.proofs.solving.solved.Goals as goal
 
 pub eliminate-end-requires : goal.eliminate-end-requires
-eliminate-end-requires c =
-    (
-      omega arith,
-      omega (arith, c.requires.0),
-      search rules,
-      filled-finite c.args.n 1 (entry_at c.args.n c.args.a.now) (λ (r k : ℕ). entry c.args.b.now r) _ c.fill_system.ensures (search rules)
-          (slice-entries c.args.n c.args.n c.args.a.now c.requires.2 c.requires.5) (side-finite c.args.n c.args.b.now c.requires.3 c.requires.6),
-    )
+eliminate-end-requires c = (
+  omega arith,
+  omega (arith, c.requires.0),
+  search rules,
+  filled-finite c.args.n 1 (entry_at c.args.n c.args.a.now) (λ (r k : ℕ). entry c.args.b.now r) _ c.fill_system.ensures (search rules)
+      (slice-entries c.args.n c.args.n c.args.a.now c.requires.2 c.requires.5) (side-finite c.args.n c.args.b.now c.requires.3 c.requires.6),
+)
 
 -- the slice is filled and eliminated
 module _ (c : After-eliminate-end) where
@@ -43,12 +42,11 @@ module _ (c : After-eliminate-end) where
       (λ (i j : ℕ) h k. solution-is start.args.n 1 A (λ (r k : ℕ). entry start.args.b.now r) _ c.fill_system.ensures _ _ _ c.eliminate-end.ensures left e i j h k)
 
 pub returns-then-not-is_done : goal.returns-then-not-is_done
-returns-then-not-is_done c =
-    (
-      told (goal.at.returns-then-not-is_done c).After-eliminate-end,
-      sym (ap (λ (t : Bool). cond t (solution (goal.at.returns-then-not-is_done c).After-eliminate-end) (start (goal.at.returns-then-not-is_done c).After-eliminate-end).args.x.now) (sym c.is_done.ensures ∙ c.if-not-is_done.true)),
-      c.clear.ensures ∙ ap zeros (c.eliminate-end.auto.work ∙ c.fill_system.auto.work),
-    )
+returns-then-not-is_done c = (
+  told (goal.at.returns-then-not-is_done c).After-eliminate-end,
+  sym (ap (λ (t : Bool). cond t (solution (goal.at.returns-then-not-is_done c).After-eliminate-end) (start (goal.at.returns-then-not-is_done c).After-eliminate-end).args.x.now) (sym c.is_done.ensures ∙ c.if-not-is_done.true)),
+  c.clear.ensures ∙ ap zeros (c.eliminate-end.auto.work ∙ c.fill_system.auto.work),
+)
 
 pub returns : goal.returns
 returns c =

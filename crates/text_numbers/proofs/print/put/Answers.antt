@@ -1,5 +1,5 @@
 -- `text_numbers::print::put` meets its contract: the bytes passed are written.
-use Rattle.prelude.proofs.Prelude.{refl, ◌-◌, arith, add-zero, length-set, take_all}
+use Rattle.prelude.proofs.Prelude.{refl, arith, add-zero, length-set, take_all}
 use Rattle.text_numbers.proofs.Writing.{nothing, next-byte}
 use Rattle.text_numbers.proofs.print.put.Goals as goal
 

@@ -1,4 +1,4 @@
-use Rattle.prelude.proofs.Prelude.{◌≡◌, ◌-◌, ◌≤◌, length}
+use Rattle.prelude.proofs.Prelude.{◌≡◌, ◌≤◌, length}
 use Rattle.text_numbers.specs.Words.{digits}
 use Rattle.text_numbers.specs.Inner.Writing.{written}
 use Rattle.text_numbers.proofs.print.spell.Given as goal

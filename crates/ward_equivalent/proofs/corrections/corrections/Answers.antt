@@ -1,6 +1,6 @@
 -- `ward_equivalent::corrections::corrections` meets its contract. The invariant: the boundary buses before place t have theirs, all finite.
 use Rattle.prelude.proofs.Prelude.{ap, not}
-use Rattle.prelude.proofs.Prelude.{sym, ◌∙◌, ℕ, ◌-◌, arith, get_or, nan, length-set}
+use Rattle.prelude.proofs.Prelude.{sym, ◌∙◌, ℕ, arith, get_or, nan, length-set}
 use Rattle.solver.proofs.Passed.{stored-none, stored_more}
 use Rattle.ward_equivalent.specs.Extended.{ExtendedStudy, voltage_correction, q_compensation}
 use Rattle.ward_equivalent.specs.Inner.Listed.{correction_input, CorrectionFinite}

@@ -1,5 +1,5 @@
 -- `ward_equivalent::corrections::over_ties` meets its contract. The invariant: each sum has the terms of the external buses before k.
-use Rattle.prelude.proofs.Prelude.{◌-◌, arith, get_or}
+use Rattle.prelude.proofs.Prelude.{arith, get_or}
 use Rattle.complex.specs.{plus0, one}
 use Rattle.ward_equivalent.proofs.Places.{listed_below, entry-index}
 use Rattle.ward_equivalent.proofs.Ties.{ties-none, ties-more, ties-all}
@@ -17,11 +17,10 @@ at-g-requires c =
 
 pub loop-k-preserved : goal.loop-k-preserved
 unfolding one
-loop-k-preserved c =
-    (
-      omega arith,
-      ties-more c.args.n c.args.y.now c.args.outer.now c.args.voltages.now c.args.base c.args.bus c.loop-k.k c.loop-k.weights c.loop-k.weighted c.loop-k.reactive c.magnitude-w.result c.at-g.result c.loop-k.invariant.1 c.at-g.ensures c.magnitude-w.ensures,
-    )
+loop-k-preserved c = (
+  omega arith,
+  ties-more c.args.n c.args.y.now c.args.outer.now c.args.voltages.now c.args.base c.args.bus c.loop-k.k c.loop-k.weights c.loop-k.weighted c.loop-k.reactive c.magnitude-w.result c.at-g.result c.loop-k.invariant.1 c.at-g.ensures c.magnitude-w.ensures,
+)
 
 pub returns : goal.returns
 returns c =

@@ -1,5 +1,4 @@
 -- `ward_equivalent::numbers::repeats` meets its contract. The invariant: whether a bus stands twice is whether one does from i on.
-use Rattle.prelude.proofs.Prelude.{◌-◌}
 use Rattle.lists.proofs.Scans.{scanning}
 use Rattle.ward_equivalent.proofs.numbers.repeats.Goals as goal
 

@@ -1,5 +1,5 @@
 -- `ward_equivalent::rows::add_products` meets its contract. The invariant: each entry has the terms of the external buses before k.
-use Rattle.prelude.proofs.Prelude.{◌≡◌, sym, ap, ◌∙◌, ℕ, ◌+◌, ◌-◌, ◌<◌, arith, length, get_or}
+use Rattle.prelude.proofs.Prelude.{◌≡◌, sym, ap, ◌∙◌, ℕ, ◌+◌, ◌<◌, arith, length, get_or}
 use Rattle.complex.specs.{Complex, cadd, cmul, entry_at}
 use Rattle.ward_equivalent.specs.Inner.Work.{product_to}
 use Rattle.ward_equivalent.proofs.Places.{product-more}
@@ -14,15 +14,14 @@ add_term-requires c =
     (c.requires.0, c.requires.1, c.loop-k-test.true, c.requires.2, c.requires.3, c.loop-k.invariant.1)
 
 pub loop-k-preserved : goal.loop-k-preserved
-loop-k-preserved c =
-    (
-      omega arith,
-      c.add_term.auto.to ∙ c.loop-k.invariant.1,
-      λ (q : ℕ) (h : q < c.args.r).
-          c.add_term.ensures q h
-          ∙ ap (λ (u : Complex). cadd u (cmul (entry_at c.args.n c.args.y.now c.args.bus (get_or c.args.outer.now c.loop-k.k 0)) (entry_at c.args.w c.args.work.now c.loop-k.k (c.args.first + q)))) (c.loop-k.invariant.2 q h)
-          ∙ sym (product-more c.args.n c.args.y.now c.args.outer.now c.args.w c.args.work.now c.args.bus (c.args.first + q) c.loop-k.k),
-    )
+loop-k-preserved c = (
+  omega arith,
+  c.add_term.auto.to ∙ c.loop-k.invariant.1,
+  λ (q : ℕ) (h : q < c.args.r).
+      c.add_term.ensures q h
+      ∙ ap (λ (u : Complex). cadd u (cmul (entry_at c.args.n c.args.y.now c.args.bus (get_or c.args.outer.now c.loop-k.k 0)) (entry_at c.args.w c.args.work.now c.loop-k.k (c.args.first + q)))) (c.loop-k.invariant.2 q h)
+      ∙ sym (product-more c.args.n c.args.y.now c.args.outer.now c.args.w c.args.work.now c.args.bus (c.args.first + q) c.loop-k.k),
+)
 
 pub returns : goal.returns
 returns c =

@@ -1,6 +1,6 @@
 -- `ward_equivalent::rows::add_scaled` meets its contract. The invariant: the entries before j have gained theirs.
-use Rattle.prelude.proofs.Prelude.{◌≡◌, ap, ◌∙◌, ℕ, ◌-◌, ◌<◌, arith}
-use Rattle.complex.specs.{Complex, cadd, cmul, entry, put, row}
+use Rattle.prelude.proofs.Prelude.{◌≡◌, ap, ◌∙◌, ℕ, ◌<◌, arith}
+use Rattle.complex.specs.{Complex, cadd, cmul, entry, put}
 use Rattle.solver.proofs.Passed.{put-none, mapped-more}
 use Rattle.ward_equivalent.proofs.rows.add_scaled.Goals as goal
 

@@ -1,5 +1,5 @@
 use Rattle.prelude.proofs.Prelude.{◌≡◌, ℕ, ◌-◌, ◌*◌, ◌≤◌, length}
-use Rattle.complex.specs.{Complex, cadd, cmul, entry, row}
+use Rattle.complex.specs.{Complex, cadd, cmul, entry}
 use Rattle.solver.proofs.Passed.{Mapped}
 use Rattle.ward_equivalent.proofs.rows.add_scaled.Given as goal
 

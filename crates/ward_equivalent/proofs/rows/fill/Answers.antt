@@ -1,5 +1,5 @@
 -- `ward_equivalent::rows::fill` meets its contract. The invariant: the rows before row k are filled, the others as they were.
-use Rattle.prelude.proofs.Prelude.{refl, ◌∙◌, ℕ, ◌+◌, ◌-◌, ◌<◌, arith, length, get_or, nan}
+use Rattle.prelude.proofs.Prelude.{refl, ◌∙◌, ℕ, ◌+◌, ◌<◌, arith, length, get_or, nan}
 use Rattle.complex.specs.{entry_at}
 use Rattle.solver.proofs.Passed.{rows_none, rows_more}
 use Rattle.ward_equivalent.specs.Arithmetic.{current}
@@ -17,8 +17,7 @@ fill_at-requires c =
 pub loop-k-preserved : goal.loop-k-preserved
 unfolding work_matrix current
 loop-k-preserved c =
-    let W = length c.args.buses.now + 1 in
-    (
+    let W = length c.args.buses.now + 1 in (
       omega arith,
       c.fill_at.auto.work ∙ c.loop-k.invariant.1,
       rows_more W c.loop-k.work c.fill_at.new.work (work_matrix c.args.n c.args.y.now c.args.buses.now c.args.base c.args.p.now c.args.q.now) (entry_at W c.args.work.now) c.loop-k.k

@@ -1,5 +1,5 @@
 -- `ward_equivalent::rows::fill_column` meets its contract. The invariant: the rows before row k are filled, the others as they were.
-use Rattle.prelude.proofs.Prelude.{ap, ◌∙◌, ℕ, ◌+◌, ◌-◌, ◌<◌, arith, length, get_or}
+use Rattle.prelude.proofs.Prelude.{ap, ◌∙◌, ℕ, ◌+◌, ◌<◌, arith, length, get_or}
 use Rattle.complex.specs.{Complex, entry_at}
 use Rattle.solver.proofs.Passed.{rows_none, rows_more}
 use Rattle.ward_equivalent.specs.Inner.Work.{work_row}
@@ -20,8 +20,7 @@ fill_at-requires c =
 
 pub loop-k-preserved : goal.loop-k-preserved
 loop-k-preserved c =
-    let W = length c.args.outer.now + 1 in
-    (
+    let W = length c.args.outer.now + 1 in (
       omega arith,
       c.fill_at.auto.work ∙ c.loop-k.invariant.1,
       rows_more W c.loop-k.front c.fill_at.new.work (λ (i : ℕ). work_row c.args.n c.args.y.now c.args.outer.now i (entry_at c.args.n c.args.y.now (get_or c.args.outer.now i 0) c.args.bus)) (entry_at W c.args.front.now) c.loop-k.k

@@ -1,6 +1,6 @@
 -- `ward_equivalent::rows::fill_row` meets its contract.
 use Rattle.prelude.proofs.Prelude.{◌≡◌, ap, ◌∙◌, ◌++◌, ◌+◌, ◌-◌, ◌*◌, ◌<◌, arith, length, drop, length-append, length-drop}
-use Rattle.complex.specs.{put, entry_at}
+use Rattle.complex.specs.{entry_at}
 use Rattle.complex.proofs.Matrices.{length-row}
 use Rattle.ward_equivalent.proofs.Places.{filled_row}
 use Rattle.ward_equivalent.proofs.rows.fill_row.Goals as goal

@@ -1,5 +1,5 @@
 -- `ward_equivalent::rows::injections` meets its contract. The invariant: the boundary buses before place t have theirs, the other places are as they were.
-use Rattle.prelude.proofs.Prelude.{ap, ◌∙◌, ℕ, ◌-◌, arith, get_or, Float, nan, length-set}
+use Rattle.prelude.proofs.Prelude.{ap, ◌∙◌, ℕ, arith, get_or, Float, nan, length-set}
 use Rattle.solver.proofs.Passed.{stored-none, stored_more}
 use Rattle.ward_equivalent.specs.Arithmetic.{injected_p, injected_q}
 use Rattle.ward_equivalent.specs.Inner.Work.{product}
@@ -7,14 +7,13 @@ use Rattle.ward_equivalent.proofs.Places.{listed_below, stored-map}
 use Rattle.ward_equivalent.proofs.rows.injections.Goals as goal
 
 pub loop-t-init : goal.loop-t-init
-loop-t-init c =
-    (
-      omega arith,
-      c.requires.4,
-      c.requires.5,
-      stored-none c.args.active.now (λ (k : ℕ). injected_p c.args.base (product c.args.n c.args.y.now c.args.outer.now c.args.w c.args.work.now (get_or c.args.boundary.now k 0) c.args.c)),
-      stored-none c.args.reactive.now (λ (k : ℕ). injected_q c.args.base (product c.args.n c.args.y.now c.args.outer.now c.args.w c.args.work.now (get_or c.args.boundary.now k 0) c.args.c)),
-    )
+loop-t-init c = (
+  omega arith,
+  c.requires.4,
+  c.requires.5,
+  stored-none c.args.active.now (λ (k : ℕ). injected_p c.args.base (product c.args.n c.args.y.now c.args.outer.now c.args.w c.args.work.now (get_or c.args.boundary.now k 0) c.args.c)),
+  stored-none c.args.reactive.now (λ (k : ℕ). injected_q c.args.base (product c.args.n c.args.y.now c.args.outer.now c.args.w c.args.work.now (get_or c.args.boundary.now k 0) c.args.c)),
+)
 
 pub row_times-i-requires : goal.row_times-i-requires
 row_times-i-requires c =
@@ -35,8 +34,7 @@ loop-t-preserved c =
     )
 
 pub returns : goal.returns
-returns c =
-    (
-      stored-map (λ (i : ℕ). injected_p c.args.base (product c.args.n c.args.y.now c.args.outer.now c.args.w c.args.work.now i c.args.c)) c.args.boundary.now c.loop-t.active (λ (k : ℕ). get_or c.args.active.now k nan) c.loop-t.t c.loop-t.invariant.1 (omega arith) c.loop-t.invariant.3,
-      stored-map (λ (i : ℕ). injected_q c.args.base (product c.args.n c.args.y.now c.args.outer.now c.args.w c.args.work.now i c.args.c)) c.args.boundary.now c.loop-t.reactive (λ (k : ℕ). get_or c.args.reactive.now k nan) c.loop-t.t c.loop-t.invariant.2 (omega arith) c.loop-t.invariant.4,
-    )
+returns c = (
+  stored-map (λ (i : ℕ). injected_p c.args.base (product c.args.n c.args.y.now c.args.outer.now c.args.w c.args.work.now i c.args.c)) c.args.boundary.now c.loop-t.active (λ (k : ℕ). get_or c.args.active.now k nan) c.loop-t.t c.loop-t.invariant.1 (omega arith) c.loop-t.invariant.3,
+  stored-map (λ (i : ℕ). injected_q c.args.base (product c.args.n c.args.y.now c.args.outer.now c.args.w c.args.work.now i c.args.c)) c.args.boundary.now c.loop-t.reactive (λ (k : ℕ). get_or c.args.reactive.now k nan) c.loop-t.t c.loop-t.invariant.2 (omega arith) c.loop-t.invariant.4,
+)

@@ -1,6 +1,6 @@
 -- `ward_equivalent::rows::pick` meets its contract. The invariant: the entries before j are those of the bus's row, in the listed columns.
-use Rattle.prelude.proofs.Prelude.{ℕ, ◌-◌, ◌<◌, arith, length, get_or}
-use Rattle.complex.specs.{Complex, entry, put, entry_at}
+use Rattle.prelude.proofs.Prelude.{ℕ, ◌<◌, arith, length, get_or}
+use Rattle.complex.specs.{Complex, entry, entry_at}
 use Rattle.complex.proofs.Matrices.{row-ext}
 use Rattle.solver.proofs.Passed.{put-none}
 use Rattle.ward_equivalent.proofs.Places.{listed_below, entry-index, put-turn}

@@ -7,16 +7,15 @@ use Rattle.ward_equivalent.proofs.Places.{cleared-row}
 use Rattle.ward_equivalent.proofs.rows.reduce_row.Goals as goal
 
 pub add_products-requires : goal.add_products-requires
-add_products-requires c =
-    (
-      c.requires.0,
-      c.requires.2,
-      c.requires.3,
-      c.requires.4,
-      ap length c.clear.ensures ∙ length-zeros (length c.args.to.now) ∙ c.requires.5,
-      λ (q : ℕ) (h : q < length c.args.kept.now).
-          cleared-row c.args.n c.args.y.now c.args.outer.now c.args.w c.args.work.now c.args.bus (c.args.first + q) (length c.args.to.now) (length c.args.kept.now) c.clear.new.s c.clear.ensures c.requires.5 q h,
-    )
+add_products-requires c = (
+  c.requires.0,
+  c.requires.2,
+  c.requires.3,
+  c.requires.4,
+  ap length c.clear.ensures ∙ length-zeros (length c.args.to.now) ∙ c.requires.5,
+  λ (q : ℕ) (h : q < length c.args.kept.now).
+      cleared-row c.args.n c.args.y.now c.args.outer.now c.args.w c.args.work.now c.args.bus (c.args.first + q) (length c.args.to.now) (length c.args.kept.now) c.clear.new.s c.clear.ensures c.requires.5 q h,
+)
 
 pub returns : goal.returns
 unfolding less_product

@@ -1,5 +1,5 @@
 -- `ward_equivalent::rows::reduced` meets its contract. The invariant: the rows before row p are reduced, the others as they were.
-use Rattle.prelude.proofs.Prelude.{refl, ◌∙◌, ℕ, ◌-◌, ◌<◌, arith, length, get_or}
+use Rattle.prelude.proofs.Prelude.{refl, ◌∙◌, ℕ, ◌<◌, arith, length, get_or}
 use Rattle.complex.specs.{entry_at}
 use Rattle.solver.proofs.Passed.{rows_none, rows_more}
 use Rattle.ward_equivalent.specs.Inner.Work.{less_product}

@@ -1,5 +1,5 @@
 -- `ward_equivalent::rows::row_times` meets its contract. The invariant: the sum has the terms before k.
-use Rattle.prelude.proofs.Prelude.{◌≡◌, refl, sym, ap, ◌∙◌, ◌-◌, arith, length, get_or}
+use Rattle.prelude.proofs.Prelude.{◌≡◌, refl, sym, ap, ◌∙◌, arith, length, get_or}
 use Rattle.complex.specs.{Complex, cadd, cmul, entry_at, plus0}
 use Rattle.ward_equivalent.specs.Arithmetic.{sum_up}
 use Rattle.ward_equivalent.specs.Inner.Work.{product_to}
@@ -20,14 +20,13 @@ at-x-requires c =
     row-index (length c.args.outer.now) c.args.w c.args.work.now c.requires.2.full c.loop-k.k c.args.c c.loop-k-test.true c.requires.3
 
 pub loop-k-preserved : goal.loop-k-preserved
-loop-k-preserved c =
-    (
-      omega arith,
-      c.cadd-sum.ensures
-          ∙ ap (λ (u : Complex). cadd u c.cmul.result) c.loop-k.invariant.1
-          ∙ ap (cadd (product_to c.args.n c.args.y.now c.args.outer.now c.args.w c.args.work.now c.args.bus c.args.c c.loop-k.k)) (c.cmul.ensures ∙ ap (λ (u : Complex). cmul u c.at-x.result) c.at-g.ensures ∙ ap (cmul (entry_at c.args.n c.args.y.now c.args.bus (get_or c.args.outer.now c.loop-k.k 0))) c.at-x.ensures)
-          ∙ sym (product-more c.args.n c.args.y.now c.args.outer.now c.args.w c.args.work.now c.args.bus c.args.c c.loop-k.k),
-    )
+loop-k-preserved c = (
+  omega arith,
+  c.cadd-sum.ensures
+      ∙ ap (λ (u : Complex). cadd u c.cmul.result) c.loop-k.invariant.1
+      ∙ ap (cadd (product_to c.args.n c.args.y.now c.args.outer.now c.args.w c.args.work.now c.args.bus c.args.c c.loop-k.k)) (c.cmul.ensures ∙ ap (λ (u : Complex). cmul u c.at-x.result) c.at-g.ensures ∙ ap (cmul (entry_at c.args.n c.args.y.now c.args.bus (get_or c.args.outer.now c.loop-k.k 0))) c.at-x.ensures)
+      ∙ sym (product-more c.args.n c.args.y.now c.args.outer.now c.args.w c.args.work.now c.args.bus c.args.c c.loop-k.k),
+)
 
 pub returns : goal.returns
 returns c =

@@ -1,5 +1,5 @@
 -- `ward_equivalent::rows::submatrix` meets its contract. The invariant: the rows before row p are gathered, the others as they were.
-use Rattle.prelude.proofs.Prelude.{refl, ◌∙◌, ℕ, ◌-◌, ◌<◌, arith, length}
+use Rattle.prelude.proofs.Prelude.{refl, ◌∙◌, ℕ, ◌<◌, arith, length}
 use Rattle.complex.specs.{entry_at}
 use Rattle.complex.proofs.Matrices.{rows_ext}
 use Rattle.solver.proofs.Passed.{rows_none, rows_more}

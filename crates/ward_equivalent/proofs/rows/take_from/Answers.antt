@@ -1,6 +1,6 @@
 -- `ward_equivalent::rows::take_from` meets its contract. The invariant: the entries before j are taken from the bus's own.
-use Rattle.prelude.proofs.Prelude.{◌≡◌, ap, ◌∙◌, ℕ, ◌-◌, ◌<◌, arith, length, get_or}
-use Rattle.complex.specs.{Complex, csub, entry, put, entry_at, row}
+use Rattle.prelude.proofs.Prelude.{◌≡◌, ap, ◌∙◌, ℕ, ◌<◌, arith, length, get_or}
+use Rattle.complex.specs.{Complex, csub, entry, put, entry_at}
 use Rattle.solver.proofs.Passed.{put-none, mapped-more}
 use Rattle.ward_equivalent.proofs.Places.{listed_below, entry-index}
 use Rattle.ward_equivalent.proofs.rows.take_from.Goals as goal

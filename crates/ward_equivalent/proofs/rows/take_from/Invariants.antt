@@ -1,5 +1,5 @@
 use Rattle.prelude.proofs.Prelude.{◌≡◌, ℕ, ◌-◌, ◌*◌, ◌≤◌, length, get_or}
-use Rattle.complex.specs.{Complex, csub, entry_at, row}
+use Rattle.complex.specs.{Complex, csub, entry_at}
 use Rattle.solver.proofs.Passed.{Mapped}
 use Rattle.ward_equivalent.proofs.rows.take_from.Given as goal
 

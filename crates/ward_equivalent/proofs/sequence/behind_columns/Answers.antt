@@ -29,25 +29,23 @@ entries_finite-requires c =
 
 pub returns-then-not-entries_finite : goal.returns-then-not-entries_finite
 unfolding is_done
-returns-then-not-entries_finite c =
-    (
-      behind-lost c.args.n c.args.y.now c.args.outer.now c.args.kept.now c.args.i c.args.base c.args.p.now c.args.q.now (some (goal.at.returns-then-not-entries_finite c).Start) c.args.left
-          (not_entered c.args.n c.args.y.now c.args.outer.now c.args.kept.now c.args.i c.args.base c.args.p.now c.args.q.now (some (goal.at.returns-then-not-entries_finite c).Start) c.args.work.now _ (part (goal.at.returns-then-not-entries_finite c).Start) c.requires.10 (c.entries_finite.ensures.fails (c.if-not-entries_finite.true))),
-      λ (rest : ℕ) d. absurd (not_done refl d),
-    )
+returns-then-not-entries_finite c = (
+  behind-lost c.args.n c.args.y.now c.args.outer.now c.args.kept.now c.args.i c.args.base c.args.p.now c.args.q.now (some (goal.at.returns-then-not-entries_finite c).Start) c.args.left
+      (not_entered c.args.n c.args.y.now c.args.outer.now c.args.kept.now c.args.i c.args.base c.args.p.now c.args.q.now (some (goal.at.returns-then-not-entries_finite c).Start) c.args.work.now _ (part (goal.at.returns-then-not-entries_finite c).Start) c.requires.10 (c.entries_finite.ensures.fails (c.if-not-entries_finite.true))),
+  λ (rest : ℕ) d. absurd (not_done refl d),
+)
 
 pub with_injections-requires : goal.with_injections-requires
-with_injections-requires c =
-    (
-      c.requires.0,
-      listing-take c.args.n c.args.y.now (drop c.args.i c.args.kept.now) (length c.args.kept.now - c.args.i) (listing-drop c.args.n c.args.y.now c.args.kept.now c.args.i c.requires.1),
-      c.requires.2,
-      omega (arith, c.requires.3, c.requires.4),
-      c.requires.6,
-      c.requires.7,
-      front-part (front (goal.at.with_injections-requires c).Start) c.args.work.now (omega (arith, c.requires.8)),
-      c.requires.9,
-    )
+with_injections-requires c = (
+  c.requires.0,
+  listing-take c.args.n c.args.y.now (drop c.args.i c.args.kept.now) (length c.args.kept.now - c.args.i) (listing-drop c.args.n c.args.y.now c.args.kept.now c.args.i c.requires.1),
+  c.requires.2,
+  omega (arith, c.requires.3, c.requires.4),
+  c.requires.6,
+  c.requires.7,
+  front-part (front (goal.at.with_injections-requires c).Start) c.args.work.now (omega (arith, c.requires.8)),
+  c.requires.9,
+)
 
 pub returns : goal.returns
 returns c =

@@ -1,5 +1,5 @@
 -- `ward_equivalent::sequence::decide` meets its contract.
-use Rattle.prelude.proofs.Prelude.{◌∙◌, ◌-◌, arith}
+use Rattle.prelude.proofs.Prelude.{◌∙◌, arith}
 use Rattle.ward_equivalent.specs.Inner.Sequence.{TogetherDone}
 use Rattle.ward_equivalent.proofs.Trying.{left-done}
 use Rattle.ward_equivalent.proofs.Together.{left-within, total-fits, decided-beyond, decided-done}

@@ -13,10 +13,9 @@ pub returns-then-not-is_done : goal.returns-then-not-is_done
 returns-then-not-is_done c = (c.solve_column-end.ensures.0, λ (rest : ℕ) d. absurd (not_done (sym c.is_done.ensures ∙ c.if-not-is_done.true) d))
 
 pub returns : goal.returns
-returns c =
-    (
-      c.solve_column-end.ensures.0,
-      λ (rest : ℕ) d (k col : ℕ) h l.
-          kept-place (length c.args.outer.now) c.args.r c.args.q c.args.work.now c.solve_column-end.new.front _ c.solve_column-end.new.solution c.place_block.new.work c.requires.5 c.solve_column-end.auto.front refl c.place_block.auto.work c.place_block.ensures k col h l
-          ∙ ap (λ (z : Complex). cond (eqb col c.args.q) z (entry_at c.args.r (drop (2 * (length c.args.outer.now * (length c.args.outer.now + 1))) c.args.work.now) k col)) (c.solve_column-end.ensures.1 rest d k h),
-    )
+returns c = (
+  c.solve_column-end.ensures.0,
+  λ (rest : ℕ) d (k col : ℕ) h l.
+      kept-place (length c.args.outer.now) c.args.r c.args.q c.args.work.now c.solve_column-end.new.front _ c.solve_column-end.new.solution c.place_block.new.work c.requires.5 c.solve_column-end.auto.front refl c.place_block.auto.work c.place_block.ensures k col h l
+      ∙ ap (λ (z : Complex). cond (eqb col c.args.q) z (entry_at c.args.r (drop (2 * (length c.args.outer.now * (length c.args.outer.now + 1))) c.args.work.now) k col)) (c.solve_column-end.ensures.1 rest d k h),
+)

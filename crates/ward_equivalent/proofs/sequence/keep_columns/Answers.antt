@@ -1,5 +1,5 @@
 -- `ward_equivalent::sequence::keep_columns` meets its contract. The invariant: the columns before place q are solved and kept.
-use Rattle.prelude.proofs.Prelude.{◌≡◌, refl, sym, ◌∙◌, subst, false, ℕ, ◌-◌, arith, length}
+use Rattle.prelude.proofs.Prelude.{◌≡◌, refl, sym, ◌∙◌, subst, false, ℕ, arith, length}
 use Rattle.solver.specs.declared.elimination.Eliminated.{Eliminated}
 use Rattle.solver.specs.Inner.Work.{is_done, Ended}
 use Rattle.solver.proofs.Told.{not_done}
@@ -40,13 +40,12 @@ unfolding is_done
 returns-in-NotFinite c = (ends (goal.at.returns-in-NotFinite c).After-keep_column _ c.in-NotFinite.is refl, λ (rest : ℕ) d. absurd (not_done refl d))
 
 pub loop-q-preserved : goal.loop-q-preserved
-loop-q-preserved c =
-    (
-      omega arith,
-      c.keep_column.auto.work ∙ c.loop-q.invariant.1,
-      c.keep_column.auto.solution ∙ c.loop-q.invariant.2,
-      kept_more c.args.n c.args.y.now c.args.outer.now c.args.kept.now c.args.allowed c.loop-q.left c.loop-q.q c.loop-q.work _ c.loop-q-test.true c.loop-q.invariant.3 c.keep_column.result c.keep_column.ensures.0 c.keep_column.ensures.1 _ c.in-Done.is,
-    )
+loop-q-preserved c = (
+  omega arith,
+  c.keep_column.auto.work ∙ c.loop-q.invariant.1,
+  c.keep_column.auto.solution ∙ c.loop-q.invariant.2,
+  kept_more c.args.n c.args.y.now c.args.outer.now c.args.kept.now c.args.allowed c.loop-q.left c.loop-q.q c.loop-q.work _ c.loop-q-test.true c.loop-q.invariant.3 c.keep_column.result c.keep_column.ensures.0 c.keep_column.ensures.1 _ c.in-Done.is,
+)
 
 pub returns : goal.returns
 returns c =

@@ -1,6 +1,6 @@
 -- `ward_equivalent::sequence::row_finite` meets its contract. The invariant: the entries before place q are finite.
 use Rattle.prelude.proofs.Prelude.{not}
-use Rattle.prelude.proofs.Prelude.{◌≡◌, ap, ◌∙◌, ℕ, ◌-◌, arith, get_or}
+use Rattle.prelude.proofs.Prelude.{◌≡◌, ap, ◌∙◌, ℕ, arith, get_or}
 use Rattle.complex.specs.{Complex}
 use Rattle.ward_equivalent.specs.Inner.Work.{less_product}
 use Rattle.ward_equivalent.specs.Inner.Sequence.{FinitePair}
@@ -33,14 +33,13 @@ returns-then-not-finite-2 c =
     tells-lost _ λ all. test-lost c.finite-in-loop-q.result _ _ c.finite-in-loop-q.ensures (ap (λ (z : Complex). z.im) (value (goal.at.returns-then-not-finite-2 c).After-csub-d)) (ap not c.if-not-finite-2.true) (all c.loop-q.q c.loop-q-test.true).1
 
 pub loop-q-preserved : goal.loop-q-preserved
-loop-q-preserved c =
-    (
-      omega arith,
-      every_more (λ (j : ℕ). FinitePair (less_product c.args.n c.args.y.now c.args.outer.now c.args.kept.now c.args.w c.args.work.now 0 c.args.bus j)) c.loop-q.q c.loop-q.invariant.1 (
-        test-held c.finite.result _ _ c.finite.ensures (ap (λ (z : Complex). z.re) (value (goal.at.loop-q-preserved c).After-csub-d)) (ap not c.if-not-finite.false),
-        test-held c.finite-in-loop-q.result _ _ c.finite-in-loop-q.ensures (ap (λ (z : Complex). z.im) (value (goal.at.loop-q-preserved c).After-csub-d)) (ap not c.if-not-finite-2.false),
-      ),
-    )
+loop-q-preserved c = (
+  omega arith,
+  every_more (λ (j : ℕ). FinitePair (less_product c.args.n c.args.y.now c.args.outer.now c.args.kept.now c.args.w c.args.work.now 0 c.args.bus j)) c.loop-q.q c.loop-q.invariant.1 (
+    test-held c.finite.result _ _ c.finite.ensures (ap (λ (z : Complex). z.re) (value (goal.at.loop-q-preserved c).After-csub-d)) (ap not c.if-not-finite.false),
+    test-held c.finite-in-loop-q.result _ _ c.finite-in-loop-q.ensures (ap (λ (z : Complex). z.im) (value (goal.at.loop-q-preserved c).After-csub-d)) (ap not c.if-not-finite-2.false),
+  ),
+)
 
 pub returns : goal.returns
 returns c = tells-held _ λ (q : ℕ) h. c.loop-q.invariant.1 q (omega arith)

@@ -10,11 +10,10 @@ eliminate-end-requires c =
     (omega arith, omega (arith, c.requires.2), long, column-set c.args.n c.args.y.now c.args.outer.now c.requires.0 c.requires.5 c.args.bus c.requires.1 _ c.fill_column.ensures long)
 
 pub returns-then-not-is_done : goal.returns-then-not-is_done
-returns-then-not-is_done c =
-    (
-      column-ended c.args.n c.args.y.now c.args.outer.now c.requires.0 c.requires.5 c.args.bus c.requires.1 _ c.fill_column.ensures c.args.left _ _ c.eliminate-end.ensures,
-      λ (rest : ℕ) d. absurd (not_done (sym c.is_done.ensures ∙ c.if-not-is_done.true) d),
-    )
+returns-then-not-is_done c = (
+  column-ended c.args.n c.args.y.now c.args.outer.now c.requires.0 c.requires.5 c.args.bus c.requires.1 _ c.fill_column.ensures c.args.left _ _ c.eliminate-end.ensures,
+  λ (rest : ℕ) d. absurd (not_done (sym c.is_done.ensures ∙ c.if-not-is_done.true) d),
+)
 
 pub take-requires : goal.take-requires
 take-requires c =
@@ -25,10 +24,9 @@ take-requires c =
     one_each e = omega arith
 
 pub returns : goal.returns
-returns c =
-    (
-      column-ended c.args.n c.args.y.now c.args.outer.now c.requires.0 c.requires.5 c.args.bus c.requires.1 _ c.fill_column.ensures c.args.left _ _ c.eliminate-end.ensures,
-      λ (rest : ℕ) d (k : ℕ) (h : k < length c.args.outer.now).
-          taken-column (length c.args.outer.now) c.eliminate-end.new.work _ c.take.ensures k h
-          ∙ column-solution c.args.n c.args.y.now c.args.outer.now c.requires.0 c.requires.5 c.args.bus c.requires.1 _ c.fill_column.ensures c.args.left _ _ c.eliminate-end.ensures rest d k h,
-    )
+returns c = (
+  column-ended c.args.n c.args.y.now c.args.outer.now c.requires.0 c.requires.5 c.args.bus c.requires.1 _ c.fill_column.ensures c.args.left _ _ c.eliminate-end.ensures,
+  λ (rest : ℕ) d (k : ℕ) (h : k < length c.args.outer.now).
+      taken-column (length c.args.outer.now) c.eliminate-end.new.work _ c.take.ensures k h
+      ∙ column-solution c.args.n c.args.y.now c.args.outer.now c.requires.0 c.requires.5 c.args.bus c.requires.1 _ c.fill_column.ensures c.args.left _ _ c.eliminate-end.ensures rest d k h,
+)
