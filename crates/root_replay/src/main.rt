@@ -1,9 +1,16 @@
 // Roots compared with answers that the machine's own sqrt gave. Standard input has them: a line each, the bits of a number and of its root
 // as two words of 16 hexadecimal digits, and 7ff8000000000000 for a NaN (oracle/roots says how they were made). Prints how many agree.
 #![tactic(auto)]
-ghost use Rattle.std.specs.Prelude.{◌+◌, ◌≤◌, ◌<◌, length};
+
+ghost use Rattle.std.specs.Prelude.{◌+◌, ◌≤◌, ◌<◌, length, IfOk};
+
+use std::io;
+use std::io::Read;
 
 const LINE: usize = 34;
+
+// The most bytes that are read.
+const SPACE: usize = 65536;
 
 fn digit(c: u8) -> u64
     ensures { result < 16 }
@@ -60,13 +67,24 @@ fn tally(s: &[u8]) -> Agreed {
     Agreed { agree, lines }
 }
 
-fn main() {
-    let mut space = io::large_buffer();
-    let n = io::read_full(0, &mut space);
+// Until the buffer is full or the input ends: how many bytes stand at the buffer's front.
+fn read_full<R: Read>(from: &mut R, buffer: &mut [u8]) -> io::Result<usize>
+    ensures { IfOk result (λ n. n ≤ length buffer.new) }
+{
+    let mut done = 0;
+    while done < buffer.len() {
+        let n = from.read(&mut buffer[done..])?;
+        if n == 0 {
+            break;
+        }
+        done += n;
+    }
+    Ok(done)
+}
+
+fn main(rt: HostRuntime) -> io::Result<()> {
+    let mut space = [0; SPACE];
+    let n = read_full(&mut rt.stdin(), &mut space)?;
     let t = tally(&space[..n]);
-    io::write_all(1, b"roots: ");
-    io::print_decimal(1, t.agree);
-    io::write_all(1, b" of ");
-    io::print_decimal(1, t.lines);
-    io::write_all(1, b" agree\n");
+    println!(rt; "roots: {} of {} agree", t.agree, t.lines)
 }
