@@ -1,12 +1,16 @@
 // The program `reduce`: standard input is read until it ends or the buffer is full, and what `reduce_text` makes of it is written.
 // Bytes beyond the buffer cannot change the answer (reduce_text!Prefix `printed-prefix`). Where reading fails nothing is written.
 #![tactic(auto)]
+
 ghost use Rattle.std.specs.Prelude.{◌≡◌, length};
 ghost use Rattle.reduce_text.specs.Reduce.{input_length, output_length, matrix_length, printed};
 ghost use Rattle.reduce.specs.Inner.Moves.{Front};
 
 use moves::Move;
 use reduce_text::Answer;
+use std::alloc::{AllocError, Global};
+use std::io::Error;
+use std::process::ExitCode;
 
 mod moves;
 
@@ -41,17 +45,35 @@ fn answer(input: &[u8], output: &mut [u8], matrix: &mut [f64]) -> usize
     }
 }
 
-fn main() {
+// The system's words for a failure, without its number.
+fn reason(alloc: Global, why: &Error) -> Result<String, AllocError> {
+    let told = format!(in alloc; "{why}")?;
+    match told.split_once(" (os error ") {
+        Some((words, _)) => String::from_str(alloc, words),
+        None => Ok(told),
+    }
+}
+
+// One line on standard error: what failed, and why. Where that line cannot be written nothing is left to be done.
+fn fail(rt: &(impl Eprint + AllocGlobal), what: &str, why: Error) -> ExitCode {
+    let _ = match reason(rt.alloc(), &why) {
+        Ok(words) => eprintln!(rt; "reduce: {what} failed: {words}"),
+        Err(_) => eprintln!(rt; "reduce: {what} failed: {why}"),
+    };
+    ExitCode::FAILURE
+}
+
+fn main(rt: HostRuntime) -> ExitCode {
     let mut input = input_buffer();
-    let Move::Bytes(n) = moves::read(&mut input) else {
-        os::fail(b"reduce: reading standard input failed");
-        return;
+    let n = match moves::read(&mut rt.stdin(), &mut input) {
+        Move::Bytes(n) => n,
+        Move::Failed(why) => return fail(&rt, "reading standard input", why),
     };
     let mut output = output_buffer();
     let mut matrix = matrix_buffer();
     let k = answer(&input[..n], &mut output, &mut matrix);
-    let Move::Bytes(_) = moves::write(&output[..k]) else {
-        os::fail(b"reduce: writing standard output failed");
-        return;
-    };
+    match moves::write(&mut rt.stdout(), &output[..k]) {
+        Move::Bytes(_) => ExitCode::SUCCESS,
+        Move::Failed(why) => fail(&rt, "writing standard output", why),
+    }
 }

@@ -1,90 +1,87 @@
-// Standard input and standard output, each to its end. What the operating system moves is no contract's: these say how much, never what.
+// A reader and a writer, each to its end. What the operating system moves is no contract's: these say how much, never what.
 ghost use Rattle.std.specs.Prelude.{length};
 ghost use Rattle.reduce.specs.Inner.Moves.{AtMost, All};
 
-// So many bytes were moved, or a call failed.
-#[derive(Clone, Copy)]
+use std::io::{Error, ErrorKind, Read, Result, Write};
+
+// So many bytes were moved, or a call failed, and why.
+#[derive(Drop)]
 pub enum Move {
     Bytes(usize),
-    Failed,
+    Failed(Error),
 }
 
 // A signal came before the call moved a byte.
-fn interrupted(moved: isize) -> bool {
-    moved < 0 && os::errno() == libc::EINTR
+fn interrupted(moved: &Move) -> bool {
+    match moved {
+        Move::Bytes(_) => false,
+        Move::Failed(why) => why.kind() == ErrorKind::Interrupted,
+    }
 }
 
 // What a call on these bytes answered.
-fn told(moved: isize, bytes: &[u8]) -> Move
+fn told(moved: Result<usize>, bytes: &[u8]) -> Move
     ensures { AtMost (length bytes.now) result }
 {
-    if moved < 0 {
-        return Move::Failed;
+    match moved {
+        Ok(n) => Move::Bytes(n.min(bytes.len())),
+        Err(why) => Move::Failed(why),
     }
-    Move::Bytes(io::count(moved, bytes))
 }
 
 // An interrupted call is made again. A loop must end, and nothing says that signals do: so often, which no run uses up.
 const TRIES: usize = 4294967295;
 
-fn read_some(bytes: &mut [u8]) -> Move
+fn read_some<R: Read>(from: &mut R, bytes: &mut [u8]) -> Move
     ensures { AtMost (length bytes.new) result }
 {
+    let mut moved = told(from.read(bytes), bytes);
     let mut tries = TRIES;
-    while tries > 0 {
-        let moved = libc::read(libc::STDIN_FILENO, bytes);
-        if !interrupted(moved) {
-            return told(moved, bytes);
-        }
+    while tries > 0 && interrupted(&moved) {
+        moved = told(from.read(bytes), bytes);
         tries -= 1;
     }
-    Move::Failed
+    moved
 }
 
-fn write_some(bytes: &[u8]) -> Move
+fn write_some<W: Write>(to: &mut W, bytes: &[u8]) -> Move
     ensures { AtMost (length bytes.now) result }
 {
+    let mut moved = told(to.write(bytes), bytes);
     let mut tries = TRIES;
-    while tries > 0 {
-        let moved = libc::write(libc::STDOUT_FILENO, bytes);
-        if !interrupted(moved) {
-            return told(moved, bytes);
-        }
+    while tries > 0 && interrupted(&moved) {
+        moved = told(to.write(bytes), bytes);
         tries -= 1;
     }
-    Move::Failed
+    moved
 }
 
-// Standard input until it ends or the buffer is full: how many bytes stand at the buffer's front.
-pub fn read(buffer: &mut [u8]) -> Move
+// What is read until it ends or the buffer is full: how many bytes stand at the buffer's front.
+pub fn read<R: Read>(from: &mut R, buffer: &mut [u8]) -> Move
     ensures { AtMost (length buffer.new) result }
 {
     let mut done = 0;
     while done < buffer.len() {
-        let Move::Bytes(n) = read_some(&mut buffer[done..]) else {
-            return Move::Failed;
-        };
-        if n == 0 {
-            return Move::Bytes(done);
+        match read_some(from, &mut buffer[done..]) {
+            Move::Bytes(0) => return Move::Bytes(done),
+            Move::Bytes(n) => done += n,
+            Move::Failed(why) => return Move::Failed(why),
         }
-        done += n;
     }
     Move::Bytes(done)
 }
 
-// All of these bytes to standard output; a call that takes none of them has failed.
-pub fn write(bytes: &[u8]) -> Move
+// All of these bytes; a call that takes none of them has failed.
+pub fn write<W: Write>(to: &mut W, bytes: &[u8]) -> Move
     ensures { All (length bytes.now) result }
 {
     let mut done = 0;
     while done < bytes.len() {
-        let Move::Bytes(n) = write_some(&bytes[done..]) else {
-            return Move::Failed;
-        };
-        if n == 0 {
-            return Move::Failed;
+        match write_some(to, &bytes[done..]) {
+            Move::Bytes(0) => return Move::Failed(Error::from(ErrorKind::WriteZero)),
+            Move::Bytes(n) => done += n,
+            Move::Failed(why) => return Move::Failed(why),
         }
-        done += n;
     }
     Move::Bytes(done)
 }

@@ -6,12 +6,12 @@ use Rattle.reduce.specs.declared.moves.Move.TheVariants.{Bytes, Failed}
 -- no more bytes than there is room for
 abbrev pub AtMost : ℕ → Move → Type 0
 AtMost most (Bytes n) = n ≤ most
-AtMost most Failed = Unit {0}
+AtMost most (Failed why) = Unit {0}
 
 -- that many bytes and no fewer, unless the call failed
 abbrev pub All : ℕ → Move → Type 0
 All most (Bytes n) = n ≡ most
-All most Failed = Unit {0}
+All most (Failed why) = Unit {0}
 
 -- the buffer's first n bytes are this text; that they are n follows, and lending them asks for it
 abbrev pub Front : ℕ → List ℕ → List ℕ → Type 0

@@ -1,0 +1,9 @@
+-- The length that the definition gives is the one that the code has.
+use Rattle.std.proofs.Common.{rules}
+use Rattle.reduce_text.specs.Reading.{most}
+use Rattle.reduce_text.specs.Reduce.{input_length}
+use Rattle.reduce.proofs.input_buffer.Goals as goal
+
+pub returns : goal.returns
+unfolding most input_length
+returns c = search rules
