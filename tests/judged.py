@@ -8,16 +8,20 @@ definition or contract changes the sums of all that come to it.
 import functools, hashlib, pathlib, re
 
 TREE = pathlib.Path(__file__).resolve().parent.parent
-WORD = re.compile(r"[^\s(){};,.:⌜⌝«»\[\]&]+")
+WORD = re.compile(r"[^\s(){};,.:«»\[\]&]+")
 PATH = re.compile(r"\b\w+(?:::\w+)+")
 USE = re.compile(r"(?m)^.*?\buse .*\n?")
+# the names of a use that go on in further lines
+NAMES = re.compile(r"(?ms)^([^\n]*\buse [^\n]*\{)\n(.*?)\}")
+ATTRIBUTE = re.compile(r"(?m)^ *#!?\[tactic\b.*\]\n")
 KEYWORDS = r" *(?:pub )?((?:(?:unfoldable|abbrev|opaque|record|data) )*)(?:pub )?(?:(?:record|data) )?"
 
 
 def dependencies(text):
     """Each crate of a crates.txt with those that it names, and those that they name."""
     lines = [line.partition("#")[0] for line in text.splitlines()]
-    named = {name.strip(): rest.split() for name, colon, rest in (line.partition(":") for line in lines) if colon}
+    # behind a name may stand what kind of crate it is
+    named = {name.split()[0]: rest.split() for name, colon, rest in (line.partition(":") for line in lines) if colon}
 
     def below(crate):
         return {crate}.union(*(below(other) for other in named.get(crate, [])))
@@ -27,7 +31,7 @@ def dependencies(text):
 
 def words(text):
     """The names in a text; of an infix one also its parts, since it is written around its operands."""
-    return {part for word in WORD.findall(text) for part in [word, *word.split("_")] if part}
+    return {part for word in WORD.findall(text) for part in [word, *word.split("◌")] if part}
 
 
 def without_comments(text):
@@ -44,7 +48,8 @@ class File:
     the lines that all of them stand under: parameters of modules, and how tightly infix names bind."""
 
     def __init__(self, path, text):
-        self.path, self.crate, self.part, self.text = path, *path.split("/")[:2], without_comments(text)
+        text = NAMES.sub(lambda use: f"{use[1]}{' '.join(use[2].split())}}}", without_comments(text))
+        self.path, self.crate, self.part, self.text = path, *path.split("/")[:2], text
         self.taken, self.whole, self.introduces = {}, set(), {}
         self.over = sorted(re.findall(r"(?m)^ *(?:infix|module ).*", self.text))
         for line in re.findall(USE, self.text):
@@ -62,7 +67,7 @@ class File:
             return self.whole.add(module)
         if not brace:
             module, _, names = module.rpartition("::")
-        for name in names.rstrip("}").split(","):
+        for name in filter(str.strip, names.rstrip("}").split(",")):
             old, _, new = name.strip().partition(" as ")
             for word in words(new or old):
                 self.taken.setdefault(word, set()).add((how.strip(), module.rstrip("."), old))
@@ -72,8 +77,8 @@ class File:
             self.introduces.setdefault(name, set()).add(paragraph)
 
     def read_code(self):
-        """Functions without their bodies, types, constants, and names passed on."""
-        text = re.sub(r"(?ms)^( *)\{\n.*?^\1\}\n", "", self.text)
+        """Functions without their bodies and tactics, types, constants, and names passed on."""
+        text = re.sub(r"(?ms)^( *)\{\n.*?^\1\}\n", "", re.sub(ATTRIBUTE, "", self.text))
         text = re.sub(r"(?ms)^( *)([^\n]*\bfn [^\n]*)\{\n.*?^\1\}\n", r"\1\2\n", text)
         for paragraph in paragraphs(text):
             for line in re.findall(r"(?m)^ *pub use .*", paragraph):
@@ -111,7 +116,7 @@ class Tree:
 
     def places(self, module, file):
         """The files in which a name of the module is sought; none for the toolchain's libraries."""
-        logic = re.match(r"Rattle·(\w+?)(?:·specs|·proofs)?\.(specs|proofs)(?:\.(.*))?$", module)
+        logic = re.match(r"Rattle\.(\w+)\.(specs|proofs)(?:\.(.*))?$", module)
         if logic:
             crate, part, rest = logic.groups()
             path = TREE / "crates" / crate / part / ((rest or "").replace(".", "/") + ".antt")
@@ -120,8 +125,8 @@ class Tree:
         return self.of_crate(file.crate if crate in ("crate", "self", "super") else crate, "src")
 
     def sought(self, name, module, file):
-        """Which name stands where for a name of a module: for a variant its type, in the code."""
-        declared = re.match(r"Rattle·(\w+?)(?:·specs)?\.specs\.declared\.(?:[a-z_]\w*\.)*(\w+)", module)
+        """Which name stands where for a name of a module: for a variant, or a law of its kind of type, the type, in the code."""
+        declared = re.match(r"Rattle\.(\w+)\.(?:specs\.declared|proofs(?=.*\.TheLaws))\.(?:[a-z_]\w*\.)*(\w+)", module)
         if declared:
             return declared.group(2), self.of_crate(declared.group(1), "src")
         return name, self.places(module, file)
