@@ -102,11 +102,12 @@ def read(path, text):
 
 
 class Tree:
-    def __init__(self):
-        self.below = dependencies((TREE / "crates.txt").read_text())
-        paths = [p for c in self.below for part in ("src", "specs", "proofs") for p in sorted((TREE / "crates" / c / part).rglob("*.*t*"))]
-        self.files = {p: read(str(p.relative_to(TREE / "crates")), p.read_text()) for p in paths if p.suffix in (".rt", ".antt")}
-        self.passed = self.files[TREE / "crates/prelude/proofs/Prelude.antt"].taken
+    def __init__(self, top):
+        self.crates = top / "crates"
+        self.below = dependencies((top / "crates.txt").read_text())
+        paths = [p for c in self.below for part in ("src", "specs", "proofs") for p in sorted((self.crates / c / part).rglob("*.*t*"))]
+        self.files = {p: read(str(p.relative_to(self.crates)), p.read_text()) for p in paths if p.suffix in (".rt", ".antt")}
+        self.passed = self.files[self.crates / "prelude/proofs/Prelude.antt"].taken
         self.by_part, self.found = {}, {}
         for file in self.files.values():
             self.by_part.setdefault((file.crate, file.part), []).append(file)
@@ -119,7 +120,7 @@ class Tree:
         logic = re.match(r"Rattle\.(\w+)\.(specs|proofs)(?:\.(.*))?$", module)
         if logic:
             crate, part, rest = logic.groups()
-            path = TREE / "crates" / crate / part / ((rest or "").replace(".", "/") + ".antt")
+            path = self.crates / crate / part / ((rest or "").replace(".", "/") + ".antt")
             return [self.files[path]] if path in self.files else self.of_crate(crate, "specs", "src") if part == "specs" else []
         crate = module.split("::")[0]
         return self.of_crate(file.crate if crate in ("crate", "self", "super") else crate, "src")
@@ -181,7 +182,7 @@ class Tree:
         """What an edit is judged by besides: itself, and what it sees."""
         text, starts = edit.read_text(), []
         for part in text.split("file: ")[1:]:
-            path = TREE / "crates" / crate / part.splitlines()[0].strip()
+            path = self.crates / crate / part.splitlines()[0].strip()
             if path in self.files:
                 starts.append((self.files[path], part))
         return [text], self.seen(starts) | self.of_names([text])
@@ -191,13 +192,13 @@ def total(parts):
     return hashlib.sha256("\0".join(parts).encode()).hexdigest()[:16]
 
 
-def sums(edits, judgement):
-    """The sum of each edit, under a judgement: the prover and the rules by which its words are read."""
-    tree, crates = Tree(), {}
+def sums(edits, judgement, top=None):
+    """The sum of each edit as it stands in a tree, under a judgement: the prover and the rules by which its words are read."""
+    tree, crates = Tree(top or TREE), {}
     for edit in edits:
         crate = edit.relative_to(TREE / "crates").parts[0]
         if crate not in crates:
             texts, seen = tree.by_crate(crate)
             crates[crate] = total([judgement, *sorted(texts), *sorted(seen)])
-        texts, seen = tree.by_edit(crate, edit)
+        texts, seen = tree.by_edit(crate, tree.crates / edit.relative_to(TREE / "crates"))
         yield edit, total([crates[crate], *texts, *sorted(seen)])
