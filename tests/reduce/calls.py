@@ -11,7 +11,7 @@ import sys
 import tempfile
 
 ROOT = os.path.dirname(os.path.dirname(os.path.dirname(os.path.abspath(__file__))))
-KIT = os.environ.get("RATTLE_HOME") or os.path.dirname(os.path.dirname(os.path.realpath(subprocess.getoutput("command -v rt"))))
+KIT = os.path.dirname(os.path.dirname(os.path.realpath(subprocess.getoutput("command -v rt"))))
 
 
 def folder():
