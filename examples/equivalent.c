@@ -1,6 +1,6 @@
 /* Buses 101 and 205: bus 205 is taken out by a Kron reducer and by a Ward study, and each refuses a wrong call.
  *
- *     cc -Iinclude examples/equivalent.c target/staticlib/libentries.a -o equivalent
+ *     cc -Iinclude examples/equivalent.c crates/entries/out/libentries.a -o equivalent
  */
 #include "jeturipe.h"
 

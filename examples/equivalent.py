@@ -1,7 +1,7 @@
 #!/usr/bin/env python3
 """Buses 101 and 205: bus 205 is taken out by a Kron reducer and by a Ward study, and each refuses a wrong call.
 
-    cc -shared -Wl,--whole-archive target/staticlib/libentries.a -Wl,--no-whole-archive -o libentries.so
+    cc -shared -Wl,--whole-archive crates/entries/out/libentries.a -Wl,--no-whole-archive -o libentries.so
     examples/equivalent.py ./libentries.so
 """
 import ctypes, sys

@@ -1,6 +1,6 @@
 //! Buses 101 and 205: bus 205 is taken out by a Kron reducer and by a Ward study, and each refuses a wrong call.
 //!
-//!     rustc --edition 2021 -L target/staticlib examples/equivalent.rs
+//!     rustc --edition 2021 -L crates/entries/out examples/equivalent.rs
 
 /// Safe calls over entries of include/jeturipe.h: every length is that of the slice or vector it goes with, no pointer
 /// is null, and what an entry writes is borrowed by nobody else.
