@@ -1,4 +1,4 @@
--- On whole numbers: of the root of M = q * q + r and multiples of t, where nothing lies strictly between q t and (q + 1) t, the one that `nearestWhole` picks is
+-- On whole numbers: of the root of M = q * q + r and multiples of t, where nothing lies strictly between q t and (q + 1) t, the one that `nearest_whole` picks is
 -- on the root's side of every middle.
 use Rattle.prelude.proofs.Prelude.{◌≡◌, refl, sym, Bool, true, false, cond, ◌⊎◌, inl, inr, ℕ, ◌+◌, ◌*◌, ◌≤◌, ◌<◌, arith, ltb, mul-pos, mul-le-mul, mul-le-mul_left, mul-le-mul_right, mul-lt-mul_of_pos_right, le_trans, le_of_eq, lt_of_lt_of_le, not-le_of_lt, ltb-true, ltb-false}
 use native.Mathlib.Nat.{le_of_lt, lt_of_le_of_lt}

@@ -1,4 +1,4 @@
--- The whole root of a natural number: there is one, `wholeRoot` computes it, and one division finds the second half of its digits.
+-- The whole root of a natural number: there is one, `whole_root` computes it, and one division finds the second half of its digits.
 use Rattle.prelude.proofs.Prelude.{◌≡◌, refl, ap, Bool, true, false, cond, ℕ, zero, suc, ◌+◌, ◌-◌, ◌*◌, ◌≤◌, ◌<◌, arith, ◌/◌, ◌%◌, ◌^◌, mul-le-mul, mul-le-mul_left, mul-le-mul_right, zero-lt-suc, leb}
 use native.Mathlib.Nat.{le_of_lt, pow-suc, div-lt_iff_lt-mul, div-add-mod', mod-lt}
 use borrow.Author.Tests.{leb-true, leb-false}
@@ -18,7 +18,7 @@ same-root n q r p s v w =
     let b : ¬ (p < q) = no_less n p s q r w v in
     omega arith
 
--- ---- `wholeRoot` computes it
+-- ---- `whole_root` computes it
 
 last-digit : (n p : ℕ) (s : ℕ) → WholeRoot (n / 4) p s → WholeRoot n (last_digit n (2 * p)) (n - square (last_digit n (2 * p)))
 last-digit n p s w = go (leb (square (2 * p + 1)) n) (leb-true (square (2 * p + 1)) n) (leb-false (square (2 * p + 1)) n)

@@ -73,7 +73,7 @@ abbrev pub nearest_whole : ℕ → ℕ → ℕ
 nearest_whole q r = cond (ltb q r) (q + 1) q
 
 -- N * 2 ^ (h - 590), the root of N * N * 4 ^ (h - 590): N * 2 ^ (h + 484) / 2 ^ 1074, written as a number by `odd`. Nothing is lost
--- (`Moved-value`), and it is a number of binary64 for N up to 2 ^ 53 and h up to 1049 (`moved-fits`).
+-- (`moved_value`), and it is a number of binary64 for N up to 2 ^ 53 and h up to 1049 (`moved-fits`).
 unfoldable pub moved_back : ℕ → ℕ → Float
 moved_back N h = odd 54 false N (h + 484) 1074
 

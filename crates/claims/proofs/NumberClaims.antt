@@ -6,7 +6,7 @@ use Rattle.binary64.specs.Values.{F64s}
 use Rattle.lists.specs.Buses.{up_to, ◌is_one_of◌, others, place, rows_in}
 use Rattle.lists.proofs.Buses.{in_head, in_tail, in-cases, get_or-in, get_or-place, place-lt, below_all, all-below-others, all-below-up_to}
 use Rattle.lists.proofs.Naming.{place-number}
-use Rattle.lists.proofs.Lookups.{get_d_map}
+use Rattle.lists.proofs.Lookups.{get_or_map}
 use Rattle.kron_reduction.specs.Reducer.{ReducerInput, AcceptedMaking}
 use Rattle.kron_reduction.specs.Reading.{active_numbers}
 use Rattle.claims.specs.Accounts.{Call, left, entry_in, Account, account, kept, row_at, numbers_at}
@@ -93,7 +93,7 @@ module _ (M : ReducerInput) (calls : List Call) (made : AcceptedMaking M) where
   now-below b m = rw (length-map (kept a) number) at (place-lt b (numbers_at a (kept a)) m)
 
   number_at : (b : ℕ) → b is_one_of numbers_at a (kept a) → number (row_at a (now_at b)) ≡ b
-  number_at b m = sym (get_d_map number 0 0 (kept a) (now_at b) (now-below b m)) ∙ get_or-place b (numbers_at a (kept a)) m
+  number_at b m = sym (get_or_map number 0 0 (kept a) (now_at b) (now-below b m)) ∙ get_or-place b (numbers_at a (kept a)) m
 
   row_below : (b : ℕ) → b is_one_of numbers_at a (kept a) → row_at a (now_at b) < a.size
   row_below b m = below_all a.size (kept a) (all-below-others a.size a.removed (up_to a.size) (all-below-up_to a.size)) (row_at a (now_at b)) (get_or-in (kept a) (now_at b) (now-below b m))

@@ -37,9 +37,9 @@ fn add_branch(n: usize, b: &mut [f64], from: usize, to: usize, x: f64)
 
 // The susceptance s at a branch's two ends, whose rows begin at f and t.
 fn join(b: &mut [f64], f: usize, t: usize, from: usize, to: usize, s: f64)
-    requires first_row { (f + from < length b.old)
+    requires diagonal { (f + from < length b.old)
         × (t + to < length b.old) }
-    requires to_in_bounds { (f + to < length b.old)
+    requires off_diagonal { (f + to < length b.old)
         × (t + from < length b.old) }
     ensures { b.new ≡ spec.joined b.old f t from to s }
 {

@@ -7,7 +7,7 @@ use Rattle.refusals.proofs.Answering.{passed, accepting}
 use Rattle.lists.specs.declared.Found.TheVariants.{At, Nothing}
 use Rattle.lists.specs.Buses.{mem, ◌is_one_of◌, place, found_in}
 use Rattle.lists.proofs.Buses.{failed, get_or-in, below_all, rising-length}
-use Rattle.lists.proofs.Lookups.{get_d_map, found_nowhere}
+use Rattle.lists.proofs.Lookups.{get_or_map, found_nowhere}
 use Rattle.kron_reduction.specs.Reducer.{padded, active_of, numbers_of, sound, row_of}
 use Rattle.kron_reduction.specs.declared.KronReducer.{KronReducer}
 use Rattle.kron_reduction.specs.Reading.{active_numbers, active_refusal, after_active}
@@ -46,7 +46,7 @@ module _ (r : KronReducer) (full : length r.active_buses ≡ limit) (good : T (s
     within = omega (arith, count-active, h)
 
     pub number_at : get_or (active_numbers r) i 0 ≡ get_or r.numbers (get_or r.active_buses i 0) 0
-    number_at = get_d_map (λ (i : ℕ). get_or r.numbers i 0) 0 0 (active_of r) i within ∙ ap (λ (j : ℕ). get_or r.numbers j 0) active-at
+    number_at = get_or_map (λ (i : ℕ). get_or r.numbers i 0) 0 0 (active_of r) i within ∙ ap (λ (j : ℕ). get_or r.numbers j 0) active-at
 
     pub row_below : get_or r.active_buses i 0 < r.made
     row_below = rw (← active-at) (below_all r.made (active_of r) (sound-has r good).below (get_or (active_of r) i 0) (get_or-in (active_of r) i within))

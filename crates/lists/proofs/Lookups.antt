@@ -104,11 +104,11 @@ pub length-rows_in : (ns ks : List ℕ) → length (rows_in ns ks) ≡ length ks
 unfolding rows_in
 length-rows_in ns ks = length-map ks (λ (k : ℕ). place k ns)
 
-pub get_d_map : {A B : Type 0} (f : A → B) (d : A) (e : B) (xs : List A) (i : ℕ) → i < length xs → get_or (map f xs) i e ≡ f (get_or xs i d)
-get_d_map f d e [] i h = absurd (omega arith)
-get_d_map f d e (x ∷ xs) zero h = refl
-get_d_map f d e (x ∷ xs) (suc i) h = get_d_map f d e xs i (omega arith)
+pub get_or_map : {A B : Type 0} (f : A → B) (d : A) (e : B) (xs : List A) (i : ℕ) → i < length xs → get_or (map f xs) i e ≡ f (get_or xs i d)
+get_or_map f d e [] i h = absurd (omega arith)
+get_or_map f d e (x ∷ xs) zero h = refl
+get_or_map f d e (x ∷ xs) (suc i) h = get_or_map f d e xs i (omega arith)
 
 pub get_or-rows_in : (ns ks : List ℕ) (i : ℕ) → i < length ks → get_or (rows_in ns ks) i 0 ≡ place (get_or ks i 0) ns
 unfolding rows_in
-get_or-rows_in ns = get_d_map (λ (k : ℕ). place k ns) 0 0
+get_or-rows_in ns = get_or_map (λ (k : ℕ). place k ns) 0 0

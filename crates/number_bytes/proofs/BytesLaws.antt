@@ -4,7 +4,7 @@ use native.Mathlib.Numerals.{towards_suc, unary_clauses}
 use lib.Seq.{sets-eq, length-sets, take-suc-set}
 use Rattle.lists.specs.Buses.{up_to}
 use Rattle.lists.proofs.Order.{length-up_to, get_or-up_to}
-use Rattle.lists.proofs.Lookups.{get_d_map}
+use Rattle.lists.proofs.Lookups.{get_or_map}
 use Rattle.lists.proofs.Fronts.{Filling, filling-start, filling-more, filling-whole}
 use Rattle.number_bytes.specs.Bytes.{word, bytes_of, put_word, words, floats, of_words, of_floats}
 
@@ -43,16 +43,16 @@ pub length-words : (k n : ℕ) (bs : List ℕ) → length (words k n bs) ≡ n
 unfolding words
 length-words k n bs = length-map (up_to n) (λ (i : ℕ). word k bs (k * i)) ∙ length-up_to n
 
-pub get_d_words : (k n : ℕ) (bs : List ℕ) (i : ℕ) → i < n → get_or (words k n bs) i 0 ≡ word k bs (k * i)
+pub get_or_words : (k n : ℕ) (bs : List ℕ) (i : ℕ) → i < n → get_or (words k n bs) i 0 ≡ word k bs (k * i)
 unfolding words
-get_d_words k n bs i h = get_d_map (λ (j : ℕ). word k bs (k * j)) 0 0 (up_to n) i (rw length-up_to h) ∙ ap (λ (j : ℕ). word k bs (k * j)) (get_or-up_to n i 0 h)
+get_or_words k n bs i h = get_or_map (λ (j : ℕ). word k bs (k * j)) 0 0 (up_to n) i (rw length-up_to h) ∙ ap (λ (j : ℕ). word k bs (k * j)) (get_or-up_to n i 0 h)
 
 -- A slice that is filled with the numbers in bs: one more is read, or all are.
 module _ (k : ℕ) (bs old out : List ℕ) (i : ℕ) (s : Filling (words k (length old) bs) old out i) where
   pub read_more : (v : ℕ) → i < length out → v ≡ word k bs (k * i) → Filling (words k (length old) bs) old (set out i v) (i + 1)
   read_more v h e =
       let l : i < length old = omega (arith, s.long) in
-      filling-more (words k (length old) bs) old out i s 0 v (rw length-words l) h (e ∙ sym (get_d_words k (length old) bs i l))
+      filling-more (words k (length old) bs) old out i s 0 v (rw length-words l) h (e ∙ sym (get_or_words k (length old) bs i l))
 
   pub read_all : length out ≤ i → out ≡ words k (length old) bs
   read_all = filling-whole (words k (length old) bs) old out i s (length-words k (length old) bs)
@@ -67,7 +67,7 @@ module _ (bs : List ℕ) (old out : List Float) (i : ℕ) (s : Filling (floats (
   floats-more w v h e g =
       let l : i < length old = omega (arith, s.long) in
       filling-more (floats (length old) bs) old out i s nan v (rw count l) h
-      (g ∙ ap (of_bits binary64) (e ∙ sym (get_d_words 8 (length old) bs i l)) ∙ sym (get_d_map (of_bits binary64) 0 nan (words 8 (length old) bs) i (rw length-words l)))
+      (g ∙ ap (of_bits binary64) (e ∙ sym (get_or_words 8 (length old) bs i l)) ∙ sym (get_or_map (of_bits binary64) 0 nan (words 8 (length old) bs) i (rw length-words l)))
 
   pub floats-all : length out ≤ i → out ≡ floats (length old) bs
   floats-all = filling-whole (floats (length old) bs) old out i s count
@@ -179,7 +179,7 @@ module _ (xs : List Float) (old now : List ℕ) (i : ℕ) (s : Writing 8 (map (t
   pub floats-written : (then : List ℕ) (w : ℕ) → i < length xs → w ≡ to_bits binary64 (get_or xs i nan) → then ≡ put_word 8 now (8 * i) w → Writing 8 (map (to_bits binary64) xs) old then (i + 1)
   floats-written then w h g p =
       writing_more 8 (map (to_bits binary64) xs) old now i s (rw length-map e) then (rw length-map h)
-      (p ∙ ap (put_word 8 now (8 * i)) (g ∙ sym (get_d_map (to_bits binary64) nan 0 xs i h)))
+      (p ∙ ap (put_word 8 now (8 * i)) (g ∙ sym (get_or_map (to_bits binary64) nan 0 xs i h)))
 
   pub floats-done : length xs ≤ i → now ≡ of_floats xs
   unfolding of_floats

@@ -7,7 +7,7 @@ use Rattle.binary64.specs.Values.{F64s}
 use Rattle.lists.specs.Buses.{up_to}
 use Rattle.number_bytes.specs.Bytes.{word, bytes_of, words, floats, of_words, of_floats}
 use Rattle.number_bytes.specs.RoundTrip.{Below, RoundTrip}
-use Rattle.number_bytes.proofs.BytesLaws.{words-suc, get_d_words, length-words, length-bytes_of, of_words-snoc}
+use Rattle.number_bytes.proofs.BytesLaws.{words-suc, get_or_words, length-words, length-bytes_of, of_words-snoc}
 
 -- ---- a number
 
@@ -55,7 +55,7 @@ words_back : (k : ℕ) (ws : List ℕ) → Below (256 ^ k) ws → words k (lengt
 words_back k ws s =
     let long = length-words k (length ws) (of_words k ws) in
     ext_get_or 0 (words k (length ws) (of_words k ws)) ws long λ (i : ℕ) (h : i < length (words k (length ws) (of_words k ws))).
-    let l : i < length ws = omega (arith, h, long) in get_d_words k (length ws) (of_words k ws) i l ∙ word_of k ws i s l
+    let l : i < length ws = omega (arith, h, long) in get_or_words k (length ws) (of_words k ws) i l ∙ word_of k ws i s l
 
 pub front : (k n : ℕ) (bs : List ℕ) → Below 256 bs → k * n ≤ length bs → of_words k (words k n bs) ≡ take (k * n) bs
 unfolding words up_to of_words

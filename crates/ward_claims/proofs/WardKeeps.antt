@@ -18,7 +18,7 @@ use Rattle.lists.proofs.Buses.{get_or-in, in-append, below_all}
 use Rattle.ward_equivalent.specs.Numbers.{NumberedStudy, in_rows, AcceptedStudy, after_compute}
 use Rattle.ward_equivalent.proofs.Laws.{Sound, sound, left-accepted, given-finite, computed-finite}
 use Rattle.ward_equivalent.proofs.FiniteAnswers.{matrix-given}
-use Rattle.lists.proofs.Lookups.{get_d_map}
+use Rattle.lists.proofs.Lookups.{get_or_map}
 use Rattle.ward_equivalent.proofs.Sums.{Null, plus0-zero, products-null, each_at}
 use Rattle.ward_claims.specs.WardRows.{old, row_buses, bus_of_row, ZeroRow, KeepsValues, ZeroAt, KeepsRow}
 
@@ -136,8 +136,8 @@ module _ (S : Study) (s : Sound S) (f64s : F64s S.given) (given : T (all_finite 
         values = λ (q : ℕ) (y : q < length (row_buses S)).
             subst (λ (c : Complex). c ≈ old S (bus_of_row S p) (bus_of_row S q)) (sym (entry-rows (equivalent S) (retained S) (retained S) p q at y))
             (same-value S s f64s given computed p at none q y);
-        active = λ t l e. rw (get_d_map (injection_p S) 0 nan S.boundary t l) (F.zero-eq (injection_p S (get_or S.boundary t 0)) (zero-injections t l e).0);
-        reactive = λ t l e. rw (get_d_map (injection_q S) 0 nan S.boundary t l) (F.zero-eq (injection_q S (get_or S.boundary t 0)) (zero-injections t l e).1);
+        active = λ t l e. rw (get_or_map (injection_p S) 0 nan S.boundary t l) (F.zero-eq (injection_p S (get_or S.boundary t 0)) (zero-injections t l e).0);
+        reactive = λ t l e. rw (get_or_map (injection_q S) 0 nan S.boundary t l) (F.zero-eq (injection_q S (get_or S.boundary t 0)) (zero-injections t l e).1);
       }
 
 pub zero_row : (N : NumberedStudy) (a : Allowance) (o : Outputs) → F64s N.study.given → AcceptedStudy N a o

@@ -1,4 +1,4 @@
--- Demand 3 of Ward's study, whole (`wardRows`): Ward's own by WardKeeps, and the extended study's correction and compensation.
+-- Demand 3 of Ward's study, whole (`ward_rows`): Ward's own by WardKeeps, and the extended study's correction and compensation.
 use Rattle.prelude.proofs.Prelude.{◌≡◌, sym, subst, inl, inr, [], ◌∷◌, ℕ, zero, suc, ◌+◌, ◌<◌, arith, T, length, get_or, map, eq-or-lt_of_le, binary64, neg, finite, nan}
 use lib.Ieee.Fits.{mul-fits}
 use Rattle.complex.specs.{plus0, ◌⊗◌, of_sqmag, zeros, Zero}
@@ -12,7 +12,7 @@ use Rattle.refusals.specs.declared.Allowance.{Allowance}
 use Rattle.ward_equivalent.specs.Steps.{of_study, of_ties, of_correction, of_extended}
 use Rattle.ward_equivalent.proofs.Laws.{sound_x, left-accepted_x, correction-accepted, compensation-accepted, given-finite, computed-finite, given-finite_x, computed-finite_x}
 use Rattle.ward_equivalent.proofs.FiniteAnswers.{matrix-given, finite-studies}
-use Rattle.lists.proofs.Lookups.{get_d_map}
+use Rattle.lists.proofs.Lookups.{get_or_map}
 use Rattle.ward_equivalent.proofs.Sums.{Null, plus0-zero, sum-zero, magnitude-zero, none_above, each_at}
 use Rattle.ward_equivalent.specs.Numbers.{NumberedExtended, in_rows, extended_in_rows, AcceptedExtended, after_compute_extended}
 use Rattle.ward_claims.specs.WardRows.{old, row_buses, bus_of_row, ZeroRow, ZeroAt, KeepsRow, KeepsExtendedRow, WardRows}
@@ -77,13 +77,13 @@ module _ (S : ExtendedStudy) (computed : T (all_finite (of_extended S))) (p : �
   correction-zero : ZeroAt S.study p (map (voltage_correction S) S.study.boundary)
   unfolding ZeroAt
   correction-zero t l q =
-      rw (get_d_map (voltage_correction S) 0 nan S.study.boundary t l, no-correction S (get_or S.study.boundary t 0) (none-at t q) (ties-computed S t l computed))
+      rw (get_or_map (voltage_correction S) 0 nan S.study.boundary t l, no-correction S (get_or S.study.boundary t 0) (none-at t q) (ties-computed S t l computed))
       (F.zero-eq plus0 plus0-zero)
 
   compensation-zero : ZeroAt S.study p (map (q_compensation S) S.study.boundary)
   unfolding ZeroAt
   compensation-zero t l q =
-      rw (get_d_map (q_compensation S) 0 nan S.study.boundary t l)
+      rw (get_or_map (q_compensation S) 0 nan S.study.boundary t l)
       (F.zero-eq (q_compensation S (get_or S.study.boundary t 0)) (no-compensation S (get_or S.study.boundary t 0) (none-at t q) (ties-computed S t l computed)))
 
 pub zero-row_x : (X : NumberedExtended) (a : Allowance) (o : ExtendedOutputs) → F64s X.study.study.given → AcceptedExtended X a o

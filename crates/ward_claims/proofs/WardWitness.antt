@@ -1,4 +1,4 @@
--- Studies that meet the premises of `wardRows`, one of each kind: the row of bus 3 has zeros towards both external buses and keeps its values; that the row of
+-- Studies that meet the premises of `ward_rows`, one of each kind: the row of bus 3 has zeros towards both external buses and keeps its values; that the row of
 -- bus 2 changes stands in demand3!Bites. A bus is told by its row in the matrix, in the study's lists by number.
 use Rattle.prelude.proofs.Prelude.{refl, List, [], ◌∷◌, ℕ, lit<, lit≤, binary64, of_bits, sub, mul, div, lt, eq, of_int}
 use Rattle.complex.specs.{cadd, csub, cmul, cdiv, complex_inv, entry, magnitude, entry_at, zeros, Zero}

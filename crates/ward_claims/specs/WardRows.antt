@@ -1,5 +1,5 @@
 -- Demand 3 of Ward's study: a retained row with zeros towards all external buses keeps its values and gets zero injection.
--- A study's lists name buses by number; here each is told by its row in the given matrix (`inRows`).
+-- A study's lists name buses by number; here each is told by its row in the given matrix (`in_rows`).
 use Rattle.std.specs.Prelude.{ℕ, ◌+◌, ◌<◌, ◌≡◌, List, ◌++◌, T, length, get_or, Float}
 use Rattle.std.specs.Float.{nan}
 use Rattle.complex.specs.Matrices.{Matrix, entry_at}

@@ -7,7 +7,7 @@ use Rattle.solver.proofs.Passed.{Put, put-more, Stored}
 use Rattle.ward_equivalent.specs.Arithmetic.{sum_up}
 use Rattle.ward_equivalent.specs.Inner.Work.{Listing, work_row, product_to, product, less_product}
 use Rattle.lists.proofs.Buses.{get_or-in, below_all}
-use Rattle.lists.proofs.Lookups.{get_d_map}
+use Rattle.lists.proofs.Lookups.{get_or_map}
 
 -- a listed bus is one of the matrix
 pub listed_below : (n : ℕ) (ys : List Float) (bs : List ℕ) → Listing n ys bs → (k : ℕ) → k < length bs → get_or bs k 0 < n
@@ -73,7 +73,7 @@ augmented-row n ys bs k c zs f g j h = pick (eq-or-lt_of_le {n = j} {m = length 
 pub stored-map : (f : ℕ → Float) (bs : List ℕ) (xs : List Float) (old : ℕ → Float) (t : ℕ) → length xs ≡ length bs → length bs ≤ t
     → Stored xs (λ (k : ℕ). f (get_or bs k 0)) old t → xs ≡ map f bs
 stored-map f bs xs old t l h p =
-    ext_get_or nan xs (map f bs) (l ∙ sym (length-map bs f)) λ (k : ℕ) (m : k < length xs). p.behind k (omega arith) ∙ sym (get_d_map f 0 nan bs k (omega arith))
+    ext_get_or nan xs (map f bs) (l ∙ sym (length-map bs f)) λ (k : ℕ) (m : k < length xs). p.behind k (omega arith) ∙ sym (get_or_map f 0 nan bs k (omega arith))
 
 -- a row of +0s is a product with no term
 pub cleared-row : (n : ℕ) (ys : List Float) (es : List ℕ) (w : ℕ) (ws : List Float) (bus c m r : ℕ) (zs : List Float) → zs ≡ zeros m → m ≡ 2 * r

@@ -1,6 +1,6 @@
 -- A study passes on what the operations on single numbers answer: its sums and entries, computed first and looked at afterwards, are what
 -- products, sums and differences answer one behind the other. Its solves are solver/PassedOn's. Currents, injections and corrections take
--- real numbers, of which the magnitude alone is such an operation: a correction's list has all its numbers (`ofTies`).
+-- real numbers, of which the magnitude alone is such an operation: a correction's list has all its numbers (`of_ties`).
 use Rattle.std.specs.Prelude.{ℕ, zero, suc, ◌≡◌, not, T, eqb}
 use Rattle.complex.specs.declared.Complex.{Complex}
 use Rattle.complex.specs.declared.Pair.{Pair}

@@ -1,4 +1,4 @@
--- `kron_reduction::KronReducer::new` meets its contract: each test picks a case of `afterNew`.
+-- `kron_reduction::KronReducer::new` meets its contract: each test picks a case of `after_new`.
 use Rattle.prelude.proofs.Prelude.{sym, ◌∙◌, arith}
 use Rattle.lists.specs.Buses.{up_to}
 use Rattle.kron_reduction.proofs.Making.{makes-has, new-refused, new-done}
