@@ -1,4 +1,4 @@
--- The root of a binary64 number, IEEE 754-2019's square_root (5.4.1). What is asked for is `Root`: the binary64 nearest the exact root, said
+-- The root of a binary64 number, IEEE 754-2019's squareRoot (5.4.1). What is asked for is `Root`: the binary64 nearest the exact root, said
 -- over whole numbers. What computes it is `root`, in three steps: special operands, the whole root and its remainder, one rounding. Each
 -- step has its heading here and its function in src/steps.rt. `RootSteps` is what they promise; from it alone follows, for x an f64, that
 -- the answer is `root x` and meets `Root` (proofs/RootNearest `root-of-steps`).

@@ -1,6 +1,7 @@
 -- The DC parts: the buses retained, the susceptance matrix, and the line outage factors.
 -- Buses and branches count from 0; a matrix is one of f64, row after row; branches count by the from list.
-use Rattle.std.specs.Prelude.{ℕ, zero, suc, ◌+◌, ◌*◌, ◌-◌, Bool, not, ◌&&◌, cond, List, [], ◌∷◌, ◌++◌, ◌≡◌, T, eqb, length, get_or, set, replicate, Float}
+use Rattle.std.specs.Prelude.{ℕ, zero, suc, ◌+◌, ◌*◌, ◌-◌}
+use Rattle.std.specs.Prelude.{Bool, not, ◌&&◌, cond, List, [], ◌∷◌, ◌++◌, ◌≡◌, T, eqb, length, get_or, set, replicate, Float}
 use Rattle.std.specs.Float.{nan}
 use Rattle.std.specs.Float.Ieee.{neg, lt}
 use Rattle.complex.specs.Constants.{plus0, one, small_magnitude}

@@ -1,5 +1,6 @@
 -- What `new`, `eliminate_bus` and `eliminate_buses` answer and leave, for every record and slice. The contracts are these definitions.
-use Rattle.std.specs.Prelude.{ℕ, ◌*◌, ◌-◌, Bool, not, ◌&&◌, ◌||◌, cond, List, [], ◌∷◌, ◌++◌, T, eqb, leb, ltb, length, take, drop, replicate, Float}
+use Rattle.std.specs.Prelude.{ℕ, ◌*◌, ◌-◌}
+use Rattle.std.specs.Prelude.{Bool, not, ◌&&◌, ◌||◌, cond, List, [], ◌∷◌, ◌++◌, T, eqb, leb, ltb, length, take, drop, replicate, Float}
 use Rattle.complex.specs.Matrices.{Matrix, entry_at, rows, zeros}
 use Rattle.lists.specs.Buses.{up_to, rising, all_below, all_zero, place, repeats, rows_in}
 use Rattle.refusals.specs.Refusals.{limit, too_many, wrong_length, bus_twice, bad_record, refuse, then_given, outcome}

@@ -1,5 +1,6 @@
 -- The work slice of an elimination: n rows of w entries, what one column does to it, and blocks of columns put in or taken out.
-use Rattle.std.specs.Prelude.{ℕ, suc, ◌+◌, ◌*◌, ◌-◌, ◌<◌, ◌≤◌, ◌≡◌, Bool, true, false, ◌&&◌, cond, List, [], ◌∷◌, ◌++◌, T, eqb, leb, ltb, length, Float}
+use Rattle.std.specs.Prelude.{ℕ, suc, ◌+◌, ◌*◌, ◌-◌, ◌<◌, ◌≤◌, ◌≡◌}
+use Rattle.std.specs.Prelude.{Bool, true, false, ◌&&◌, cond, List, [], ◌∷◌, ◌++◌, T, eqb, leb, ltb, length, Float}
 use Rattle.std.specs.Float.Ieee.{neg}
 use Rattle.binary64.specs.Values.{all_finite}
 use Rattle.complex.specs.declared.Complex.{Complex}

@@ -1,6 +1,7 @@
 -- The work of a study in the order of its steps: how its solves end, and where the work slice holds their solutions. Its front is a system
 -- of the e external buses beside one right side, e rows of e + 1 entries; behind it stand the columns of X, e rows of r entries.
-use Rattle.std.specs.Prelude.{ℕ, ◌+◌, ◌*◌, ◌-◌, ◌<◌, ◌≡◌, Bool, false, ◌&&◌, cond, List, [], ◌++◌, T, eqb, length, get_or, take, drop, Float}
+use Rattle.std.specs.Prelude.{ℕ, ◌+◌, ◌*◌, ◌-◌, ◌<◌, ◌≡◌}
+use Rattle.std.specs.Prelude.{Bool, false, ◌&&◌, cond, List, [], ◌++◌, T, eqb, length, get_or, take, drop, Float}
 use Rattle.std.specs.Float.{nan}
 use Rattle.std.specs.Float.Ieee.Scale.{finite}
 use Rattle.binary64.specs.Values.{all_finite}
@@ -134,7 +135,8 @@ pub record Tries (n : ℕ) (ys : List Float) (bs : List ℕ) (e : ℕ) (base : F
   pub answer : answered
       ≡ cond (decides_all base ys e (length bs + 1) allowed (filled_rows n ys bs e base ps qs))
       (Left
-      (allowed - reductions (steps_of_run operations workings e (length bs + 1) (entry_at (length bs + 1) (filled_rows n ys bs e base ps qs)))))
+      (allowed
+      - reductions (steps_of_run operations workings e (length bs + 1) (entry_at (length bs + 1) (filled_rows n ys bs e base ps qs)))))
       Wild
   pub untouched : (ordinary base && all_ordinary ys) ≡ false → after ≡ before
   pub filled : T (ordinary base && all_ordinary ys) → all_finite (filled_rows n ys bs e base ps qs) ≡ false
