@@ -77,14 +77,16 @@ class File:
             self.introduces.setdefault(name, set()).add(paragraph)
 
     def read_code(self):
-        """Functions without their bodies and tactics, types, constants, and names passed on."""
+        """Functions without their bodies and tactics, types, traits with their impls, constants, and names passed on."""
         text = re.sub(r"(?ms)^( *)\{\n.*?^\1\}\n", "", re.sub(ATTRIBUTE, "", self.text))
         text = re.sub(r"(?ms)^( *)([^\n]*\bfn [^\n]*)\{\n.*?^\1\}\n", r"\1\2\n", text)
+        for block, name in re.findall(r"(?ms)^((?:pub )?(?:trait|impl) (\w+)(?:: [^\n]*| for [^\n]*)\{\n.*?^\}\n)", text):
+            self.introduce([name], block)
         for paragraph in paragraphs(text):
             for line in re.findall(r"(?m)^ *pub use .*", paragraph):
                 self.introduce([line.rstrip(";").split("::")[-1]], line)
             kept = re.sub(USE, "", paragraph)
-            self.introduce(re.findall(r"\b(?:fn|struct|enum|const|impl) (\w+)", kept), kept)
+            self.introduce(re.findall(r"\b(?:fn|struct|enum|trait|const|impl) (\w+)", kept), kept)
 
     def read_definitions(self):
         """Definitions; of proofs only what is no law: numbers and records that cases and witnesses are made of."""

@@ -2,12 +2,12 @@
 -- over whole numbers. What computes it is `root`, in three steps: special operands, the whole root and its remainder, one rounding. Each
 -- step has its heading here and its function in src/steps.rt. `RootSteps` is what they promise; from it alone follows, for x an f64, that
 -- the answer is `root x` and meets `Root` (proofs/RootNearest `root-of-steps`).
-use Rattle.std.specs.Prelude.{ℕ, zero, suc, ◌+◌, ◌-◌, ◌*◌, ◌/◌, ◌^◌, ◌≤◌, ◌<◌, ◌≡◌, true, false, cond, T, leb, ltb, ℤ, Float}
+use Rattle.std.specs.Prelude.{ℕ, zero, suc, ◌+◌, ◌-◌, ◌*◌, ◌/◌, ◌^◌, ◌≤◌, ◌<◌, ◌≡◌}
+use Rattle.std.specs.Prelude.{true, false, cond, T, leb, ltb, ℤ, Option, Some, None, Float}
+use Rattle.std.specs.Option.{unwrap_or}
 use Rattle.std.specs.Float.{nan, inf, fin, binary64}
 use Rattle.std.specs.Float.Ieee.{size, odd, fits, lt}
 use Rattle.std.specs.Float.Ieee.Positive.{num, den, positive}
-use Rattle.binary64.specs.declared.steps.Operand.{Operand}
-use Rattle.binary64.specs.declared.steps.Operand.TheVariants.{SpecialRoot, Ordinary}
 
 abbrev pub square : ℕ → ℕ
 square n = n * n
@@ -45,13 +45,13 @@ Root (fin false (suc m) e) r = NearestRoot (fin false (suc m) e) r
 -- NaN of NaN (6.2), NaN of a number below zero, -inf too (7.2), inf of inf (6.1), and each zero of itself, -0 of -0 (6.3). There is one NaN
 -- here: its payload, whether it signals, and the flags of clause 7 are outside. Any other operand is an ordinary one, finite and above
 -- zero.
-abbrev pub special : Float → Operand
-special nan = SpecialRoot nan
-special (inf true) = SpecialRoot nan
-special (inf false) = SpecialRoot (inf false)
-special (fin s zero e) = SpecialRoot (fin s zero e)
-special (fin true (suc m) e) = SpecialRoot nan
-special (fin false (suc m) e) = Ordinary
+abbrev pub special : Float → Option Float
+special nan = Some nan
+special (inf true) = Some nan
+special (inf false) = Some (inf false)
+special (fin s zero e) = Some (fin s zero e)
+special (fin true (suc m) e) = Some nan
+special (fin false (suc m) e) = None
 
 -- ---- second: the whole root q and its remainder r, which stand for the exact root (5.1)
 
@@ -84,8 +84,8 @@ rounded q r h = moved_back (nearest_whole q r) h
 
 -- what the three steps promise of the root y of x: the first alone, or all three
 pub data RootSteps (x y : Float) : Type 0 where
-  first_alone : special x ≡ SpecialRoot y → RootSteps x y
-  all_three : special x ≡ Ordinary → (q r h : ℕ) → Rooted x q r h → y ≡ rounded q r h → RootSteps x y
+  first_alone : special x ≡ Some y → RootSteps x y
+  all_three : special x ≡ None → (q r h : ℕ) → Rooted x q r h → y ≡ rounded q r h → RootSteps x y
 
 -- ---- `root`, and how it finds q, r and h: no step promises this. That they are `Rooted` is proofs/RootNearest `root-rooted`.
 
@@ -115,10 +115,6 @@ unfoldable pub root_of : ℕ → Float
 unfolding whole_root half radicand moved_back
 root_of n = rounded (whole_root 53 (radicand n)) (radicand n - square (whole_root 53 (radicand n))) (half n)
 
-abbrev pub or_else : Operand → Float → Float
-or_else (SpecialRoot y) z = y
-or_else Ordinary z = z
-
 unfoldable pub root : Float → Float
 unfolding root_of
-root x = or_else (special x) (root_of (count x))
+root x = unwrap_or (special x) (root_of (count x))

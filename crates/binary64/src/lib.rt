@@ -5,8 +5,6 @@
 ghost use Rattle.std.specs.Prelude.{◌≡◌};
 ghost use Rattle.binary64.specs.Root.{root, Root};
 
-use crate::steps::Operand;
-
 mod digits;
 pub mod finite;
 mod steps;
@@ -16,12 +14,9 @@ pub mod words;
 pub fn sqrt(x: f64) -> f64
     ensures { (result ≡ root x) × Root x result }
 {
-    let s = steps::special(x);
-    match s {
-        Operand::SpecialRoot(r) => r,
-        Operand::Ordinary => {
-            let w = steps::whole_root(x);
-            steps::rounded(w.q, w.r, w.half)
-        }
+    if let Some(special) = steps::special(x) {
+        return special;
     }
+    let w = steps::whole_root(x);
+    steps::rounded(w.q, w.r, w.half)
 }

@@ -5,26 +5,19 @@ ghost use Rattle.binary64.specs.Root as spec;
 
 use crate::digits::{long_root, parts, scaled};
 
-// A special operand's root, or that the operand is an ordinary one: finite and above zero.
-#[derive(Clone, Copy)]
-pub enum Operand {
-    SpecialRoot(f64),
-    Ordinary,
-}
-
-// Special operands (6.1, 6.2, 6.3, 7.2): the root of NaN and of a number below zero is NaN; infinity and each zero are their own roots.
-pub fn special(x: f64) -> Operand
+// The root of a special operand (6.1, 6.2, 6.3, 7.2): of NaN and of a number below zero it is NaN; infinity and each zero are their own
+// roots.
+// None for an ordinary operand, which is finite and above zero.
+pub fn special(x: f64) -> Option<f64>
     ensures { result ≡ spec.special x }
 {
     if x < 0.0 {
-        return Operand::SpecialRoot(0.0 / 0.0);
+        return Some(0.0 / 0.0);
     }
-    if x > 0.0 {
-        if x < 1.0 / 0.0 {
-            return Operand::Ordinary;
-        }
+    if x > 0.0 && x < 1.0 / 0.0 {
+        return None;
     }
-    Operand::SpecialRoot(x)
+    Some(x)
 }
 
 // A whole root q of 53 binary digits, its remainder r, and the scale, `half`: the number is (q * q + r) * 4^(half - 590).
@@ -37,7 +30,7 @@ pub struct RootAndRest {
 
 // The whole root and its remainder, which stand for the exact root (5.1), of x moved without loss until the root has 53 binary digits.
 pub fn whole_root(x: f64) -> RootAndRest
-    requires { spec.special x ≡ Operand.Ordinary }
+    requires { spec.special x ≡ None }
     ensures { spec.Rooted x result.q result.r result.half }
 {
     let p = parts(x);

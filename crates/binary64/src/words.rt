@@ -1,4 +1,5 @@
-// An f64 as a 64-bit word, and back. Every NaN pattern reads as a NaN, and a NaN is written as 7ff8000000000000.
+// An f64 as a 64-bit word, and back. Every NaN pattern reads as a NaN, and a NaN is written as 7ff8000000000000. No From: both types are
+// the language's own.
 ghost use Rattle.std.specs.Prelude.{◌≡◌};
 ghost use Rattle.std.specs.Float.{binary64};
 ghost use Rattle.std.specs.Float.Ieee.{of_bits, to_bits};

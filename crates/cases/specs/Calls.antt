@@ -1,21 +1,17 @@
 -- A call of the book, and what it answers and leaves by the definitions that the contracts cite.
-use Rattle.std.specs.Prelude.{ℕ, cond, List, [], ◌∷◌, ◌++◌, eqb, Float}
+use Rattle.std.specs.Prelude.{ℕ, cond, List, [], ◌∷◌, ◌++◌, eqb, Float, Result, Ok, Err}
 use Rattle.complex.specs.declared.Complex.{Complex}
 use Rattle.complex.specs.Arithmetic.{unit, cmul, complex_inv}
 use Rattle.complex.specs.Computed.{of_parts, of_product, of_quotient}
 use Rattle.complex.specs.Leaves.{single_refusal}
 use Rattle.refusals.specs.declared.Allowance.TheVariants.{Unlimited}
-use Rattle.refusals.specs.declared.Counted.{Counted}
-use Rattle.refusals.specs.declared.Counted.TheVariants as reduced
-use Rattle.refusals.specs.Refusals.{number, counted_number}
+use Rattle.refusals.specs.declared.Refusal.{Refusal}
+use Rattle.refusals.specs.Refusals.{number, number_of}
 use Rattle.solver.specs.Calls.{AfterElimination, after_solve}
 use Rattle.kron_reduction.specs.declared.KronReducer.{KronReducer}
-use Rattle.kron_reduction.specs.declared.Impedance.{Impedance}
-use Rattle.kron_reduction.specs.declared.Impedance.TheVariants as impedances
-use Rattle.kron_reduction.specs.Reducer.{ReducerInput, after_new, AfterBus, after_bus, AfterBuses, after_buses}
+use Rattle.kron_reduction.specs.Reducer.{ReducerInput, made, AfterBus, after_bus, AfterBuses, after_buses}
 use Rattle.kron_reduction.specs.Reading.{after_impedance}
-use Rattle.ward_equivalent.specs.declared.answers.WardAnswer.{WardAnswer}
-use Rattle.ward_equivalent.specs.declared.answers.WardAnswer.TheVariants as studies
+use Rattle.ward_equivalent.specs.declared.answers.WardSummary.{WardSummary}
 use Rattle.ward_equivalent.specs.Ward.{Outputs}
 use Rattle.ward_equivalent.specs.Extended.{ExtendedOutputs}
 use Rattle.ward_equivalent.specs.Studied.{AfterWard, AfterExtended}
@@ -53,19 +49,19 @@ reducer_counts r = r.made ∷ r.n_buses ∷ (r.active_buses ++ r.numbers)
 
 -- ---- what each answer shows, beside the slices
 
-unfoldable pub seen_impedance : Impedance → List (List Float) → Seen
-seen_impedance (impedances.Value z) ss = seen 0 [] (of_parts z) ss
-seen_impedance (impedances.Refused k) ss = seen k [] [] ss
+unfoldable pub seen_impedance : Result Complex Refusal → List (List Float) → Seen
+seen_impedance (Ok z) ss = seen 0 [] (of_parts z) ss
+seen_impedance (Err r) ss = seen (number r) [] [] ss
 
-unfoldable pub seen_summary : WardAnswer → List (List Float) → Seen
-seen_summary (studies.Done s) ss =
+unfoldable pub seen_summary : Result WardSummary Refusal → List (List Float) → Seen
+seen_summary (Ok s) ss =
     seen 0 (s.n_buses_reduced ∷ s.n_buses_equivalent ∷ s.rows_reduced ∷ []) (s.reduction_ratio ∷ []) ss
-seen_summary (studies.Refused k) ss = seen k [] [] ss
+seen_summary (Err r) ss = seen (number r) [] [] ss
 
 -- how many rows were reduced
-unfoldable pub reduced_rows : Counted → List ℕ
-reduced_rows (reduced.Reduced n) = n ∷ []
-reduced_rows (reduced.Refused k) = []
+unfoldable pub reduced_rows : Result ℕ Refusal → List ℕ
+reduced_rows (Ok n) = n ∷ []
+reduced_rows (Err r) = []
 
 -- a call on single numbers: those given, those computed, and its value
 unfoldable pub seen_single : List Float → List Float → Complex → Seen
@@ -76,11 +72,11 @@ seen_single given computed z =
 -- ---- the calls
 
 abbrev pub seen_bus : AfterBus → Seen
-seen_bus a = seen (number a.out.answer) (reducer_counts a.out.rec) [] (a.slice ∷ [])
+seen_bus a = seen (number_of a.out.answer) (reducer_counts a.out.rec) [] (a.slice ∷ [])
 
 -- the count of removals comes first
 abbrev pub seen_buses : AfterBuses → Seen
-seen_buses a = seen (number a.out.removals.answer) (a.out.removals.removed ∷ reducer_counts a.out.rec) [] (a.slice ∷ [])
+seen_buses a = seen (number_of a.out.removals.answer) (a.out.removals.removed ∷ reducer_counts a.out.rec) [] (a.slice ∷ [])
 
 abbrev pub seen_study : AfterWard → Seen
 seen_study a = let o = a.outputs in seen_summary a.answer (o.y-ward ∷ o.p-ward ∷ o.q-ward ∷ o.work ∷ [])
@@ -91,15 +87,15 @@ seen_extended a =
     let o = x.outputs in
     seen_summary a.answer (o.y-ward ∷ o.p-ward ∷ o.q-ward ∷ x.correction ∷ x.compensation ∷ o.work ∷ [])
 
-abbrev pub seen_solution : AfterElimination Counted → Seen
-seen_solution a = seen (counted_number a.answer) (reduced_rows a.answer) [] (a.output ∷ a.work ∷ [])
+abbrev pub seen_solution : AfterElimination (Result ℕ Refusal) → Seen
+seen_solution a = seen (number_of a.answer) (reduced_rows a.answer) [] (a.output ∷ a.work ∷ [])
 
 unfoldable pub after : BookCall → Seen
 after (product a b) = seen_single (of_parts a ++ of_parts b) (of_product a b) (cmul a b)
 after (inverse b) = seen_single (of_parts b) (of_quotient unit b) (complex_inv b)
-after (removal M k) = seen_bus (after_bus (after_new M).rec M.given k)
-after (removals M ks) = seen_buses (after_buses (after_new M).rec M.given ks)
-after (impedance M i j ws) = let a = after_impedance (after_new M).rec M.given i j ws in seen_impedance a.answer (a.work ∷ [])
+after (removal M k) = seen_bus (after_bus (made M) M.given k)
+after (removals M ks) = seen_buses (after_buses (made M) M.given ks)
+after (impedance M i j ws) = let a = after_impedance (made M) M.given i j ws in seen_impedance a.answer (a.work ∷ [])
 after (study N o) = seen_study (after_compute N Unlimited o)
 after (extended X o) = seen_extended (after_compute_extended X Unlimited o)
 after (solution n a b x ws) = seen_solution (after_solve n a b Unlimited x ws)

@@ -5,7 +5,7 @@ use Rattle.refusals.specs.Refusals.{limit, too_many, outcome}
 use Rattle.kron_reduction.specs.declared.KronReducer.{KronReducer}
 use Rattle.lists.specs.Buses.{place, repeats, rows_in}
 use Rattle.kron_reduction.specs.Kron.{State, start, removal_refusal, accepts, eliminate, carried_out, stopped_by}
-use Rattle.kron_reduction.specs.Reducer.{ReducerInput, AcceptedMaking, making_refusal, active_of, after_new, input_refusal, ReducerState, reducer_state_of, stored, leaves, removed_rows, removals_refusal, after_bus, after_buses}
+use Rattle.kron_reduction.specs.Reducer.{ReducerInput, AcceptedMaking, making_refusal, active_of, made as record_made, input_refusal, ReducerState, reducer_state_of, stored, leaves, removed_rows, removals_refusal, after_bus, after_buses}
 use Rattle.kron_reduction.proofs.States.{Accepted, FiniteIn, finite-eliminate, taken-accepted, append-accepted, eliminate-append, eliminate-active, Regular, regular-start, regular-eliminate}
 use Rattle.kron_reduction.proofs.Making.{Makes, makes-has}
 use Rattle.kron_reduction.proofs.FiniteAnswers.{finite-start}
@@ -104,8 +104,8 @@ left-from a (c ∷ cs) small many distinct fine =
     ap (λ (h : ReducerState). left_from h cs) (one-call a small many distinct fine c ∙ ap (stored a.size a.numbers) (sym (state-step a c)))
     ∙ left-from (step a c) cs small many distinct (step-finite a c fine)
 
-fresh-is : (M : ReducerInput) → AcceptedMaking M → reducer_state_of (after_new M).rec M.given ≡ stored_of (fresh M)
-unfolding after_new stored state_after fresh eliminate
+fresh-is : (M : ReducerInput) → AcceptedMaking M → reducer_state_of (record_made M) M.given ≡ stored_of (fresh M)
+unfolding record_made stored state_after fresh eliminate
 fresh-is M made = rw (is_true (eqb (making_refusal M) 0) made, row_major-all M.size M.given (made-length M made))
 
 pub left_is : (M : ReducerInput) (calls : List Call) → AcceptedMaking M → left M calls ≡ stored M.size M.numbers (state_after (account M calls))

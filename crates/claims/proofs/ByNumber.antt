@@ -27,7 +27,7 @@ removed-numbers ns (k ∷ ks) w =
 
 -- and the rows of the numbers of rows are those rows
 pub numbered-rows : (ns is : List ℕ) → repeats ns ≡ false → T (all_below (length ns) is) → rows_in ns (map (λ (i : ℕ). get_or ns i 0) is) ≡ is
-unfolding all_below rows_in
+unfolding rows_in
 numbered-rows ns [] d h = refl
 numbered-rows ns (i ∷ is) d h =
     ap₂ (λ (x : ℕ) (xs : List ℕ). x ∷ xs) (place-number ns i d (ltb→lt i (length ns) (and_l (ltb i (length ns)) (all_below (length ns) is) h)))

@@ -1,5 +1,5 @@
 -- Demand 3 of lists of calls (`removals`): both claims, and their positive forms.
-use Rattle.prelude.proofs.Prelude.{◌≡◌, refl, sym, subst, ◌⊎◌, inl, inr, List, ℕ, ◌+◌, ◌*◌, ◌<◌, arith, T, length, get_or, Float, ⊎_elim, is_true}
+use Rattle.prelude.proofs.Prelude.{◌≡◌, sym, subst, ◌⊎◌, inl, inr, List, ℕ, ◌+◌, ◌*◌, ◌<◌, arith, T, length, get_or, Float, ⊎_elim, is_true}
 use mathlib.Core.Path.{subst₂}
 use Rattle.complex.specs.{Complex, entry as entry_of, Matrix, entry_at, ◌≈◌}
 use Rattle.lists.specs.Buses.{up_to, ◌is_one_of◌, others}
@@ -9,7 +9,7 @@ use Rattle.complex.proofs.Finite.{all-at}
 use Rattle.complex.proofs.SameValue.{Number}
 use Rattle.kron_reduction.specs.Kron.{start}
 use Rattle.kron_reduction.specs.Reducer.{ReducerInput, making_shape_refusal, making_refusal, AcceptedMaking}
-use Rattle.refusals.proofs.Numbers.{given-all}
+use Rattle.refusals.specs.Refusals.{then_given}
 use Rattle.lists.proofs.Buses.{get_or-in}
 use Rattle.kron_reduction.proofs.States.{eliminate-active}
 use Rattle.claims.specs.Accounts.{Call, left, entry_in, Account, fresh, state_after, account, kept, row_at}
@@ -112,9 +112,9 @@ finite M calls made = record {
 
 no-more-refused : (M : ReducerInput) (calls : List Call) → making_shape_refusal M ≡ 0 → T (all_finite M.given) → T (all_finite (of_account (untested_account M calls)))
     → AcceptedMaking M × (account M calls ≡ untested_account M calls)
-unfolding making_refusal
+unfolding making_refusal then_given
 no-more-refused M calls shape given computed =
-    (rw (← given-all 0 (making_shape_refusal M) M.given (sym shape) refl (is_true (all_finite M.given) given)) tt, account-is (fresh M) calls computed)
+    (rw (shape, is_true (all_finite M.given) given) tt, account-is (fresh M) calls computed)
 
 -- ---- the claims
 

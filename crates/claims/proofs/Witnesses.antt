@@ -1,14 +1,14 @@
 -- The premises of claim 1 can be met, with calls that are refused, several buses removed and large numbers; so can those of `no-more-refused`.
 use Rattle.prelude.proofs.Prelude.{◌≡◌, refl, List, [], ◌∷◌, ℕ, ◌+◌, replicate, lit<, sub, mul, div, lt, eq, of_bits}
 use Rattle.complex.specs.{csub, cmul, cdiv, entry as entry_of, Matrix, entry_at, ◌≈◌}
-use Rattle.lists.specs.Buses.{up_to, ◌is_one_of◌, others, place, rising, all_below, all_zero, repeats}
+use Rattle.lists.specs.Buses.{up_to, ◌is_one_of◌, others, place, rising, repeats}
 use Rattle.binary64.specs.Values.{all_finite}
 use Rattle.binary64.specs.BitPatterns.{of_bit_patterns}
 use Rattle.binary64.proofs.BitPatterns.{words-f64s}
 use Rattle.refusals.specs.Refusals.{limit, then_given}
 use Rattle.lists.proofs.Each.{of-each}
 use Rattle.kron_reduction.specs.Kron.{kron, removal_refusal, eliminate, carried_out, of_row, of_rows, of_removals}
-use Rattle.kron_reduction.specs.Reducer.{ReducerInput, reducer_input_of, making_shape_refusal, making_refusal, AcceptedMaking, after_new, sound_rows, sound_numbers, input_shape_refusal, input_refusal, state_of, stored, leaves, removed_rows, after_bus, after_buses}
+use Rattle.kron_reduction.specs.Reducer.{ReducerInput, reducer_input_of, making_shape_refusal, making_refusal, AcceptedMaking, made as record_made, sound_rows, sound_numbers, input_shape_refusal, input_refusal, state_of, stored, leaves, removed_rows, after_bus, after_buses}
 use Rattle.claims.specs.Accounts.{Call, bus, buses, after_call, left_from, left, entry_in, fresh, state_after, removes, step, account_from, Account, account, kept}
 use Rattle.claims.specs.Chains.{Linked, Steps, Within, Chain, Into}
 use Rattle.claims.specs.Finite.{of_account}
@@ -22,7 +22,7 @@ book-words = 0x3ff0000000000000 ∷ 0 ∷ 0xbff0000000000000 ∷ 0 ∷ 0xbff0000
 -- to open this is to open all that lists of calls compute with
 unfoldable pub opened : Unit {0}
 unfolding book-words of_bit_patterns csub cmul cdiv up_to others place entry_of entry_at kron removal_refusal eliminate carried_out fresh state_after
-    removes step account_from sub mul div lt of_bits eq stored making_shape_refusal making_refusal after_new rising all_below all_zero sound_rows sound_numbers
+    removes step account_from sub mul div lt of_bits eq stored making_shape_refusal making_refusal record_made rising sound_rows sound_numbers
     input_shape_refusal input_refusal then_given
     state_of leaves removed_rows after_bus after_buses after_call left_from left all_finite of_account of_removals of_row of_rows
 opened = tt

@@ -5,7 +5,7 @@ use Rattle.complex.specs.Matrices.{Matrix, entry_at}
 use Rattle.lists.specs.Buses.{up_to, others, rows_in}
 use Rattle.refusals.specs.Refusals.{limit}
 use Rattle.kron_reduction.specs.Kron.{State, start, eliminate, carried_out}
-use Rattle.kron_reduction.specs.Reducer.{ReducerInput, after_new, ReducerState, reducer_state_of, after_bus, after_buses}
+use Rattle.kron_reduction.specs.Reducer.{ReducerInput, made as record_made, ReducerState, reducer_state_of, after_bus, after_buses}
 
 -- a call of `eliminate_bus` with a bus, or of `eliminate_buses` with a list of buses: any numbers, in any order
 pub data Call : Type 0 where
@@ -25,7 +25,7 @@ left_from h (c ∷ cs) = left_from (after_call h c) cs
 
 -- from the record of the making and the slice that it was made of
 unfoldable pub left : ReducerInput → List Call → ReducerState
-left M calls = left_from (reducer_state_of (after_new M).rec M.given) calls
+left M calls = left_from (reducer_state_of (record_made M) M.given) calls
 
 -- the entry in row p and column q of the matrix in the slice: a row is as long as there are buses now
 abbrev pub entry_in : ReducerState → Matrix

@@ -1,10 +1,9 @@
 -- A number that an operation answers is finite.
+use Rattle.std.proofs.Common.{Option, Some, None}
 use Rattle.prelude.proofs.Prelude.{◌≡◌, refl, sym, ap, subst, ◌∙◌, Bool, true, false, cond, true≢false, List, [], ◌∷◌, T, Float, finite}
 use Rattle.binary64.specs.Values.{all_finite}
 use Rattle.binary64.specs.Root.{root}
 use Rattle.complex.specs.declared.Complex.{Complex}
-use Rattle.complex.specs.declared.magnitude.Real.{Real}
-use Rattle.complex.specs.declared.magnitude.Real.TheVariants as reals
 use Rattle.complex.specs.Arithmetic.{cadd, csub, cneg, cmul, cdiv, unit}
 use Rattle.complex.specs.Computed.{of_parts, of_sum, of_difference, of_product, of_quotient}
 use Rattle.complex.specs.Magnitude.{abs, magnitude}
@@ -21,19 +20,19 @@ of-true b e = subst T (sym e) tt
 by_parts : (xs : List Float) (c : Complex) → (all_finite xs ≡ true → T (all_finite (of_parts c))) → FinitePair (pair xs c)
 by_parts xs c h z e = let (all, same) = pair-tells xs c z (sym e) in subst (λ (x : Complex). T (all_finite (of_parts x))) (sym same) (h all)
 
-is_finite : Real → Bool
-is_finite (reals.Finite x) = true
-is_finite reals.NotFinite = false
+is_finite : Option Float → Bool
+is_finite (Some x) = true
+is_finite None = false
 
-value_or : Float → Real → Float
-value_or d (reals.Finite x) = x
-value_or d reals.NotFinite = d
+value_or : Float → Option Float → Float
+value_or d (Some x) = x
+value_or d None = d
 
-real-tells : (xs : List Float) (x y : Float) → real xs x ≡ reals.Finite y → (all_finite xs ≡ true) × (y ≡ x)
+real-tells : (xs : List Float) (x y : Float) → real xs x ≡ Some y → (all_finite xs ≡ true) × (y ≡ x)
 unfolding real is_finite value_or
 real-tells xs x y e = go (all_finite xs) e
   where
-    go : (b : Bool) → cond b (reals.Finite x) reals.NotFinite ≡ reals.Finite y → (b ≡ true) × (y ≡ x)
+    go : (b : Bool) → cond b (Some x) None ≡ Some y → (b ≡ true) × (y ≡ x)
     go true h = (refl, sym (ap (value_or x) h))
     go false h = absurd (true≢false (sym (ap is_finite h)))
 

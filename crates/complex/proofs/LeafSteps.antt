@@ -1,27 +1,24 @@
 -- An operation that answers none is one whose numbers, as steps, meet 20.
+use Rattle.std.proofs.Common.{Option, Some, None}
 use Rattle.prelude.proofs.Prelude.{◌≡◌, refl, sym, ap, ◌∙◌, Bool, true, false, ◌&&◌, cond, true≢false, List, ◌++◌, ℕ, arith, Float}
 use Rattle.binary64.specs.Values.{all_finite}
 use Rattle.refusals.specs.Work.{Step, computing, meets}
 use Rattle.refusals.proofs.Work.{meets-numbers, numbers-met}
 use Rattle.complex.specs.declared.Complex.{Complex}
-use Rattle.complex.specs.declared.Pair.{Pair}
-use Rattle.complex.specs.declared.Pair.TheVariants as pairs
-use Rattle.complex.specs.declared.magnitude.Real.{Real}
-use Rattle.complex.specs.declared.magnitude.Real.TheVariants as reals
 use Rattle.complex.specs.Leaves.{pair, real, passing, through, LeafSteps}
 use Rattle.complex.proofs.Finite.{all_both}
 use Rattle.complex.proofs.Answers.{pair-tells-not}
 use Rattle.complex.proofs.Leaves.{pair-none, real-none}
 
-is_finite : Real → Bool
-is_finite (reals.Finite x) = true
-is_finite reals.NotFinite = false
+is_finite : Option Float → Bool
+is_finite (Some x) = true
+is_finite None = false
 
-real-tells-not : (xs : List Float) (x : Float) → real xs x ≡ reals.NotFinite → all_finite xs ≡ false
+real-tells-not : (xs : List Float) (x : Float) → real xs x ≡ None → all_finite xs ≡ false
 unfolding real is_finite
 real-tells-not xs x e = go (all_finite xs) e
   where
-    go : (b : Bool) → cond b (reals.Finite x) reals.NotFinite ≡ reals.NotFinite → b ≡ false
+    go : (b : Bool) → cond b (Some x) None ≡ None → b ≡ false
     go true h = absurd (true≢false (ap is_finite h))
     go false h = refl
 
@@ -39,16 +36,16 @@ met-through : (m : ℕ) (xs : List Float) (c : Complex) (rest : List Step) → m
 unfolding pair through
 met-through m xs c rest = meets-numbers m xs rest ∙ go (all_finite xs)
   where
-    go : (b : Bool) → cond b (meets m rest) 20 ≡ through (cond b (pairs.Finite c) pairs.NotFinite) (meets m rest)
+    go : (b : Bool) → cond b (meets m rest) 20 ≡ through (cond b (Some c) None) (meets m rest)
     go true = refl
     go false = refl
 
-pub passes_on : (xs : List Float) (c : Complex) (next : Complex → Pair) (ys : List Float) (d : Complex)
+pub passes_on : (xs : List Float) (c : Complex) (next : Complex → Option Complex) (ys : List Float) (d : Complex)
     → next c ≡ pair ys d → passing (pair xs c) next ≡ pair (xs ++ ys) d
 unfolding pair passing
-passes_on xs c next ys d e = go (all_finite xs) ∙ ap (λ (b : Bool). cond b (pairs.Finite d) pairs.NotFinite) (sym (all_both xs ys))
+passes_on xs c next ys d e = go (all_finite xs) ∙ ap (λ (b : Bool). cond b (Some d) None) (sym (all_both xs ys))
   where
-    go : (b : Bool) → passing (cond b (pairs.Finite c) pairs.NotFinite) next ≡ cond (b && all_finite ys) (pairs.Finite d) pairs.NotFinite
+    go : (b : Bool) → passing (cond b (Some c) None) next ≡ cond (b && all_finite ys) (Some d) None
     go true = e
     go false = refl
 

@@ -1,11 +1,9 @@
 -- What an operation answers by its result alone.
+use Rattle.std.specs.Bool.{then_some}
+use Rattle.std.proofs.Common.{Option, Some, None}
 use Rattle.prelude.proofs.Prelude.{◌≡◌, refl, sym, ap, ◌∙◌, Bool, true, false, ◌&&◌, cond, true≢false, List, [], ◌∷◌, Float, nan, inf, fin, neg, finite}
 use Rattle.binary64.specs.Values.{all_finite}
 use Rattle.complex.specs.declared.Complex.{Complex}
-use Rattle.complex.specs.declared.Pair.{Pair}
-use Rattle.complex.specs.declared.Pair.TheVariants as pairs
-use Rattle.complex.specs.declared.magnitude.Real.{Real}
-use Rattle.complex.specs.declared.magnitude.Real.TheVariants as reals
 use Rattle.complex.specs.Arithmetic.{cneg, sqmag, cdiv}
 use Rattle.complex.specs.Computed.{of_parts, of_quotient}
 use Rattle.complex.specs.Magnitude.{abs}
@@ -21,34 +19,50 @@ parts-finite c = go (finite c.re) (finite c.im)
     go true false = refl
     go false b = refl
 
-pub pair-finite : (xs : List Float) (c : Complex) → all_finite xs ≡ true → pairs.Finite c ≡ pair xs c
+pub pair-finite : (xs : List Float) (c : Complex) → all_finite xs ≡ true → Some c ≡ pair xs c
 unfolding pair
 pair-finite xs c h = rw h
 
-pub pair-none : (xs : List Float) (c : Complex) → all_finite xs ≡ false → pairs.NotFinite ≡ pair xs c
+pub pair-none : (xs : List Float) (c : Complex) → all_finite xs ≡ false → None ≡ pair xs c
 unfolding pair
 pair-none xs c h = rw h
 
+pub pair-by : (xs : List Float) (c : Complex) (b : Bool) → b ≡ all_finite xs → then_some b c ≡ pair xs c
+unfolding pair
+pair-by xs c b e = rw e (go (all_finite xs))
+  where
+    go : (a : Bool) → then_some a c ≡ cond a (Some c) None
+    go true = refl
+    go false = refl
+
 pub pair_same : (xs ys : List Float) (c : Complex) → all_finite xs ≡ all_finite ys → pair xs c ≡ pair ys c
 unfolding pair
-pair_same xs ys c h = ap (λ (t : Bool). cond t (pairs.Finite c) pairs.NotFinite) h
+pair_same xs ys c h = ap (λ (t : Bool). cond t (Some c) None) h
 
 -- the answer of a test of the result z, which is c
-pub tested : (answer : Pair) (z c : Complex) (xs : List Float) → z ≡ c → answer ≡ pair (of_parts z) z → all_finite (of_parts c) ≡ all_finite xs
+pub tested : (answer : Option Complex) (z c : Complex) (xs : List Float) → z ≡ c → answer ≡ pair (of_parts z) z → all_finite (of_parts c) ≡ all_finite xs
     → answer ≡ pair xs c
 tested answer z c xs e h k = h ∙ ap (λ (y : Complex). pair (of_parts y) y) e ∙ pair_same (of_parts c) xs c k
 
-pub real-finite : (xs : List Float) (x : Float) → all_finite xs ≡ true → reals.Finite x ≡ real xs x
+pub real-finite : (xs : List Float) (x : Float) → all_finite xs ≡ true → Some x ≡ real xs x
 unfolding real
 real-finite xs x h = rw h
 
-pub real-none : (xs : List Float) (x : Float) → all_finite xs ≡ false → reals.NotFinite ≡ real xs x
+pub real-none : (xs : List Float) (x : Float) → all_finite xs ≡ false → None ≡ real xs x
 unfolding real
 real-none xs x h = rw h
 
+pub real-by : (xs : List Float) (x : Float) (b : Bool) → b ≡ all_finite xs → then_some b x ≡ real xs x
+unfolding real
+real-by xs x b e = rw e (go (all_finite xs))
+  where
+    go : (a : Bool) → then_some a x ≡ cond a (Some x) None
+    go true = refl
+    go false = refl
+
 pub real_same : (xs ys : List Float) (x : Float) → all_finite xs ≡ all_finite ys → real xs x ≡ real ys x
 unfolding real
-real_same xs ys x h = ap (λ (t : Bool). cond t (reals.Finite x) reals.NotFinite) h
+real_same xs ys x h = ap (λ (t : Bool). cond t (Some x) None) h
 
 -- one number
 pub one-finite : (x : Float) → all_finite (x ∷ []) ≡ finite x
@@ -59,7 +73,7 @@ one-finite x = go (finite x)
     go true = refl
     go false = refl
 
-pub real-tested : (answer : Real) (z x : Float) (xs : List Float) → z ≡ x → answer ≡ real (z ∷ []) z → finite x ≡ all_finite xs → answer ≡ real xs x
+pub real-tested : (answer : Option Float) (z x : Float) (xs : List Float) → z ≡ x → answer ≡ real (z ∷ []) z → finite x ≡ all_finite xs → answer ≡ real xs x
 real-tested answer z x xs e h k = h ∙ ap (λ (y : Float). real (y ∷ []) y) e ∙ real_same (x ∷ []) xs x (one-finite x ∙ k)
 
 -- a cleared sign

@@ -1,4 +1,4 @@
-// Complex numbers in binary64: one record of two f64, passed and returned by value. The operations answer a finite number, or that a
+// Complex numbers in binary64: one record of two f64, passed and returned by value. The operations answer a finite number, or none where a
 // number they compute is not finite.
 #![tactic(auto)]
 
@@ -22,73 +22,60 @@ pub struct Complex {
     pub im: f64,
 }
 
-// A finite complex number, or none.
-#[derive(Clone, Copy)]
-pub enum Pair {
-    Finite(Complex),
-    NotFinite,
-}
-
 // Whether both parts are finite.
 pub fn both_finite(c: Complex) -> bool
     ensures { result ≡ (scale.finite c.re && scale.finite c.im) }
 {
-    if finite(c.re) {
-        return finite(c.im);
-    }
-    false
+    finite(c.re) && finite(c.im)
 }
 
 // The number itself, where both parts are finite.
-fn if_finite(c: Complex) -> Pair
+fn if_finite(c: Complex) -> Option<Complex>
     ensures { result ≡ leaves.pair (computed.of_parts c) c }
 {
-    if both_finite(c) {
-        return Pair::Finite(c);
-    }
-    Pair::NotFinite
+    both_finite(c).then_some(c)
 }
 
 // a + b, part by part.
-pub fn cadd(a: Complex, b: Complex) -> Pair
+pub fn cadd(a: Complex, b: Complex) -> Option<Complex>
     ensures { result ≡ leaves.sum a b }
 {
     if_finite(raw::cadd(a, b))
 }
 
 // a - b, part by part.
-pub fn csub(a: Complex, b: Complex) -> Pair
+pub fn csub(a: Complex, b: Complex) -> Option<Complex>
     ensures { result ≡ leaves.difference a b }
 {
     if_finite(raw::csub(a, b))
 }
 
 // -a: the sign of each part turned, of a zero too.
-pub fn cneg(a: Complex) -> Pair
+pub fn cneg(a: Complex) -> Option<Complex>
     ensures { result ≡ leaves.negative a }
 {
     if_finite(raw::cneg(a))
 }
 
 // a b, each product and sum rounded once.
-pub fn cmul(a: Complex, b: Complex) -> Pair
+pub fn cmul(a: Complex, b: Complex) -> Option<Complex>
     ensures { result ≡ leaves.product a b }
 {
     if_finite(raw::cmul(a, b))
 }
 
-// a / b. Not finite where the square of b's magnitude is not, or is below 1e-300.
-pub fn cdiv(a: Complex, b: Complex) -> Pair
+// a / b. None also where the square of b's magnitude is not finite, or is below 1e-300.
+pub fn cdiv(a: Complex, b: Complex) -> Option<Complex>
     ensures { result ≡ leaves.quotient a b }
 {
-    if finite(raw::sqmag(b)) {
-        return if_finite(raw::cdiv(a, b));
+    if !finite(raw::sqmag(b)) {
+        return None;
     }
-    Pair::NotFinite
+    if_finite(raw::cdiv(a, b))
 }
 
 // 1 / b, as `cdiv` has it.
-pub fn complex_inv(b: Complex) -> Pair
+pub fn complex_inv(b: Complex) -> Option<Complex>
     ensures { result ≡ leaves.inverse b }
 {
     cdiv(Complex { re: 1.0, im: 0.0 }, b)

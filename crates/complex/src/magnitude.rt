@@ -5,39 +5,29 @@ ghost use Rattle.complex.specs.Leaves as leaves;
 use crate::{Complex, raw};
 use binary64::finite::finite;
 
-// A finite number, or none.
-#[derive(Clone, Copy)]
-pub enum Real {
-    Finite(f64),
-    NotFinite,
-}
-
 // The number itself, where it is finite.
-fn if_finite(x: f64) -> Real
+fn if_finite(x: f64) -> Option<f64>
     ensures { result ≡ leaves.real (x ∷ []) x }
 {
-    if finite(x) {
-        return Real::Finite(x);
-    }
-    Real::NotFinite
+    finite(x).then_some(x)
 }
 
 // The sign cleared, of a zero too.
-pub fn abs(x: f64) -> Real
+pub fn abs(x: f64) -> Option<f64>
     ensures { result ≡ leaves.absolute x }
 {
     if_finite(raw::abs(x))
 }
 
 // The binary64 nearest the exact root; none of a negative number, but of -0, whose root is -0.
-pub fn sqrt(x: f64) -> Real
+pub fn sqrt(x: f64) -> Option<f64>
     ensures { result ≡ leaves.square_root x }
 {
     if_finite(binary64::sqrt(x))
 }
 
 // The magnitude of c: the root of re re + im im, each step rounded.
-pub fn magnitude(c: Complex) -> Real
+pub fn magnitude(c: Complex) -> Option<f64>
     ensures { result ≡ leaves.magnitude_of c }
 {
     if_finite(raw::magnitude(c))

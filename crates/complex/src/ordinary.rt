@@ -1,5 +1,5 @@
 // Whether numbers are of ordinary size: then the rows of the layers above need no other test.
-ghost use Rattle.std.specs.Prelude.{◌≡◌, ◌&&◌};
+ghost use Rattle.std.specs.Prelude.{◌≡◌};
 ghost use Rattle.complex.specs.Inner.Ordinary as spec;
 
 // 2^200, which the parts of ordinary entries are below.
@@ -12,10 +12,7 @@ pub const ORDINARY_SQUARE: f64 = 3.8725919148493183e-121;
 pub fn ordinary(x: f64) -> bool
     ensures { result ≡ spec.ordinary x }
 {
-    if x < ORDINARY_LIMIT {
-        return x > -ORDINARY_LIMIT;
-    }
-    false
+    x < ORDINARY_LIMIT && x > -ORDINARY_LIMIT
 }
 
 // Whether all the numbers are below 2^200 in absolute value. The loop does not end early: so it takes several numbers at a time.
@@ -23,20 +20,8 @@ pub fn all_ordinary(s: &[f64]) -> bool
     ensures { result ≡ spec.all_ordinary s.now }
 {
     let mut all = true;
-    let mut i = 0;
-    while i < s.len() {
-        all = and_ordinary(all, s[i]);
-        i += 1;
+    for x in s {
+        all &= ordinary(*x);
     }
     all
-}
-
-// Whether all before are, and x is.
-fn and_ordinary(all: bool, x: f64) -> bool
-    ensures { result ≡ (all && spec.ordinary x) }
-{
-    if ordinary(x) {
-        return all;
-    }
-    false
 }

@@ -6,9 +6,5 @@ ghost use Rattle.complex.specs.Matrices.{zeros};
 pub fn clear(s: &mut [f64])
     ensures { s.new ≡ zeros (length s.old) }
 {
-    let mut i = 0;
-    while i < s.len() {
-        s[i] = 0.0;
-        i += 1;
-    }
+    s.fill(0.0);
 }

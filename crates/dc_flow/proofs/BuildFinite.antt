@@ -1,6 +1,6 @@
 -- Where the reactances are finite, so is every number of `build_b_bus`: a susceptance is at most 2 ^ 40, and an entry at most as many times that as
 -- numbers were added to it or taken from it. And what the accepted DC calls write is finite, and nothing finite is refused.
-use Rattle.prelude.proofs.Prelude.{◌≡◌, refl, sym, ap, subst, ◌∙◌, Bool, true, false, cond, List, [], ◌∷◌, ℕ, zero, suc, ◌+◌, ◌*◌, ◌^◌, ◌≤◌, ◌<◌, arith, T, eqb, length, get_or, set, Float, nan, binary64, lt, of_bits, length-set, length-replicate, get_or-set_same, get_or-set_other, finite, is_true, lit≤, lit<, eqb-true, mul-le-mul_right, lt_of_lt_of_le}
+use Rattle.prelude.proofs.Prelude.{◌≡◌, refl, sym, ap, subst, ◌∙◌, Bool, true, false, cond, List, [], ◌∷◌, ℕ, zero, suc, ◌+◌, ◌*◌, ◌^◌, ◌≤◌, ◌<◌, arith, T, eqb, length, get_or, set, Float, nan, binary64, lt, of_bits, length-set, length-replicate, get_or-set_same, get_or-set_other, finite, lit≤, lit<, eqb-true, mul-le-mul_right, lt_of_lt_of_le}
 use native.Mathlib.Nat.{add-mul, one-mul, lt_of_le_of_lt}
 use lib.ListN.{get_or-replicate}
 use lib.Arith.{digits_lt}
@@ -13,13 +13,12 @@ use Rattle.complex.specs.{plus0, one, small_magnitude, abs, zeros, ◌⊕◌, �
 use Rattle.complex.proofs.Finite.{none, all_more, all-at}
 use Rattle.complex.proofs.Matrices.{length-zeros}
 use Rattle.refusals.specs.Refusals.{limit}
-use Rattle.refusals.proofs.Numbers.{given-all, computed-all}
 use Rattle.lists.specs.Buses.{all_below}
 use Rattle.lists.proofs.Ends.{below_at}
 use Rattle.dc_flow.specs.Dc.{plus, minus, joined, add_branch, susceptances, of_joined, of_branch, of_build, of_lodf, outage, real_grid, build_shape_refusal, build_refusal, built_output, lodf_shape_refusal, lodf_refusal, lodf_output, DcFinite}
 use Rattle.dc_flow.proofs.OutageLaws.{to_below}
 use Rattle.dc_flow.proofs.OutageFinite.{each-finite, one_in, factors-finite}
-use Rattle.dc_flow.proofs.Accepted.{build-accepted, lodf-computed}
+use Rattle.dc_flow.proofs.Accepted.{build-accepted, lodf-computed, given-met, computed-met}
 
 -- at most c times 2 ^ 40 in size
 abbrev Times : ℕ → Float → Type 0
@@ -160,8 +159,8 @@ build-outputs-finite : (n : ℕ) (froms tos : List ℕ) (xs held : List Float) �
     → T (all_finite (built_output n froms tos xs held))
 unfolding built_output
 build-outputs-finite n froms tos xs held h =
-    let ((_, lists, below, few), given) = build-accepted 0 n froms tos xs (length held) (sym h) refl in
-    rw h (entries-finite n froms tos xs lists below few given)
+    let ((counts, (below, sizes)), given) = build-accepted 0 n froms tos xs (length held) (sym h) refl in
+    rw h (entries-finite n froms tos xs (counts.2, sizes.0) below counts.1 given)
 
 lodf-outputs-finite : (n : ℕ) (ptdf : List Float) (froms tos : List ℕ) (held : List Float) → lodf_refusal n ptdf froms tos (length held) ≡ 0
     → T (all_finite (lodf_output n ptdf froms tos held))
@@ -172,21 +171,20 @@ build-accepts : (n : ℕ) (froms tos : List ℕ) (xs held : List Float) → buil
     → (build_refusal n froms tos xs (length held) ≡ 0) × (built_output n froms tos xs held ≡ susceptances n froms tos xs (length froms))
 unfolding build_refusal built_output
 build-accepts n froms tos xs held shape given =
-    let z = sym (given-all 0 (build_shape_refusal n froms tos xs (length held)) xs (sym shape) refl (is_true (all_finite xs) given)) in (z, rw z)
+    let z = given-met _ xs shape given in (z, rw z)
 
 lodf-accepts : (n : ℕ) (ptdf : List Float) (froms tos : List ℕ) (held : List Float) → lodf_shape_refusal n (length ptdf) froms tos (length held) ≡ 0
     → T (all_finite ptdf) → T (all_finite (of_lodf n ptdf froms tos))
     → (lodf_refusal n ptdf froms tos (length held) ≡ 0) × (lodf_output n ptdf froms tos held ≡ real_grid (outage n ptdf froms tos) (length froms) (length froms))
 unfolding lodf_refusal lodf_output
 lodf-accepts n ptdf froms tos held shape given computed =
-    let told = given-all 0 (lodf_shape_refusal n (length ptdf) froms tos (length held)) ptdf (sym shape) refl (is_true (all_finite ptdf) given) in
-    let z = sym (computed-all 0 _ (of_lodf n ptdf froms tos) told refl (is_true (all_finite (of_lodf n ptdf froms tos)) computed)) in (z, rw z)
+    let z = computed-met _ (of_lodf n ptdf froms tos) (given-met _ ptdf shape given) computed in (z, rw z)
 
 pub dc-finite : DcFinite
 dc-finite =
     record {
       build-finite = λ n froms tos xs len h.
-          let ((_, lists, below, few), given) = build-accepted 0 n froms tos xs len (sym h) refl in numbers-finite n froms tos xs lists below few given;
+          let ((counts, (below, sizes)), given) = build-accepted 0 n froms tos xs len (sym h) refl in numbers-finite n froms tos xs (counts.2, sizes.0) below counts.1 given;
       build-outputs-finite = build-outputs-finite;
       lodf-outputs-finite = lodf-outputs-finite;
       build-accepted = build-accepts;

@@ -2,11 +2,12 @@
 use Rattle.prelude.proofs.Prelude.{◌≡◌, refl, T, length, List, [], ◌∷◌, ℕ, ◌+◌, replicate, Float, nan, inf, true, binary64, of_bits, of_fields, neg, add, sub, div, sum, round, units, odd, lt, size, span, climb}
 use lib.Count.{count_trailing_zeros}
 use Rattle.complex.specs.{plus0, one, small_magnitude, abs, zeros}
-use Rattle.lists.specs.Buses.{up_to, others, all_below}
+use Rattle.lists.specs.Buses.{up_to, others}
 use Rattle.binary64.specs.Values.{all_finite}
-use Rattle.refusals.specs.Refusals.{limit, then_given, then_computed}
-use Rattle.dc_flow.specs.declared.Retained.TheVariants.{Count, Refused}
-use Rattle.dc_flow.specs.Dc.{ends_refusal, retained_of, retained_slice, retained_refusal, counted, retained_answer, retained_output, joined, add_branch, susceptances, build_shape_refusal, build_refusal, built_output, transfer, branch_transfer, denominator, outage_factor, outage, real_row, real_grid, each, of_factor, of_outage, of_lodf, lodf_shape_refusal, lodf_refusal, lodf_output}
+use Rattle.refusals.specs.Refusals.{limit, then_given, then_computed, answered}
+use Rattle.std.proofs.Common.{Ok, Err}
+use Rattle.refusals.specs.declared.Refusal.TheVariants.{TooMany, WrongLength}
+use Rattle.dc_flow.specs.Dc.{ends_refusal, retained_of, retained_slice, retained_refusal, retained_answer, retained_output, joined, add_branch, susceptances, build_shape_refusal, build_refusal, built_output, transfer, branch_transfer, denominator, outage_factor, outage, real_row, real_grid, each, of_factor, of_outage, of_lodf, lodf_shape_refusal, lodf_refusal, lodf_output}
 use Rattle.dc_flow.proofs.BuildFinite.{dc-finite}
 
 -- small numbers by their bits
@@ -40,25 +41,25 @@ small = of_bits binary64 0x3d3c25c268497682
 five : List ℕ
 five = 8 ∷ 8 ∷ 8 ∷ 8 ∷ 8 ∷ []
 
-retained : (retained_answer 5 (1 ∷ 7 ∷ 1 ∷ 3 ∷ []) five ≡ Count 3)
+retained : (retained_answer 5 (1 ∷ 7 ∷ 1 ∷ 3 ∷ []) five ≡ Ok 3)
     × (retained_output 5 (1 ∷ 7 ∷ 1 ∷ 3 ∷ []) five ≡ 0 ∷ 2 ∷ 4 ∷ 0 ∷ 0 ∷ [])
-    × (retained_answer 2 (1 ∷ 0 ∷ []) (8 ∷ 8 ∷ []) ≡ Count 0)
-unfolding five retained_answer retained_output retained_refusal retained_slice counted retained_of others up_to
+    × (retained_answer 2 (1 ∷ 0 ∷ []) (8 ∷ 8 ∷ []) ≡ Ok 0)
+unfolding five retained_answer retained_output retained_refusal retained_slice answered retained_of others up_to
 retained = (refl, refl, refl)
 
 -- too many buses, too long a list, a slice of another length, which stays as it was
-not-retained : (retained_answer (limit + 1) [] five ≡ Refused 1)
-    × (retained_answer 5 (replicate (limit + 1) 0) five ≡ Refused 1)
-    × (retained_answer 4 [] five ≡ Refused 2)
+not-retained : (retained_answer (limit + 1) [] five ≡ Err TooMany)
+    × (retained_answer 5 (replicate (limit + 1) 0) five ≡ Err TooMany)
+    × (retained_answer 4 [] five ≡ Err WrongLength)
     × (retained_output 4 [] five ≡ five)
-unfolding five retained_answer retained_output retained_refusal counted
+unfolding five retained_answer retained_output retained_refusal answered
 not-retained = (refl, refl, refl, refl)
 
 -- ---- build_b_bus
 
 -- a branch of reactance 0.5, a branch that is skipped, and one with equal ends
 one-branch : built_output 2 (0 ∷ 1 ∷ 1 ∷ []) (1 ∷ 0 ∷ 1 ∷ []) (half ∷ small ∷ half ∷ []) (replicate 4 nan) ≡ two ∷ minus-two ∷ minus-two ∷ two ∷ []
-unfolding built_output build_refusal build_shape_refusal then_given ends_refusal all_below susceptances add_branch joined zeros plus0 one small_magnitude abs lt add sub div neg sum round units odd size span climb count_trailing_zeros of_bits of_fields
+unfolding built_output build_refusal build_shape_refusal then_given ends_refusal susceptances add_branch joined zeros plus0 one small_magnitude abs lt add sub div neg sum round units odd size span climb count_trailing_zeros of_bits of_fields
 one-branch = refl
 
 -- a number of buses or a list above the limit, a wrong length, unlike lists
@@ -73,7 +74,7 @@ build-refused = (refl, refl, refl, refl)
 build_ends : (build_refusal 2 (0 ∷ []) (2 ∷ []) (small ∷ []) 4 ≡ 6)
     × (build_refusal 0 [] [] [] 0 ≡ 0)
     × (build_refusal 0 (0 ∷ []) (0 ∷ []) (half ∷ []) 0 ≡ 6)
-unfolding build_refusal build_shape_refusal then_given ends_refusal all_below
+unfolding build_refusal build_shape_refusal then_given ends_refusal
 build_ends = (refl, refl, refl)
 
 -- ---- lodf_matrix: two branches from bus 0 to bus 1
@@ -81,7 +82,7 @@ build_ends = (refl, refl, refl)
 -- alike, each takes all that the other leaves; where branch 0 takes all of its own transfer, its outage leaves 0.0 in its column
 lodf : (lodf_output 2 (zero' ∷ minus-half ∷ zero' ∷ minus-half ∷ []) (0 ∷ 0 ∷ []) (1 ∷ 1 ∷ []) (replicate 4 nan) ≡ minus_one ∷ one' ∷ one' ∷ minus_one ∷ [])
     × (lodf_output 2 (zero' ∷ minus_one ∷ zero' ∷ minus-half ∷ []) (0 ∷ 0 ∷ []) (1 ∷ 1 ∷ []) (replicate 4 nan) ≡ minus_one ∷ two ∷ zero' ∷ minus_one ∷ [])
-unfolding lodf_output lodf_refusal lodf_shape_refusal then_given then_computed of_lodf each of_outage of_factor ends_refusal all_below real_grid real_row outage outage_factor branch_transfer denominator transfer plus0 one small_magnitude abs lt add sub div neg sum round units odd size span climb count_trailing_zeros of_bits of_fields
+unfolding lodf_output lodf_refusal lodf_shape_refusal then_given then_computed of_lodf each of_outage of_factor ends_refusal real_grid real_row outage outage_factor branch_transfer denominator transfer plus0 one small_magnitude abs lt add sub div neg sum round units odd size span climb count_trailing_zeros of_bits of_fields
 lodf = (refl, refl)
 
 -- the first by `DcFinite.lodf-accepted`, whose premises it meets
@@ -89,7 +90,7 @@ alike : List Float
 alike = zero' ∷ minus-half ∷ zero' ∷ minus-half ∷ []
 
 premises : (lodf_shape_refusal 2 (length alike) (0 ∷ 0 ∷ []) (1 ∷ 1 ∷ []) 4 ≡ 0) × T (all_finite alike) × T (all_finite (of_lodf 2 alike (0 ∷ 0 ∷ []) (1 ∷ 1 ∷ [])))
-unfolding lodf_output lodf_refusal lodf_shape_refusal then_given then_computed of_lodf each of_outage of_factor ends_refusal all_below real_grid real_row outage outage_factor branch_transfer denominator transfer plus0 one small_magnitude abs lt add sub div neg sum round units odd size span climb count_trailing_zeros of_bits of_fields alike
+unfolding lodf_output lodf_refusal lodf_shape_refusal then_given then_computed of_lodf each of_outage of_factor ends_refusal real_grid real_row outage outage_factor branch_transfer denominator transfer plus0 one small_magnitude abs lt add sub div neg sum round units odd size span climb count_trailing_zeros of_bits of_fields alike
 premises = (refl, tt, tt)
 
 by-law : lodf_refusal 2 alike (0 ∷ 0 ∷ []) (1 ∷ 1 ∷ []) 4 ≡ 0
@@ -100,7 +101,7 @@ lodf-refused : (lodf_shape_refusal 2 0 [] (replicate (limit + 1) 0) 0 ≡ 1)
     × (lodf_shape_refusal 2 2 (0 ∷ []) [] 2 ≡ 2)
     × (lodf_shape_refusal 2 2 (0 ∷ []) [] 1 ≡ 3)
     × (lodf_shape_refusal 2 2 (0 ∷ []) (2 ∷ []) 1 ≡ 6)
-unfolding lodf_shape_refusal ends_refusal all_below
+unfolding lodf_shape_refusal ends_refusal
 lodf-refused = (refl, refl, refl, refl)
 
 -- ---- numbers that are not finite
@@ -110,7 +111,7 @@ given-refused : (build_refusal 2 (0 ∷ []) (1 ∷ []) (nan ∷ []) 4 ≡ 19)
     × (build_refusal 2 (0 ∷ []) (2 ∷ []) (nan ∷ []) 4 ≡ 6)
     × (lodf_refusal 2 (one' ∷ inf true ∷ []) (0 ∷ []) (1 ∷ []) 1 ≡ 19)
     × (lodf_refusal 2 (one' ∷ inf true ∷ []) (0 ∷ []) (2 ∷ []) 1 ≡ 6)
-unfolding build_refusal build_shape_refusal lodf_refusal lodf_shape_refusal then_given then_computed ends_refusal all_below of_bits of_fields odd count_trailing_zeros
+unfolding build_refusal build_shape_refusal lodf_refusal lodf_shape_refusal then_given then_computed ends_refusal of_bits of_fields odd count_trailing_zeros
 given-refused = (refl, refl, refl, refl)
 
 -- the largest number and its negative
@@ -124,5 +125,5 @@ minus-largest = of_bits binary64 0xffefffffffffffff
 lone-and-two : (lodf_refusal 2 (largest ∷ minus-largest ∷ []) (0 ∷ []) (1 ∷ []) 1 ≡ 0)
     × (lodf_refusal 2 (largest ∷ minus-largest ∷ zero' ∷ zero' ∷ []) (0 ∷ 0 ∷ []) (1 ∷ 1 ∷ []) 4 ≡ 20)
     × (lodf_refusal 2 (zero' ∷ zero' ∷ largest ∷ minus-largest ∷ []) (0 ∷ 0 ∷ []) (1 ∷ 1 ∷ []) 4 ≡ 20)
-unfolding lodf_refusal lodf_shape_refusal then_given then_computed of_lodf each of_outage of_factor ends_refusal all_below branch_transfer denominator transfer plus0 one small_magnitude abs lt add sub div neg sum round units odd size span climb count_trailing_zeros of_bits of_fields
+unfolding lodf_refusal lodf_shape_refusal then_given then_computed of_lodf each of_outage of_factor ends_refusal branch_transfer denominator transfer plus0 one small_magnitude abs lt add sub div neg sum round units odd size span climb count_trailing_zeros of_bits of_fields
 lone-and-two = (refl, refl, refl)

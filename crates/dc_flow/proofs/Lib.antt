@@ -1,4 +1,5 @@
 pub mod DcCases
+pub mod Numbered
 pub mod OutageLaws
 pub mod Accepted
 pub mod OutageFinite

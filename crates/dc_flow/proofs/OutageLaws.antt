@@ -1,12 +1,13 @@
 -- Lists of numbers by a rule, rows of them, and a row of the PTDF as a part of its slice.
-use Rattle.prelude.proofs.Prelude.{◌≡◌, refl, sym, ◌∙◌, Bool, true, false, true≢false, eqb, eqb-true, eq-eqb, inl, inr, List, [], ◌∷◌, ◌++◌, ℕ, zero, suc, ◌+◌, ◌-◌, ◌*◌, ◌≤◌, ◌<◌, add-one, arith, T, length, get_or, take, drop, Float, nan, suc-mul, zero-mul, set, length-set, ext_get_or, get_or-set_same, get_or-set_other, length-append, length-drop, List·getD-append, get_or-take, get_or-drop, length-take-le}
+use Rattle.prelude.proofs.Prelude.{◌≡◌, refl, sym, ◌∙◌, Bool, true, false, true≢false, eqb, eqb-true, eq-eqb, inl, inr, List, [], ◌∷◌, ◌++◌, ℕ, zero, suc, ◌+◌, ◌-◌, ◌*◌, ◌≤◌, ◌<◌, add-one, arith, T, length, get_or, take, drop, Float, nan, suc-mul, zero-mul, set, length-set, ext_get_or, get_or-set_same, get_or-set_other, length-append, length-drop, List·getD-append, length-take-le, mul-le-mul}
+use lib.Arith.{digits_lt}
 use lib.Seq.{get_or_at}
 use Rattle.lists.proofs.Order.{lt-or-ge}
+use Rattle.refusals.specs.Refusals.{limit}
 use Rattle.lists.specs.Buses.{all_below}
 use Rattle.lists.proofs.Ends.{below_at}
 use Rattle.lists.proofs.Fronts.{front-next, front-end}
-use Rattle.dc_flow.specs.Dc.{real_row, real_grid, transfer, branch_transfer, denominator, outage}
-use Rattle.dc_flow.specs.Inner.Rows.{row_transfer, row_outage}
+use Rattle.dc_flow.specs.Dc.{real_row, real_grid}
 
 module _ (F : ℕ → Float) where
   pub length-real_row : (m : ℕ) → length (real_row F m) ≡ m
@@ -33,11 +34,6 @@ pub real_row-all : (F : ℕ → Float) (k m : ℕ) (s d : List Float) → s ≡ 
 real_row-all F k m s d e h g l =
     let same : k ≡ m = omega arith in
     e ∙ front-end (real_row F k) d k (omega arith) ∙ rw same
-
-pub real_row-same : (F G : ℕ → Float) (m : ℕ) → ((k : ℕ) → k < m → F k ≡ G k) → real_row F m ≡ real_row G m
-unfolding real_row
-real_row-same F G zero h = refl
-real_row-same F G (suc m) h = rw (real_row-same F G m (λ k l. h k (omega arith)), h m (omega arith))
 
 -- one number is written over: all others are the same
 pub real_row-set : (F G : ℕ → Float) (m l : ℕ) (v : Float) → l < m → v ≡ G l → ((k : ℕ) → eqb l k ≡ false → F k ≡ G k)
@@ -76,23 +72,9 @@ length_part a w s h = length-take-le (a + w - a) (drop a s) (rw length-drop (ome
 pub to_below : (n k : ℕ) (froms tos : List ℕ) → T (all_below n tos) → length tos ≡ length froms → k < length froms → get_or tos k 0 < n
 to_below n k froms tos below e h = below_at n tos k below (omega arith)
 
-pub ruleset ends = (below_at, to_below)
-
--- a row as a part: from l n on, w = n long
-pub row-transfer-part : (n w : ℕ) (ptdf : List Float) (froms tos : List ℕ) (l a k : ℕ) → w ≡ n → a ≡ l * n
-    → (get_or froms k 0 < n) × (get_or tos k 0 < n)
-    → row_transfer (take w (drop a ptdf)) (get_or froms k 0) (get_or tos k 0) ≡ branch_transfer n ptdf froms tos k l
-unfolding branch_transfer transfer
-row-transfer-part n w ptdf froms tos l a k e f h =
-    let i = get_or froms k 0 in
-    let j = get_or tos k 0 in
-    let row = drop (l * n) ptdf in
-    rw (e, f, get_or-take n row i nan h.0, get_or-take n row j nan h.1, get_or-drop (l * n) ptdf i nan, get_or-drop (l * n) ptdf j nan)
-
-pub row-outage : (n w : ℕ) (ptdf : List Float) (froms tos : List ℕ) (ds : List Float) (l a : ℕ) → w ≡ n → a ≡ l * n
-    → ds ≡ real_row (denominator n ptdf froms tos) (length froms) → length tos ≡ length froms → T (all_below n froms) × T (all_below n tos)
-    → (k : ℕ) → k < length froms → row_outage l (take w (drop a ptdf)) froms tos ds k ≡ outage n ptdf froms tos l k
-unfolding row_outage outage
-row-outage n w ptdf froms tos ds l a e f q z below k h =
-    let part = row-transfer-part n w ptdf froms tos l a k e f (search ends) in
-    rw (part, q, get_or-real_row (denominator n ptdf froms tos) (length froms) k h)
+-- the place of bus i in row l of m rows of n, which are within the limit
+pub reach : (m n l i : ℕ) → l < m → i < n → m ≤ limit → n ≤ limit → (l * n ≤ m * n) × (l * n + i < m * n) × (m * n ≤ limit * limit)
+reach m n l i h k a b =
+    let within = digits_lt h k in
+    let all = mul-le-mul a b in
+    (omega arith, omega arith, all)

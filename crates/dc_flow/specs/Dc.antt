@@ -1,7 +1,7 @@
 -- The DC parts: the buses retained, the susceptance matrix, and the line outage factors.
 -- Buses and branches count from 0; a matrix is one of f64, row after row; branches count by the from list.
 use Rattle.std.specs.Prelude.{ℕ, zero, suc, ◌+◌, ◌*◌, ◌-◌}
-use Rattle.std.specs.Prelude.{Bool, not, ◌&&◌, cond, List, [], ◌∷◌, ◌++◌, ◌≡◌, T, eqb, length, get_or, set, replicate, Float}
+use Rattle.std.specs.Prelude.{Bool, not, ◌&&◌, cond, List, [], ◌∷◌, ◌++◌, ◌≡◌, T, eqb, length, get_or, set, replicate, Float, Result}
 use Rattle.std.specs.Float.{nan}
 use Rattle.std.specs.Float.Ieee.{neg, lt}
 use Rattle.complex.specs.Constants.{plus0, one, small_magnitude}
@@ -10,9 +10,8 @@ use Rattle.complex.specs.Magnitude.{abs}
 use Rattle.complex.specs.Matrices.{zeros}
 use Rattle.lists.specs.Buses.{up_to, others, all_below}
 use Rattle.binary64.specs.Values.{all_finite}
-use Rattle.refusals.specs.Refusals.{too_many, wrong_length, lists_differ, no_such_end, refuse, then_given, then_computed}
-use Rattle.dc_flow.specs.declared.Retained.{Retained}
-use Rattle.dc_flow.specs.declared.Retained.TheVariants.{Count, Refused}
+use Rattle.refusals.specs.declared.Refusal.{Refusal}
+use Rattle.refusals.specs.Refusals.{too_many, wrong_length, lists_differ, no_such_end, refuse, then_given, then_computed, answered}
 use Rattle.lists.specs.Limits.{over}
 
 -- ---- retained_buses
@@ -31,19 +30,9 @@ retained_refusal n interior len =
     refuse (over n (length interior) 0 0) too_many
     (refuse (not (eqb len n)) wrong_length 0)
 
--- the answer of a call with this refusal: the count where there is none
-unfoldable pub counted : ℕ → ℕ → Retained
-counted zero count = Count count
-counted (suc f) count = Refused (suc f)
-
--- the number of an answer: its refusal, 0 where there is none
-abbrev pub retained_number : Retained → ℕ
-retained_number (Count n) = 0
-retained_number (Refused k) = k
-
--- what `retained_buses` answers (buses count from 0), and what its output slice holds, `held` at entry
-unfoldable pub retained_answer : ℕ → List ℕ → List ℕ → Retained
-retained_answer n interior held = counted (retained_refusal n interior (length held)) (length (retained_of n interior))
+-- what `retained_buses` answers (buses count from 0), how many or the refusal, and what its output slice holds, `held` at entry
+unfoldable pub retained_answer : ℕ → List ℕ → List ℕ → Result ℕ Refusal
+retained_answer n interior held = answered (length (retained_of n interior)) (retained_refusal n interior (length held))
 
 unfoldable pub retained_output : ℕ → List ℕ → List ℕ → List ℕ
 retained_output n interior held = cond (eqb (retained_refusal n interior (length held)) 0) (retained_slice n interior) held

@@ -1,113 +1,81 @@
-// What the DC calls refuse: by lengths and branch ends, then by numbers that are not finite.
-ghost use Rattle.std.specs.Prelude.{◌≡◌, ◌≤◌, ◌*◌, length, T};
-ghost use Rattle.lists.specs.Buses as buses;
+// What the DC calls refuse by lengths and branch ends.
+ghost use Rattle.std.specs.Prelude.{◌≡◌, ◌≤◌, length};
 ghost use Rattle.refusals.specs.Refusals as refusals;
 ghost use Rattle.dc_flow.specs.Dc as spec;
+ghost use Rattle.dc_flow.specs.Inner.Rows as rows;
 
-use crate::outage::outages_finite;
-use binary64::finite::all_finite;
-use complex::ordinary::all_ordinary;
+use crate::branches::{Branches, Ptdf};
 use lists::checks::{all_below, over};
-use refusals::{
-    COMPUTED_NOT_FINITE, GIVEN_NOT_FINITE, LISTS_DIFFER, NO_SUCH_END, TOO_MANY, WRONG_LENGTH,
-};
+use refusals::Refusal;
 
-// 6 where an end is no bus, also of a branch that would be skipped.
-fn ends_refusal(n: usize, froms: &[usize], tos: &[usize]) -> u32
-    ensures { result ≡ spec.ends_refusal n froms.now tos.now }
+// The branches of `build_b_bus`; `len` is the length of its output slice.
+pub fn branches_to_build<'a>(
+    n: usize,
+    from: &'a [usize],
+    to: &'a [usize],
+    xs: &[f64],
+    len: usize,
+) -> Result<Branches<'a>, Refusal>
+    ensures { rows.BranchesOf n from.now to.now
+        (spec.build_shape_refusal n from.now to.now xs.now len) result }
 {
-    if !all_below(n, froms) {
-        return NO_SUCH_END;
-    }
-    if !all_below(n, tos) {
-        return NO_SUCH_END;
-    }
-    0
-}
-
-// The refusal of `build_b_bus`, 0 where there is none; `len` is the length of its output slice.
-pub fn build_refusal(n: usize, froms: &[usize], tos: &[usize], xs: &[f64], len: usize) -> u32
-    ensures { result ≡ spec.build_refusal n froms.now tos.now xs.now len }
-{
-    let f = build_shape_refusal(n, froms, tos, xs, len);
-    if f != 0 {
-        return f;
-    }
-    if !all_finite(xs) {
-        return GIVEN_NOT_FINITE;
-    }
-    0
-}
-
-// That by lengths and branch ends.
-fn build_shape_refusal(n: usize, froms: &[usize], tos: &[usize], xs: &[f64], len: usize) -> u32
-    ensures { result ≡ spec.build_shape_refusal n froms.now tos.now xs.now len }
-{
-    let m = froms.len();
-    if over(n, m, tos.len(), xs.len()) {
-        return TOO_MANY;
+    let m = from.len();
+    if over(n, m, to.len(), xs.len()) {
+        return Err(Refusal::TooMany);
     }
     if len != n * n {
-        return WRONG_LENGTH;
+        return Err(Refusal::WrongLength);
     }
-    if tos.len() != m {
-        return LISTS_DIFFER;
+    if to.len() != m || xs.len() != m {
+        return Err(Refusal::ListsDiffer);
     }
-    if xs.len() != m {
-        return LISTS_DIFFER;
-    }
-    ends_refusal(n, froms, tos)
+    branches_between(n, from, to)
 }
 
-// The refusal of `lodf_matrix`, 0 where there is none; `len` is the length of its output slice.
-pub fn lodf_refusal(n: usize, ptdf: &[f64], froms: &[usize], tos: &[usize], len: usize) -> u32
-    ensures { result ≡ spec.lodf_refusal n ptdf.now froms.now tos.now len }
+// The PTDF of `lodf_matrix`; `len` is the length of its output slice.
+pub fn ptdf_of<'a>(
+    n: usize,
+    factors: &'a [f64],
+    from: &'a [usize],
+    to: &'a [usize],
+    len: usize,
+) -> Result<Ptdf<'a>, Refusal>
+    ensures { rows.PtdfOf n factors.now from.now to.now
+        (spec.lodf_shape_refusal n (length factors.now) from.now to.now len) result }
 {
-    let f = lodf_shape_refusal(n, ptdf.len(), froms, tos, len);
-    if f != 0 {
-        return f;
+    let m = from.len();
+    if over(n, m, to.len(), 0) {
+        return Err(Refusal::TooMany);
     }
-    lodf_numbers_refusal(n, ptdf, froms, tos)
+    if factors.len() != m * n || len != m * m {
+        return Err(Refusal::WrongLength);
+    }
+    if to.len() != m {
+        return Err(Refusal::ListsDiffer);
+    }
+    Ok(Ptdf {
+        branches: branches_between(n, from, to)?,
+        factors: factors,
+    })
 }
 
-// That by numbers. Where all given are below 2^200 in absolute value, all computed are finite: one pass over the PTDF tells both.
-fn lodf_numbers_refusal(n: usize, ptdf: &[f64], froms: &[usize], tos: &[usize]) -> u32
-    requires counts { (length froms.now ≤ refusals.limit)
-        × (length tos.now ≡ length froms.now) }
-    requires ends { (T (buses.all_below n froms.now))
-        × (T (buses.all_below n tos.now)) }
-    requires matrix { length ptdf.now ≡ length froms.now * n }
-    ensures { result ≡ refusals.then_computed (refusals.then_given 0 ptdf.now)
-        (spec.of_lodf n ptdf.now froms.now tos.now) }
+// Branches whose ends are buses: 6 where one is none, also of a branch that would be skipped.
+fn branches_between<'a>(
+    n: usize,
+    from: &'a [usize],
+    to: &'a [usize],
+) -> Result<Branches<'a>, Refusal>
+    requires { (n ≤ refusals.limit)
+        × (length from.now ≤ refusals.limit)
+        × (length to.now ≡ length from.now) }
+    ensures { rows.BranchesOf n from.now to.now (spec.ends_refusal n from.now to.now) result }
 {
-    if all_ordinary(ptdf) {
-        return 0;
+    if !all_below(n, from) || !all_below(n, to) {
+        return Err(Refusal::NoSuchEnd);
     }
-    if !all_finite(ptdf) {
-        return GIVEN_NOT_FINITE;
-    }
-    if !outages_finite(n, ptdf, froms, tos) {
-        return COMPUTED_NOT_FINITE;
-    }
-    0
-}
-
-// That by lengths and branch ends; `given` is the length of the PTDF.
-fn lodf_shape_refusal(n: usize, given: usize, froms: &[usize], tos: &[usize], len: usize) -> u32
-    ensures { result ≡ spec.lodf_shape_refusal n given froms.now tos.now len }
-{
-    let m = froms.len();
-    if over(n, m, tos.len(), 0) {
-        return TOO_MANY;
-    }
-    if given != m * n {
-        return WRONG_LENGTH;
-    }
-    if len != m * m {
-        return WRONG_LENGTH;
-    }
-    if tos.len() != m {
-        return LISTS_DIFFER;
-    }
-    ends_refusal(n, froms, tos)
+    Ok(Branches {
+        n: n,
+        from: from,
+        to: to,
+    })
 }

@@ -8,13 +8,10 @@ pub fn mark(list: &[usize], marks: &mut [usize])
     requires { marks.old ≡ replicate (length marks.old) 0 }
     ensures { rows.Marked list.now marks.new }
 {
-    let mut i = 0;
-    while i < list.len() {
-        let bus = list[i];
-        if bus < marks.len() {
-            marks[bus] = 1;
+    for bus in list {
+        if *bus < marks.len() {
+            marks[*bus] = 1;
         }
-        i += 1;
     }
 }
 
@@ -27,13 +24,11 @@ pub fn keep(n: usize, interior: &[usize], marks: &[usize], retained: &mut [usize
     ensures output { retained.new ≡ spec.retained_slice n interior.now }
 {
     let mut count = 0;
-    let mut k = 0;
-    while k < n {
+    for k in 0..n {
         if marks[k] == 0 {
             retained[count] = k;
             count += 1;
         }
-        k += 1;
     }
     count
 }

@@ -1,25 +1,22 @@
 // The susceptance matrix, branch after branch; reactances and susceptances in per unit.
-ghost use Rattle.std.specs.Prelude.{◌≡◌, ◌<◌, ◌*◌, ◌+◌, length, T};
+ghost use Rattle.std.specs.Prelude.{◌≡◌, ◌<◌, ◌*◌, ◌+◌, length};
 ghost use Rattle.complex.specs.Matrices as matrices;
-ghost use Rattle.lists.specs.Buses as buses;
 ghost use Rattle.dc_flow.specs.Dc as spec;
 
+use crate::branches::Branches;
 use complex::constants::SMALL_MAGNITUDE;
 use complex::raw::abs;
 
-// The susceptances of all branches, added to a matrix of +0.
-pub fn add_branches(n: usize, froms: &[usize], tos: &[usize], xs: &[f64], b: &mut [f64])
-    requires cleared { b.old ≡ matrices.zeros (n * n) }
-    requires counts { (length tos.now ≡ length froms.now)
-        × (length xs.now ≡ length froms.now) }
-    requires ends { (T (buses.all_below n froms.now))
-        × (T (buses.all_below n tos.now)) }
-    ensures { b.new ≡ spec.susceptances n froms.now tos.now xs.now (length froms.now) }
+// The susceptances of all branches, from their reactances xs, added to a matrix of +0.
+pub fn add_branches(branches: Branches, xs: &[f64], b: &mut [f64])
+    requires cleared { b.old ≡ matrices.zeros (branches.n * branches.n) }
+    requires counts { length xs.now ≡ length branches.from.now }
+    ensures { b.new
+        ≡ spec.susceptances branches.entry.n branches.entry.from.now branches.entry.to.now xs.now
+        (length branches.entry.from.now) }
 {
-    let mut k = 0;
-    while k < froms.len() {
-        add_branch(n, b, froms[k], tos[k], xs[k]);
-        k += 1;
+    for (k, x) in xs.iter().enumerate() {
+        add_branch(branches.n, b, branches.from[k], branches.to[k], *x);
     }
 }
 
@@ -43,24 +40,8 @@ fn join(b: &mut [f64], f: usize, t: usize, from: usize, to: usize, s: f64)
         × (t + from < length b.old) }
     ensures { b.new ≡ spec.joined b.old f t from to s }
 {
-    add_at(b, f + from, s);
-    add_at(b, t + to, s);
-    take_at(b, f + to, s);
-    take_at(b, t + from, s);
-}
-
-// Adds v at place p.
-fn add_at(b: &mut [f64], p: usize, v: f64)
-    requires { p < length b.old }
-    ensures { b.new ≡ spec.plus b.old p v }
-{
-    b[p] = b[p] + v;
-}
-
-// Takes v away at place p.
-fn take_at(b: &mut [f64], p: usize, v: f64)
-    requires { p < length b.old }
-    ensures { b.new ≡ spec.minus b.old p v }
-{
-    b[p] = b[p] - v;
+    b[f + from] += s;
+    b[t + to] += s;
+    b[f + to] -= s;
+    b[t + from] -= s;
 }

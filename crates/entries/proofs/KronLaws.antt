@@ -1,14 +1,15 @@
 -- The entries of Kron reduction: a record of another length, and one that fits.
-use Rattle.prelude.proofs.Prelude.{◌≡◌, refl, ◌∙◌, Bool, true, false, ◌&&◌, ◌||◌, cond, List, ℕ, rules, eqb, ltb, length, Float, eq-eqb, ne_eqb}
+use Rattle.prelude.proofs.Prelude.{◌≡◌, refl, ap, ◌∙◌, Bool, true, false, ◌&&◌, ◌||◌, cond, List, ℕ, rules, eqb, ltb, length, Float, eq-eqb, ne_eqb}
 use Rattle.complex.specs.{Complex}
-use Rattle.refusals.specs.Refusals.{limit, too_many, wrong_length, refuse, number}
-use Rattle.refusals.specs.declared.Outcome.{Outcome}
+use Rattle.refusals.specs.Refusals.{limit, too_many, wrong_length, refuse, number, number_of}
+use Rattle.std.proofs.Common.{Result, Ok, Err}
+use Rattle.refusals.specs.declared.Refusal.{Refusal}
+use Rattle.refusals.proofs.Answering.{accepted}
+use Rattle.dc_flow.proofs.Accepted.{numbered}
 use Rattle.kron_reduction.specs.declared.KronReducer.{KronReducer}
-use Rattle.kron_reduction.specs.declared.NewReducer.{NewReducer}
 use Rattle.kron_reduction.specs.declared.AfterRemoval.{AfterRemoval}
 use Rattle.kron_reduction.specs.declared.AfterRemovals.{AfterRemovals}
-use Rattle.kron_reduction.specs.declared.Impedance.{Impedance}
-use Rattle.kron_reduction.specs.Reducer.{reducer_input_of, after_new, after_bus, after_buses}
+use Rattle.kron_reduction.specs.Reducer.{ReducerInput, reducer_input_of, made, after_new, after_bus, after_buses}
 use Rattle.kron_reduction.specs.Reading as reading
 use Rattle.entries.specs.Records.{record_bytes, record_in, in_bytes, stored_record}
 use Rattle.entries.specs.Answers.{answer_after, value_after}
@@ -41,9 +42,19 @@ pub fresh-unfit : (n : ℕ) (ys : List Float) (ns rec : List ℕ) (f : ℕ)
     → (Fits rec → ⊥) → f ≡ refuse (ltb limit n || ltb limit (length ns)) too_many wrong_length → ReducerMade n ys ns rec f rec
 fresh-unfit n ys ns rec f h e = record { told = e ∙ unfit _ _ _ _ h; stored = unstored _ _ _ h }
 
-pub fresh-fit : (n : ℕ) (ys : List Float) (ns rec : List ℕ) (f : ℕ) (o : NewReducer) (rec' : List ℕ)
-    → Fits rec → o ≡ after_new (reducer_input_of n ys ns) → f ≡ number o.answer → rec' ≡ stored_record f o.rec rec → ReducerMade n ys ns rec f rec'
-fresh-fit n ys ns rec f o rec' h e g k = record { told = rw fit cc; stored = cc }
+-- the record that is answered is the one made
+made-record : (M : ReducerInput) (r : KronReducer) → Ok r ≡ after_new M → r ≡ made M
+unfolding after_new made
+made-record M r e = let (z, q) = accepted (tt {0}) _ _ r e in rw z q
+
+pub fresh-fit : (n : ℕ) (ys : List Float) (ns rec : List ℕ) (r : KronReducer) (rec' : List ℕ)
+    → Fits rec → Ok r ≡ after_new (reducer_input_of n ys ns) → rec' ≡ stored_record 0 r rec → ReducerMade n ys ns rec 0 rec'
+fresh-fit n ys ns rec r rec' h e k = record { told = rw fit (ap number_of e); stored = rw (made-record _ r e) at k }
+
+pub fresh-refused : (n : ℕ) (ys : List Float) (ns rec : List ℕ) (f : ℕ) (r : Refusal)
+    → Fits rec → Err r ≡ after_new (reducer_input_of n ys ns) → f ≡ number r → ReducerMade n ys ns rec f rec
+unfolding stored_record
+fresh-refused n ys ns rec f r h e g = record { told = rw fit (g ∙ ap number_of e); stored = rw (g, ne_eqb (number r) 0 (numbered r)) }
 
 -- ---- one bus
 
@@ -51,7 +62,7 @@ pub removed-unfit : (rec : List ℕ) (ys : List Float) (bus : ℕ) → (Fits rec
 removed-unfit rec ys bus h = record { told = unfit rec 0 1 _ h; stored = unstored _ _ _ h; matrix = as_it_was rec _ _ h }
 
 pub removed-fit : (rec : List ℕ) (ys : List Float) (bus f : ℕ) (r : KronReducer) (t : AfterRemoval) (rec' : List ℕ) (ys' : List Float)
-    → Fits rec → r ≡ record_in rec → t ≡ (after_bus r ys bus).out → ys' ≡ (after_bus r ys bus).slice → f ≡ number t.answer
+    → Fits rec → r ≡ record_in rec → t ≡ (after_bus r ys bus).out → ys' ≡ (after_bus r ys bus).slice → f ≡ number_of t.answer
     → rec' ≡ stored_record f t.rec rec → BusRemoved rec ys bus f rec' ys'
 removed-fit rec ys bus f r t rec' ys' h i e s g k = record { told = rw fit cc; stored = cc; matrix = rw (eq-eqb (length rec) record_bytes h) cc }
 
@@ -73,7 +84,7 @@ listed-unfit rec ys ks removed f h e = record {
 }
 
 pub listed-fit : (rec : List ℕ) (ys : List Float) (ks : List ℕ) (removed f p s : ℕ) (r : KronReducer) (t : AfterRemovals) (rec' : List ℕ) (ys' : List Float) (removed' : ℕ)
-    → Fits rec → r ≡ record_in rec → t ≡ (after_buses r ys ks).out → ys' ≡ (after_buses r ys ks).slice → f ≡ number t.removals.answer
+    → Fits rec → r ≡ record_in rec → t ≡ (after_buses r ys ks).out → ys' ≡ (after_buses r ys ks).slice → f ≡ number_of t.removals.answer
     → p ≡ none_removed f t.removals.removed → rec' ≡ stored_record p t.rec rec
     → s ≡ from_input f → removed' ≡ answer_after s t.removals.removed removed → ListRemoved rec ys ks removed f rec' ys' removed'
 listed-fit rec ys ks removed f p s r t rec' ys' removed' h i e y g j k u v =
@@ -84,8 +95,8 @@ listed-fit rec ys ks removed f p s r t rec' ys' removed' h i e y g j k u v =
 pub shown-unfit : (rec : List ℕ) (ys out : List Float) → (Fits rec → ⊥) → MatrixRead rec ys out 2 out
 shown-unfit rec ys out h = record { told = unfit rec 0 0 _ h; matrix = as_it_was rec _ _ h }
 
-pub shown-fit : (rec : List ℕ) (ys out : List Float) (f : ℕ) (r : KronReducer) (a : Outcome) (out' : List Float)
-    → Fits rec → r ≡ record_in rec → a ≡ (reading.after_matrix r ys out).answer → out' ≡ (reading.after_matrix r ys out).out → f ≡ number a
+pub shown-fit : (rec : List ℕ) (ys out : List Float) (f : ℕ) (r : KronReducer) (a : Result (Unit {0}) Refusal) (out' : List Float)
+    → Fits rec → r ≡ record_in rec → a ≡ (reading.after_matrix r ys out).answer → out' ≡ (reading.after_matrix r ys out).out → f ≡ number_of a
     → MatrixRead rec ys out f out'
 shown-fit rec ys out f r a out' h i e s g = record { told = rw fit cc; matrix = rw (eq-eqb (length rec) record_bytes h) cc }
 
@@ -96,17 +107,17 @@ unfit-count x held = refl
 pub active-unfit : (rec buses : List ℕ) (count : ℕ) → (Fits rec → ⊥) → ActiveRead rec buses count 2 buses count
 active-unfit rec buses count h = record { told = unfit rec 0 0 _ h; numbers = as_it_was rec _ _ h; counted = unfit-count _ _ }
 
-pub active-fit : (rec buses : List ℕ) (count f : ℕ) (r : KronReducer) (a : Outcome) (buses' : List ℕ) (count' : ℕ)
-    → Fits rec → r ≡ record_in rec → a ≡ (reading.after_active r buses).answer → buses' ≡ (reading.after_active r buses).buses → f ≡ number a
+pub active-fit : (rec buses : List ℕ) (count f : ℕ) (r : KronReducer) (a : Result (Unit {0}) Refusal) (buses' : List ℕ) (count' : ℕ)
+    → Fits rec → r ≡ record_in rec → a ≡ (reading.after_active r buses).answer → buses' ≡ (reading.after_active r buses).buses → f ≡ number_of a
     → count' ≡ answer_after f r.n_buses count → ActiveRead rec buses count f buses' count'
 active-fit rec buses count f r a buses' count' h i e s g k = record { told = rw fit cc; numbers = rw (eq-eqb (length rec) record_bytes h) cc; counted = cc }
 
 pub seen-unfit : (rec : List ℕ) (ys : List Float) (i j : ℕ) (work : List Float) (z : Complex) → (Fits rec → ⊥) → ImpedanceRead rec ys i j work z 2 work z
 seen-unfit rec ys i j work z h = record { told = unfit rec 0 0 _ h; cleared = as_it_was rec _ _ h; value = as_it_was rec _ _ h }
 
-pub seen-fit : (rec : List ℕ) (ys : List Float) (i j : ℕ) (work : List Float) (z : Complex) (f : ℕ) (r : KronReducer) (a : Impedance) (work' : List Float) (z' : Complex)
+pub seen-fit : (rec : List ℕ) (ys : List Float) (i j : ℕ) (work : List Float) (z : Complex) (f : ℕ) (r : KronReducer) (a : Result Complex Refusal) (work' : List Float) (z' : Complex)
     → Fits rec → r ≡ record_in rec → a ≡ (reading.after_impedance r ys i j work).answer → work' ≡ (reading.after_impedance r ys i j work).work
-    → z' ≡ value_after a z → f ≡ reading.impedance_number a → ImpedanceRead rec ys i j work z f work' z'
+    → z' ≡ value_after a z → f ≡ number_of a → ImpedanceRead rec ys i j work z f work' z'
 seen-fit rec ys i j work z f r a work' z' h b e w v g = record {
   told = rw fit cc;
   cleared = rw (eq-eqb (length rec) record_bytes h) cc;
@@ -116,4 +127,4 @@ seen-fit rec ys i j work z f r a work' z' h b e w v g = record {
 -- what an entry returns, once its record is found not to fit, or to fit
 pub ruleset unfitted = (fresh-unfit, removed-unfit, listed-unfit, shown-unfit, active-unfit, seen-unfit)
 
-pub ruleset fitted = (unfitted, fresh-fit, removed-fit, listed-fit, shown-fit, active-fit, seen-fit, rules)
+pub ruleset fitted = (unfitted, fresh-fit, fresh-refused, removed-fit, listed-fit, shown-fit, active-fit, seen-fit, rules)

@@ -35,12 +35,6 @@ sizes bs m n l =
     written-more 8 (put_word 8 bs 0 m) (m ∷ n ∷ []) 1 (omega (arith, long, l)) (omega arith)
     (written-more 8 bs (m ∷ n ∷ []) 0 (omega (arith, l)) (omega arith) refl)
 
--- the room that the sizes leave is as long as the places
-pub length-left : (bs cs ds xs : List ℕ) (m n : ℕ) → length bs ≡ front_bytes → cs ≡ put_word 8 bs 0 m → ds ≡ put_word 8 cs 8 n → length xs ≡ limit → length xs ≡ length (take limit (drop 16 ds))
-length-left bs cs ds xs m n l p q full =
-    let d = behind ds (rw (q, length-put_word, p, length-put_word) l) in
-    full ∙ sym (length-take-le limit (drop 16 ds) (omega (arith, d)))
-
 -- the two sizes put in place, and the places written behind them
 pub front-written : (bs cs ds part : List ℕ) (r : KronReducer) → length bs ≡ front_bytes → cs ≡ put_word 8 bs 0 r.made → ds ≡ put_word 8 cs 8 r.n_buses → part ≡ r.active_buses
     → take 16 ds ++ (part ++ drop limit (drop 16 ds)) ≡ front_of r
@@ -75,4 +69,4 @@ module _ (bs front : List ℕ) (r : KronReducer) (l : length bs ≡ record_bytes
       rw (first, beyond, drop_of_length-le (drop front_bytes bs) {i = 4 * limit} (omega (arith, d, l)), append-nil, e, g)
 
 -- what the functions on records ask and return
-pub ruleset recording = (no_record, record-read, length-left, front-written, length-beyond, record-written, rules)
+pub ruleset recording = (no_record, record-read, front-written, length-beyond, record-written, rules)

@@ -2,10 +2,7 @@
 use Rattle.prelude.proofs.Prelude.{◌≡◌, refl, sym, ap, ap₂, ◌∙◌, Bool, true, false, not, cond, List, [], ◌∷◌, ◌++◌, ℕ, T, eqb, Float}
 use Rattle.binary64.specs.Values.{all_finite}
 use Rattle.binary64.specs.Root.{root}
-use Rattle.complex.specs.declared.Pair.{Pair}
-use Rattle.complex.specs.declared.Pair.TheVariants as pairs
-use Rattle.complex.specs.declared.magnitude.Real.{Real}
-use Rattle.complex.specs.declared.magnitude.Real.TheVariants as reals
+use Rattle.std.proofs.Common.{Option, Some, None}
 use Rattle.complex.specs.{Complex, unit, cadd, csub, of_parts, of_sum, of_difference, of_product, of_sqmag, of_quotient, magnitude}
 use Rattle.complex.specs.Leaves.{pair, real, of_magnitude, single_refusal, pair_number, real_number}
 use Rattle.complex.proofs.Finite.{none, all_more, all_join, all_left, first_of}
@@ -29,34 +26,34 @@ by g k = cond (eqb (refuse (not g) given_not_finite 0) 0) (refuse (not k) comput
 module _ (given computed : List Float) (h : T (all_finite computed) → T (all_finite given)) where
   pub pair-number : (c : Complex) → pair_number (all_finite given) (pair computed c) ≡ single_refusal given computed
   unfolding pair pair_number single_refusal then_computed then_given by
-  pair-number c = cases (λ (g k : Bool). pair_number g (cond k (pairs.Finite c) pairs.NotFinite) ≡ by g k) refl refl refl (all_finite given) (all_finite computed) h
+  pair-number c = cases (λ (g k : Bool). pair_number g (cond k (Some c) None) ≡ by g k) refl refl refl (all_finite given) (all_finite computed) h
 
   pub pair-after : (c held : Complex) → pair_after (pair computed c) held ≡ answer_after (single_refusal given computed) c held
   unfolding pair pair_after answer_after single_refusal then_computed then_given by
   pair-after c held =
-      cases (λ (g k : Bool). pair_after (cond k (pairs.Finite c) pairs.NotFinite) held ≡ cond (eqb (by g k) 0) c held) refl refl refl (all_finite given) (all_finite computed) h
+      cases (λ (g k : Bool). pair_after (cond k (Some c) None) held ≡ cond (eqb (by g k) 0) c held) refl refl refl (all_finite given) (all_finite computed) h
 
   pub real-number : (x : Float) → real_number (all_finite given) (real computed x) ≡ single_refusal given computed
   unfolding real real_number single_refusal then_computed then_given by
-  real-number x = cases (λ (g k : Bool). real_number g (cond k (reals.Finite x) reals.NotFinite) ≡ by g k) refl refl refl (all_finite given) (all_finite computed) h
+  real-number x = cases (λ (g k : Bool). real_number g (cond k (Some x) None) ≡ by g k) refl refl refl (all_finite given) (all_finite computed) h
 
   pub real-after : (x held : Float) → real_after (real computed x) held ≡ answer_after (single_refusal given computed) x held
   unfolding real real_after answer_after single_refusal then_computed then_given by
   real-after x held =
-      cases (λ (g k : Bool). real_after (cond k (reals.Finite x) reals.NotFinite) held ≡ cond (eqb (by g k) 0) x held) refl refl refl (all_finite given) (all_finite computed) h
+      cases (λ (g k : Bool). real_after (cond k (Some x) None) held ≡ cond (eqb (by g k) 0) x held) refl refl refl (all_finite given) (all_finite computed) h
 
   -- a call by its operation's answer, and by the test of what is given
-  pub pair-told : (c held : Complex) (answer : Pair) (test : Bool) (f : ℕ) (out : Complex) → answer ≡ pair computed c → test ≡ all_finite given
+  pub pair-told : (c held : Complex) (answer : Option Complex) (test : Bool) (f : ℕ) (out : Complex) → answer ≡ pair computed c → test ≡ all_finite given
       → f ≡ pair_number test answer → out ≡ pair_after answer held → (f ≡ single_refusal given computed) × (out ≡ answer_after f c held)
   pair-told c held answer test f out e t n o =
       let number = n ∙ ap₂ pair_number t e ∙ pair-number c in
-      (number, o ∙ ap (λ (x : Pair). pair_after x held) e ∙ pair-after c held ∙ ap (λ (k : ℕ). answer_after k c held) (sym number))
+      (number, o ∙ ap (λ (x : Option Complex). pair_after x held) e ∙ pair-after c held ∙ ap (λ (k : ℕ). answer_after k c held) (sym number))
 
-  pub real-told : (x held : Float) (answer : Real) (test : Bool) (f : ℕ) (out : Float) → answer ≡ real computed x → test ≡ all_finite given
+  pub real-told : (x held : Float) (answer : Option Float) (test : Bool) (f : ℕ) (out : Float) → answer ≡ real computed x → test ≡ all_finite given
       → f ≡ real_number test answer → out ≡ real_after answer held → (f ≡ single_refusal given computed) × (out ≡ answer_after f x held)
   real-told x held answer test f out e t n o =
       let number = n ∙ ap₂ real_number t e ∙ real-number x in
-      (number, o ∙ ap (λ (y : Real). real_after y held) e ∙ real-after x held ∙ ap (λ (k : ℕ). answer_after k x held) (sym number))
+      (number, o ∙ ap (λ (y : Option Float). real_after y held) e ∙ real-after x held ∙ ap (λ (k : ℕ). answer_after k x held) (sym number))
 
 -- ---- what a finite result says of the numbers given
 

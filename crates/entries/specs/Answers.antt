@@ -1,18 +1,9 @@
 -- What the pointers for single answers hold at the end: the answer where the call was carried out, else what was there.
-use Rattle.std.specs.Prelude.{ℕ, cond, eqb, Float}
+use Rattle.std.specs.Prelude.{ℕ, cond, eqb, Float, Result, Ok, Err}
 use Rattle.complex.specs.declared.Complex.{Complex}
-use Rattle.refusals.specs.declared.Counted.{Counted}
-use Rattle.refusals.specs.declared.Counted.TheVariants as reduced
-use Rattle.kron_reduction.specs.declared.Impedance.{Impedance}
-use Rattle.kron_reduction.specs.declared.Impedance.TheVariants as impedances
-use Rattle.dc_flow.specs.declared.Retained.{Retained}
-use Rattle.dc_flow.specs.declared.Retained.TheVariants as counts
+use Rattle.refusals.specs.declared.Refusal.{Refusal}
 use Rattle.ward_equivalent.specs.declared.answers.WardSummary.{WardSummary}
-use Rattle.ward_equivalent.specs.declared.answers.WardAnswer.{WardAnswer}
-use Rattle.ward_equivalent.specs.declared.answers.WardAnswer.TheVariants as wards
 use Rattle.rei_equivalent.specs.declared.ReiEquivalent.{ReiEquivalent}
-use Rattle.rei_equivalent.specs.declared.ReiAnswer.{ReiAnswer}
-use Rattle.rei_equivalent.specs.declared.ReiAnswer.TheVariants as reis
 
 -- ---- what several pointers hold together
 
@@ -31,22 +22,21 @@ unfoldable pub answer_after : {A : Type 0} → ℕ → A → A → A
 answer_after f new held = cond (eqb f 0) new held
 
 -- by the library's answer
-unfoldable pub value_after : Impedance → Complex → Complex
-value_after (impedances.Value z) held = z
-value_after (impedances.Refused k) held = held
+unfoldable pub given_after : {A : Type 0} → Result A Refusal → A → A
+given_after (Ok x) held = x
+given_after (Err r) held = held
 
-abbrev pub count_after : Retained → ℕ → ℕ
-count_after (counts.Count n) held = n
-count_after (counts.Refused k) held = held
+abbrev pub value_after : Result Complex Refusal → Complex → Complex
+value_after = given_after
 
-unfoldable pub rows_after : Counted → ℕ → ℕ
-rows_after (reduced.Reduced n) held = n
-rows_after (reduced.Refused k) held = held
+abbrev pub count_after : Result ℕ Refusal → ℕ → ℕ
+count_after = given_after
 
-unfoldable pub summary_after : WardAnswer → WardSummary → WardSummary
-summary_after (wards.Done s) held = s
-summary_after (wards.Refused k) held = held
+abbrev pub rows_after : Result ℕ Refusal → ℕ → ℕ
+rows_after = given_after
 
-unfoldable pub equivalent_after : ReiAnswer → ReiEquivalent → ReiEquivalent
-equivalent_after (reis.Done e) held = e
-equivalent_after (reis.Refused k) held = held
+abbrev pub summary_after : Result WardSummary Refusal → WardSummary → WardSummary
+summary_after = given_after
+
+abbrev pub equivalent_after : Result ReiEquivalent Refusal → ReiEquivalent → ReiEquivalent
+equivalent_after = given_after

@@ -1,9 +1,9 @@
 -- What the entries of Kron reduction answer and leave, by the library's own definitions of the record that the bytes hold. Where they are
 -- not as many as a record has, the call is refused and nothing is written. A name with ' is what stands there at the end.
 use Rattle.std.specs.Prelude.{ℕ, ◌≡◌, ◌||◌, cond, List, eqb, ltb, length, Float}
-use Rattle.refusals.specs.Refusals.{limit, too_many, wrong_length, not_active, small_entry, computed_not_finite, refuse, number}
+use Rattle.refusals.specs.Refusals.{limit, too_many, wrong_length, not_active, small_entry, computed_not_finite, refuse, number_of}
 use Rattle.complex.specs.declared.Complex.{Complex}
-use Rattle.kron_reduction.specs.Reducer.{AfterBus, AfterBuses, reducer_input_of, after_new, after_bus, after_buses}
+use Rattle.kron_reduction.specs.Reducer.{AfterBus, AfterBuses, reducer_input_of, made, after_new, after_bus, after_buses}
 use Rattle.kron_reduction.specs.Reading as reading
 use Rattle.entries.specs.Records.{record_bytes, record_in, stored_record}
 use Rattle.entries.specs.Answers.{answer_after, value_after}
@@ -20,14 +20,14 @@ fitting rec n l f = where_fits rec f (refuse (ltb limit n || ltb limit l) too_ma
 -- ---- new
 
 pub record ReducerMade (n : ℕ) (ys : List Float) (ns rec : List ℕ) (f : ℕ) (rec' : List ℕ) : Type 0 where
-  pub told : f ≡ fitting rec n (length ns) (number (after_new (reducer_input_of n ys ns)).answer)
-  pub stored : rec' ≡ stored_record f (after_new (reducer_input_of n ys ns)).rec rec
+  pub told : f ≡ fitting rec n (length ns) (number_of (after_new (reducer_input_of n ys ns)))
+  pub stored : rec' ≡ stored_record f (made (reducer_input_of n ys ns)) rec
 
 -- ---- one bus
 
 pub record BusRemovedBy (left : AfterBus) (rec : List ℕ) (ys : List Float) (f : ℕ) (rec' : List ℕ) (ys' : List Float)
     : Type 0 where
-  pub told : f ≡ fitting rec 0 1 (number left.out.answer)
+  pub told : f ≡ fitting rec 0 1 (number_of left.out.answer)
   pub stored : rec' ≡ stored_record f left.out.rec rec
   pub matrix : ys' ≡ where_fits rec left.slice ys
 
@@ -47,7 +47,7 @@ none_removed f count = cond (eqb count 0) f 0
 
 pub record ListRemovedBy (left : AfterBuses) (rec : List ℕ) (ys : List Float) (l removed f : ℕ)
     (rec' : List ℕ) (ys' : List Float) (removed' : ℕ) : Type 0 where
-  pub told : f ≡ fitting rec 0 l (number left.out.removals.answer)
+  pub told : f ≡ fitting rec 0 l (number_of left.out.removals.answer)
   pub stored : rec' ≡ stored_record (none_removed f left.out.removals.removed) left.out.rec rec
   pub matrix : ys' ≡ where_fits rec left.slice ys
   pub counted : removed' ≡ answer_after (from_input f) left.out.removals.removed removed
@@ -58,14 +58,14 @@ ListRemoved rec ys ks = ListRemovedBy (after_buses (record_in rec) ys ks) rec ys
 -- ---- reading
 
 pub record MatrixReadBy (left : reading.AfterMatrix) (rec : List ℕ) (out : List Float) (f : ℕ) (out' : List Float) : Type 0 where
-  pub told : f ≡ fitting rec 0 0 (number left.answer)
+  pub told : f ≡ fitting rec 0 0 (number_of left.answer)
   pub matrix : out' ≡ where_fits rec left.out out
 
 abbrev pub MatrixRead : List ℕ → List Float → List Float → ℕ → List Float → Type 0
 MatrixRead rec ys out = MatrixReadBy (reading.after_matrix (record_in rec) ys out) rec out
 
 pub record ActiveReadBy (left : reading.AfterActive) (rec buses : List ℕ) (count f : ℕ) (buses' : List ℕ) (count' : ℕ) : Type 0 where
-  pub told : f ≡ fitting rec 0 0 (number left.answer)
+  pub told : f ≡ fitting rec 0 0 (number_of left.answer)
   pub numbers : buses' ≡ where_fits rec left.buses buses
   pub counted : count' ≡ answer_after f (record_in rec).n_buses count
 
@@ -75,7 +75,7 @@ ActiveRead rec buses = ActiveReadBy (reading.after_active (record_in rec) buses)
 -- z is what the two pointers hold
 pub record ImpedanceReadBy (left : reading.AfterImpedance) (rec : List ℕ) (work : List Float) (z : Complex)
     (f : ℕ) (work' : List Float) (z' : Complex) : Type 0 where
-  pub told : f ≡ fitting rec 0 0 (reading.impedance_number left.answer)
+  pub told : f ≡ fitting rec 0 0 (number_of left.answer)
   pub cleared : work' ≡ where_fits rec left.work work
   pub value : z' ≡ where_fits rec (value_after left.answer z) z
 

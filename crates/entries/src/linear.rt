@@ -5,8 +5,8 @@ ghost use Rattle.refusals.specs.Refusals as refusals;
 ghost use Rattle.solver.specs.Calls as calls;
 ghost use Rattle.entries.specs.Studies as spec;
 
-use crate::answers::give_rows;
-use refusals::{Allowance, counted_number, number};
+use crate::answers::give;
+use refusals::{Allowance, number_of};
 
 // Solves a x = b: a is 2 n n numbers, b and x 2 n, work 2 n (n + 1). The allowance is of row reductions; how many there were goes by
 // pointer.
@@ -25,8 +25,8 @@ pub extern "C" fn jeturipe_solve_linear(
         result x.new work.new rows_reduced.old rows_reduced.new }
 {
     let answer = solver::solve_linear(n, a, b, Allowance::Rows(allowance), x, work);
-    give_rows(answer, rows_reduced);
-    counted_number(answer)
+    give(answer, rows_reduced);
+    number_of(answer)
 }
 
 // Inverts mat: mat and inverse are 2 n n numbers, work 4 n n.
@@ -37,10 +37,10 @@ pub extern "C" fn jeturipe_complex_matrix_inverse(
     inverse: &mut [f64],
     work: &mut [f64],
 ) -> u32
-    ensures { (result ≡ refusals.number
+    ensures { (result ≡ refusals.number_of
         (calls.after_inverse n mat.now inverse.old work.old).answer)
         × (inverse.new ≡ (calls.after_inverse n mat.now inverse.old work.old).output)
         × (work.new ≡ (calls.after_inverse n mat.now inverse.old work.old).work) }
 {
-    number(solver::complex_matrix_inverse(n, mat, inverse, work))
+    number_of(solver::complex_matrix_inverse(n, mat, inverse, work))
 }

@@ -1,10 +1,11 @@
 // A reducer's record in a byte slice: read, and written where a call is not refused.
 ghost use Rattle.std.specs.Prelude.{◌≡◌, length};
+ghost use Rattle.refusals.specs.Refusals.{number_of};
 ghost use Rattle.entries.specs.Records as spec;
 
 use kron_reduction::KronReducer;
-use number_bytes::{put_word, read_halves, word_at, write_halves};
-use refusals::LIMIT;
+use number_bytes::{Stored, read, write};
+use refusals::{LIMIT, Refusal};
 
 // The two sizes, and the rows of the active buses, a byte each.
 const FRONT: usize = 16 + LIMIT;
@@ -12,35 +13,24 @@ const FRONT: usize = 16 + LIMIT;
 // The bytes of a record: these, and the numbers of the buses.
 pub const RECORD: usize = FRONT + 4 * LIMIT;
 
-// All bytes of one slice to another of its length.
-fn copy(from: &[u8], to: &mut [u8])
-    requires { length from.now ≡ length to.old }
-    ensures { to.new ≡ from.now }
-{
-    let mut i = 0;
-    while i < from.len() {
-        to[i] = from[i];
-        i += 1;
-    }
-}
-
-// The rows of the active buses, a byte each, of a record.
+// The rows of the active buses, a byte each, of a record, whose memory is fixed.
+#[tactic(auto, unfolding(crate::specs::Records::active_in))]
 fn active_in(s: &[u8]) -> [u8; LIMIT]
     requires { length s.now ≡ spec.record_bytes }
     ensures { result ≡ spec.active_in s.now }
 {
     let mut active = [0; LIMIT];
-    copy(&s[16..FRONT], &mut active);
+    active.copy_from_slice(&s[16..FRONT]);
     active
 }
 
-// The numbers of the buses, 4 bytes each, of a record.
+// The numbers of the buses, 4 bytes each, of a record, whose memory is fixed.
 fn numbers_in(s: &[u8]) -> [u32; LIMIT]
     requires { length s.now ≡ spec.record_bytes }
     ensures { result ≡ spec.numbers_in s.now }
 {
     let mut numbers = [0; LIMIT];
-    read_halves(&s[FRONT..RECORD], &mut numbers);
+    read(&s[FRONT..RECORD], &mut numbers);
     numbers
 }
 
@@ -57,8 +47,8 @@ pub fn record_in(s: &[u8]) -> KronReducer
         };
     }
     KronReducer {
-        made: word_at(s, 0) as usize,
-        n_buses: word_at(s, 8) as usize,
+        made: usize::at(s, 0),
+        n_buses: usize::at(s, 8),
         active_buses: active_in(s),
         numbers: numbers_in(s),
     }
@@ -69,10 +59,9 @@ fn write_front(s: &mut [u8], r: KronReducer)
     requires { length s.old ≡ spec.front_bytes }
     ensures { s.new ≡ spec.front_of r }
 {
-    let active = r.active_buses;
-    put_word(s, 0, r.made as u64);
-    put_word(s, 8, r.n_buses as u64);
-    copy(&active, &mut s[16..FRONT]);
+    r.made.put(s, 0);
+    r.n_buses.put(s, 8);
+    s[16..FRONT].copy_from_slice(&r.active_buses);
 }
 
 // A whole record.
@@ -80,18 +69,16 @@ fn write_record(s: &mut [u8], r: KronReducer)
     requires { length s.old ≡ spec.record_bytes }
     ensures { s.new ≡ spec.in_bytes r }
 {
-    let numbers = r.numbers;
     write_front(&mut s[0..FRONT], r);
-    write_halves(&mut s[FRONT..RECORD], &numbers);
+    write(&mut s[FRONT..RECORD], &r.numbers);
 }
 
-// Writes the record where the refusal is none.
-pub fn store_record(s: &mut [u8], r: KronReducer, refusal: u32)
-    ensures { s.new ≡ spec.stored_record refusal r s.old }
+// Writes the record where the answer refuses nothing.
+#[tactic(auto, using(dc_flow::proofs::Accepted::numbered), unfolding(crate::specs::Records::stored_record))]
+pub fn store_record(s: &mut [u8], r: KronReducer, answer: Result<(), Refusal>)
+    ensures { s.new ≡ spec.stored_record (number_of answer) r s.old }
 {
-    if refusal == 0 {
-        if s.len() == RECORD {
-            write_record(s, r);
-        }
+    if answer.is_ok() && s.len() == RECORD {
+        write_record(s, r);
     }
 }

@@ -3,6 +3,7 @@ ghost use Rattle.entries.specs.Answers as answers;
 ghost use Rattle.entries.specs.Studies as spec;
 
 use crate::answers::give_equivalent;
+use refusals::number_of;
 
 // The REI equivalent of generators and loads: rows of y_sub (per unit) and injections (MW, MVAr) are the generators, then the loads; so
 // are the spokes (per unit). A tie is two buses, as the lists call them, and one admittance in per unit.
@@ -63,5 +64,5 @@ pub extern "C" fn jeturipe_rei_compute(
         rei_q_mvar,
         n_ties,
     );
-    equivalents::rei::number_of(answer)
+    number_of(answer)
 }

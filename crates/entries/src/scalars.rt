@@ -15,56 +15,49 @@ ghost use Rattle.entries.specs.Answers.{answer_after};
 ghost use Rattle.entries.specs.Singles as spec;
 
 use binary64::finite::finite;
-use complex::magnitude::Real;
-use complex::{Complex, Pair, both_finite};
-use refusals::{COMPUTED_NOT_FINITE, GIVEN_NOT_FINITE};
+use complex::{Complex, both_finite};
+use refusals::Refusal;
 
 // Whether all four parts are finite.
 fn pairs_finite(a: Complex, b: Complex) -> bool
     ensures { result ≡ all_finite (of_parts a ++ of_parts b) }
 {
-    if both_finite(a) {
-        return both_finite(b);
-    }
-    false
+    both_finite(a) && both_finite(b)
 }
 
 // The refusal of an operation that answers no finite number, by whether all given are finite.
-fn none_finite(given: bool) -> u32
-    ensures { result ≡ cond given refusals.computed_not_finite refusals.given_not_finite }
+fn none_finite(given: bool) -> Refusal
+    ensures { refusals.number result ≡ cond given refusals.computed_not_finite refusals.given_not_finite }
 {
     if given {
-        return COMPUTED_NOT_FINITE;
+        Refusal::ComputedNotFinite
+    } else {
+        Refusal::GivenNotFinite
     }
-    GIVEN_NOT_FINITE
 }
 
-// A complex answer, and its number.
-fn give_pair(answer: Pair, given: bool, re: &mut f64, im: &mut f64) -> u32
+// A complex answer, and its number. The C interface takes it by two pointers and a real one by one, so there are two functions.
+fn give_pair(answer: Option<Complex>, given: bool, re: &mut f64, im: &mut f64) -> u32
     ensures { (result ≡ leaves.pair_number given answer)
         × (complex_of re.new im.new ≡ spec.pair_after answer (complex_of re.old im.old)) }
 {
-    match answer {
-        Pair::Finite(z) => {
-            *re = z.re;
-            *im = z.im;
-            0
-        }
-        Pair::NotFinite => none_finite(given),
-    }
+    let Some(z) = answer else {
+        return none_finite(given).number();
+    };
+    *re = z.re;
+    *im = z.im;
+    0
 }
 
 // A real answer, and its number.
-fn give_real(answer: Real, given: bool, value: &mut f64) -> u32
+fn give_real(answer: Option<f64>, given: bool, value: &mut f64) -> u32
     ensures { (result ≡ leaves.real_number given answer) × (value.new ≡ spec.real_after answer value.old) }
 {
-    match answer {
-        Real::Finite(x) => {
-            *value = x;
-            0
-        }
-        Real::NotFinite => none_finite(given),
-    }
+    let Some(x) = answer else {
+        return none_finite(given).number();
+    };
+    *value = x;
+    0
 }
 
 // a + b.

@@ -6,8 +6,7 @@ ghost use Rattle.entries.specs.Answers as answers;
 ghost use Rattle.entries.specs.Studies as spec;
 
 use crate::answers::give_summary;
-use equivalents::ward::number_of;
-use refusals::Allowance;
+use refusals::{Allowance, number_of};
 
 // `ward_equivalent::compute`, in the same units (per unit, MVA, MW, MVAr); the allowance is of row reductions. The study's sizes, in buses,
 // its ratio, and how many rows it reduced go by pointer.

@@ -1,2 +1,2 @@
 // The DC parts.
-pub use dc_flow::{Retained, build_b_bus, lodf_matrix, number_of, retained_buses};
+pub use dc_flow::{build_b_bus, lodf_matrix, retained_buses};

@@ -4,13 +4,13 @@ ghost use Rattle.std.specs.Prelude.{◌≡◌};
 ghost use Rattle.kron_reduction.specs.Reducer.{after_bus, after_buses};
 
 pub use kron_reduction::{
-    AfterRemoval, AfterRemovals, Impedance, KronReducer, NewReducer, Removals, active_buses,
-    number_of, reduced_matrix, thevenin_impedance,
+    AfterRemoval, AfterRemovals, KronReducer, Removals, active_buses, reduced_matrix,
+    thevenin_impedance,
 };
-use refusals::Outcome;
+use refusals::Refusal;
 
 // Removes one bus.
-pub fn eliminate_bus(r: &mut KronReducer, y: &mut [f64], bus: u32) -> Outcome
+pub fn eliminate_bus(r: &mut KronReducer, y: &mut [f64], bus: u32) -> Result<(), Refusal>
     ensures { (result ≡ (after_bus r.old y.old bus).out.answer)
         × (r.new ≡ (after_bus r.old y.old bus).out.rec)
         × (y.new ≡ (after_bus r.old y.old bus).slice) }
@@ -37,10 +37,7 @@ pub fn eliminated_bus(r: KronReducer, y: &mut [f64], bus: u32) -> AfterRemoval
 {
     let mut rec = r;
     let answer = eliminate_bus(&mut rec, y, bus);
-    AfterRemoval {
-        answer: answer,
-        rec: rec,
-    }
+    AfterRemoval { answer, rec }
 }
 
 // `eliminate_buses` likewise.
@@ -50,8 +47,5 @@ pub fn eliminated_buses(r: KronReducer, y: &mut [f64], buses: &[u32]) -> AfterRe
 {
     let mut rec = r;
     let removals = eliminate_buses(&mut rec, y, buses);
-    AfterRemovals {
-        removals: removals,
-        rec: rec,
-    }
+    AfterRemovals { removals, rec }
 }

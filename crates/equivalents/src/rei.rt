@@ -1,2 +1,2 @@
 // The REI equivalent.
-pub use rei_equivalent::{ReiAnswer, ReiEquivalent, compute, number_of};
+pub use rei_equivalent::{ReiEquivalent, compute};

@@ -1,15 +1,15 @@
 -- What `thevenin_impedance` answers and leaves: only the n rows and columns of a matrix count for its inverse, and each test picks its case.
-use Rattle.prelude.proofs.Prelude.{◌≡◌, refl, sym, ap, ap₂, ◌∙◌, Bool, true, false, ◌&&◌, cond, inl, inr, List, ◌++◌, ℕ, zero, suc, ◌+◌, ◌*◌, ◌≤◌, ◌<◌, arith, T, eqb, length, take, Float, mul-le-mul, le-ltb, ne_eqb, is_true}
+use Rattle.std.proofs.Common.{Some, None, Err, Result, ok_or}
+use Rattle.prelude.proofs.Prelude.{◌≡◌, refl, sym, ap, ◌∙◌, Bool, true, false, cond, inl, inr, List, ℕ, ◌+◌, ◌*◌, ◌≤◌, ◌<◌, arith, T, eqb, length, take, Float, mul-le-mul, le-ltb, is_true}
 use native.Mathlib.Nat.{mul-add}
 use Rattle.binary64.specs.Values.{all_finite}
-use Rattle.complex.specs.{Complex, Matrix, plus0, cadd, csub, cmul, of_sum, of_difference, of_product, entry_at, zeros}
-use Rattle.complex.specs.declared.Pair.TheVariants.{Finite, NotFinite}
-use Rattle.complex.specs.Leaves.{pair, sum, difference, product}
-use Rattle.complex.proofs.Finite.{all_both}
-use Rattle.complex.proofs.Leaves.{pair-none, pair_same}
-use Rattle.complex.proofs.Answers.{pair-tells, pair-tells-not}
+use Rattle.complex.specs.{Complex, Matrix, entry_at, zeros}
+use Rattle.complex.specs.Leaves.{pair}
 use Rattle.complex.proofs.Matrices.{row_within}
-use Rattle.refusals.specs.Refusals.{limit}
+use Rattle.refusals.specs.declared.Refusal.{Refusal}
+use Rattle.refusals.specs.declared.Refusal.TheVariants.{NotActive, ComputedNotFinite}
+use Rattle.refusals.specs.Refusals.{limit, number, answered, outcome}
+use Rattle.refusals.proofs.Answering.{answered-number, before, held-refused}
 use Rattle.refusals.specs.declared.Allowance.TheVariants.{Unlimited}
 use Rattle.refusals.specs.Work.{Step, work_refusal, then_work}
 use Rattle.refusals.proofs.Numbers.{given-none}
@@ -20,15 +20,12 @@ use Rattle.solver.specs.Steps.{workings, steps_of_inverse}
 use Rattle.solver.proofs.StepsSame.{run-steps-same}
 use Rattle.solver.proofs.GaussJordan.{run-same, augmented-system}
 use Rattle.kron_reduction.specs.declared.KronReducer.{KronReducer}
-use Rattle.kron_reduction.specs.declared.Impedance.{Impedance}
-use Rattle.kron_reduction.specs.declared.Impedance.TheVariants.{Value, Refused}
-use Rattle.lists.specs.declared.Found.TheVariants.{At, Nothing}
 use Rattle.lists.specs.Buses.{mem, place, found_in}
 use Rattle.kron_reduction.specs.Reducer.{active_of, row_of, sound, present}
 use Rattle.kron_reduction.specs.Inner.Removal.{Holds}
-use Rattle.kron_reduction.specs.Reading.{reading_shape_refusal, reading_refusal, two, thevenin_of, of_thevenin, steps_of_impedance, impedance, impedance_told, after_impedance}
+use Rattle.kron_reduction.specs.Reading.{reading_shape_refusal, reading_refusal, thevenin_of, of_thevenin, steps_of_impedance, impedance_told, after_impedance}
 use Rattle.lists.proofs.Order.{lt-or-ge}
-use Rattle.lists.proofs.Lookups.{found_at, found-not}
+use Rattle.lists.proofs.Chains.{found_at, found-not}
 use Rattle.kron_reduction.proofs.Calls.{shaped-has, shaped-holds}
 use Rattle.kron_reduction.proofs.Reading.{reading-accepted}
 
@@ -75,64 +72,28 @@ pub numbers-same : (Z W : Matrix) (p q : ℕ) → Z p p ≡ W p p → Z q q ≡ 
 unfolding of_thevenin
 numbers-same Z W p q a b c = rw (a, b, c)
 
--- ---- by what the operations answer
-
-module _ (Z : Matrix) (p q : ℕ) where
-  -- (2, 0)
-  abbrev twice : Complex
-  twice = record { re = two; im = plus0 }
-
-  three : all_finite (of_thevenin Z p q) ≡ ((all_finite (of_sum (Z p p) (Z q q)) && all_finite (of_product twice (Z p q))) && all_finite (of_difference (cadd (Z p p) (Z q q)) (cmul twice (Z p q))))
-  unfolding of_thevenin
-  three =
-      all_both (of_sum (Z p p) (Z q q) ++ of_product twice (Z p q)) (of_difference (cadd (Z p p) (Z q q)) (cmul twice (Z p q)))
-      ∙ ap (λ (b : Bool). b && all_finite (of_difference (cadd (Z p p) (Z q q)) (cmul twice (Z p q)))) (all_both (of_sum (Z p p) (Z q q)) (of_product twice (Z p q)))
-
-  pub no-sum : NotFinite ≡ sum (Z p p) (Z q q) → NotFinite ≡ pair (of_thevenin Z p q) (thevenin_of Z p q)
-  unfolding sum
-  no-sum e = pair-none (of_thevenin Z p q) (thevenin_of Z p q) (three ∙ rw (pair-tells-not (of_sum (Z p p) (Z q q)) (cadd (Z p p) (Z q q)) e))
-
-  module _ (own : Complex) (had : Finite own ≡ sum (Z p p) (Z q q)) where
-    first : (all_finite (of_sum (Z p p) (Z q q)) ≡ true) × (own ≡ cadd (Z p p) (Z q q))
-    unfolding sum
-    first = pair-tells (of_sum (Z p p) (Z q q)) (cadd (Z p p) (Z q q)) own had
-
-    pub no-product : NotFinite ≡ product twice (Z p q) → NotFinite ≡ pair (of_thevenin Z p q) (thevenin_of Z p q)
-    unfolding product
-    no-product e =
-        pair-none (of_thevenin Z p q) (thevenin_of Z p q)
-        (three ∙ rw (first.0, pair-tells-not (of_product twice (Z p q)) (cmul twice (Z p q)) e))
-
-    pub all_three : (joint : Complex) → Finite joint ≡ product twice (Z p q) → difference own joint ≡ pair (of_thevenin Z p q) (thevenin_of Z p q)
-    unfolding product difference thevenin_of
-    all_three joint e =
-        let second = pair-tells (of_product twice (Z p q)) (cmul twice (Z p q)) joint e in
-        ap₂ (λ (x y : Complex). pair (of_difference x y) (csub x y)) first.1 second.1
-        ∙ pair_same (of_difference (cadd (Z p p) (Z q q)) (cmul twice (Z p q))) (of_thevenin Z p q) (csub (cadd (Z p p) (Z q q)) (cmul twice (Z p q))) (sym (three ∙ rw (first.0, second.0)))
-
 -- ---- the answer
 
-pub refused-is : (f : ℕ) (z : Complex) → (f ≡ 0 → ⊥) → Refused f ≡ impedance f z
-unfolding impedance
-refused-is zero z n = absurd (n refl)
-refused-is (suc f) z n = refl
-
 -- by what the inverse's steps meet, and then by the numbers of the impedance
-module _ (met n : ℕ) (Y : Matrix) (p q : ℕ) (z : Complex) (e : met ≡ work_refusal Unlimited (steps_of_inverse n Y)) where
-  whole : work_refusal Unlimited (steps_of_impedance n Y p q) ≡ cond (eqb met 0) (cond (all_finite (of_thevenin (inverse n Y) p q)) 0 20) met
+module _ (n : ℕ) (Y : Matrix) (p q : ℕ) (z : Complex) where
+  abbrev all : ℕ
+  all = work_refusal Unlimited (steps_of_impedance n Y p q)
+
+  whole : (met : ℕ) → met ≡ work_refusal Unlimited (steps_of_inverse n Y) → all ≡ cond (eqb met 0) (cond (all_finite (of_thevenin (inverse n Y) p q)) 0 20) met
   unfolding steps_of_impedance
-  whole = rw e (then-numbers (steps_of_inverse n Y) (of_thevenin (inverse n Y) p q))
+  whole met e = rw e (then-numbers (steps_of_inverse n Y) (of_thevenin (inverse n Y) p q))
 
-  pub inverse-met : (met ≡ 0 → ⊥) → Refused met ≡ impedance (work_refusal Unlimited (steps_of_impedance n Y p q)) z
-  inverse-met h = rw (whole, ne_eqb met 0 h) (refused-is met z h)
+  pub inverse-met : (r : Refusal) → number r ≡ work_refusal Unlimited (steps_of_inverse n Y) → Err r ≡ answered z all
+  inverse-met r e = before z (tt {0}) (number r) _ r (sym (answered-number (tt {0}) r)) ∙ ap (answered z) (sym (whole (number r) e))
 
-  pub impedance-value : met ≡ 0 → all_finite (of_thevenin (inverse n Y) p q) ≡ true → Value z ≡ impedance (work_refusal Unlimited (steps_of_impedance n Y p q)) z
-  unfolding impedance
-  impedance-value h f = rw (whole, h, f)
-
-  pub impedance-lost : met ≡ 0 → all_finite (of_thevenin (inverse n Y) p q) ≡ false → Refused 20 ≡ impedance (work_refusal Unlimited (steps_of_impedance n Y p q)) z
-  unfolding impedance
-  impedance-lost h f = rw (whole, h, f)
+  -- the inverse is found: the answer is what the impedance's operations answer
+  pub inverse-found : 0 ≡ work_refusal Unlimited (steps_of_inverse n Y) → ok_or (pair (of_thevenin (inverse n Y) p q) z) ComputedNotFinite ≡ answered z all
+  unfolding pair answered
+  inverse-found e = go (all_finite (of_thevenin (inverse n Y) p q)) ∙ ap (answered z) (sym (whole 0 e))
+    where
+      go : (b : Bool) → ok_or (cond b (Some z) None) ComputedNotFinite ≡ answered z (cond b 0 20)
+      go true = refl
+      go false = refl
 
 -- between the buses numbered a and b
 module _ (r : KronReducer) (ys : List Float) (a b : ℕ) (ws : List Float) where
@@ -143,42 +104,42 @@ module _ (r : KronReducer) (ys : List Float) (a b : ℕ) (ws : List Float) where
   j = row_of r b
 
   -- what is told before the work is the answer
-  told-first : (told : ℕ) (es : List Step) (z : Complex) → (told ≡ 0 → ⊥)
-      → (Refused told ≡ impedance (then_work told Unlimited es) z) × (ws ≡ cond (eqb told 0) (zeros (length ws)) ws)
+  told-first : (told : ℕ) (f : Refusal) (es : List Step) (z : Complex) → Err f ≡ outcome told
+      → (Err f ≡ answered z (then_work told Unlimited es)) × (ws ≡ cond (eqb told 0) (zeros (length ws)) ws)
   unfolding then_work
-  told-first told es z n = rw (ne_eqb told 0 n) (refused-is told z n, refl)
+  told-first told f es z e = (before z (tt {0}) told _ f e, held-refused (tt {0}) told _ ws f e)
 
-  abbrev Left : ℕ → Type 0
-  Left f = (Refused f ≡ (after_impedance r ys a b ws).answer) × (ws ≡ (after_impedance r ys a b ws).work)
+  abbrev Left : Refusal → Type 0
+  Left f = (Err f ≡ (after_impedance r ys a b ws).answer) × (ws ≡ (after_impedance r ys a b ws).work)
 
-  before-work : (f : ℕ) → (f ≡ 0 → ⊥) → f ≡ impedance_told (reading_refusal 4 r ys (length ws)) (active_of r) i j → Left f
+  before-work : (f : Refusal) → Err f ≡ outcome (impedance_told (reading_refusal 4 r ys (length ws)) (active_of r) i j) → Left f
   unfolding after_impedance
-  before-work f n e =
+  before-work f e =
       let xs = active_of r in let m = r.n_buses in let Y = entry_at m ys in
-      rw (← e) (told-first f (steps_of_impedance m Y (place i xs) (place j xs)) (thevenin_of (inverse m Y) (place i xs) (place j xs)) n)
+      told-first _ f (steps_of_impedance m Y (place i xs) (place j xs)) (thevenin_of (inverse m Y) (place i xs) (place j xs)) e
 
-  pub impedance-refused : (f : ℕ) → (f ≡ 0 → ⊥) → f ≡ reading_refusal 4 r ys (length ws) → Left f
+  pub impedance-refused : (f : Refusal) → Err f ≡ outcome (reading_refusal 4 r ys (length ws)) → Left f
   unfolding impedance_told
-  impedance-refused f n e = before-work f n (rw (← e, ne_eqb f 0 n))
+  impedance-refused f e = before-work f (before (tt {0}) (tt {0}) (reading_refusal 4 r ys (length ws)) _ f e)
 
   -- where the input is accepted
   module _ (ok : reading_refusal 4 r ys (length ws) ≡ 0) where
-    pub impedance-first : found_in i (active_of r) ≡ Nothing → Left 11
-    unfolding impedance_told
-    impedance-first e = before-work 11 (λ (z : 11 ≡ 0). omega arith) (rw (ok, found-not i (active_of r) e))
+    pub impedance-first : found_in i (active_of r) ≡ None → Left NotActive
+    unfolding impedance_told answered
+    impedance-first e = before-work NotActive (rw (ok, found-not i (active_of r) e))
 
-    module _ (p : ℕ) (at_i : found_in i (active_of r) ≡ At p) where
-      pub impedance-second : found_in j (active_of r) ≡ Nothing → Left 11
-      unfolding impedance_told
-      impedance-second e = before-work 11 (λ (z : 11 ≡ 0). omega arith) (rw (ok, is_true (mem i (active_of r)) (found_at i (active_of r) p at_i).0, found-not j (active_of r) e))
+    module _ (p : ℕ) (at_i : found_in i (active_of r) ≡ Some p) where
+      pub impedance-second : found_in j (active_of r) ≡ None → Left NotActive
+      unfolding impedance_told answered
+      impedance-second e = before-work NotActive (rw (ok, is_true (mem i (active_of r)) (found_at i (active_of r) p at_i).0, found-not j (active_of r) e))
 
-      module _ (q : ℕ) (at_j : found_in j (active_of r) ≡ At q) where
+      module _ (q : ℕ) (at_j : found_in j (active_of r) ≡ Some q) where
         none_told : impedance_told (reading_refusal 4 r ys (length ws)) (active_of r) i j ≡ 0
         unfolding impedance_told
         none_told = rw (ok, is_true (mem i (active_of r)) (found_at i (active_of r) p at_i).0, is_true (mem j (active_of r)) (found_at j (active_of r) q at_j).0)
 
-        pub impedance-found : (o : Impedance) (zs : List Float)
-            → (o ≡ impedance (work_refusal Unlimited (steps_of_impedance r.n_buses (entry_at r.n_buses ys) p q)) (thevenin_of (inverse r.n_buses (entry_at r.n_buses ys)) p q)) × (zs ≡ zeros (length ws))
+        pub impedance-found : (o : Result Complex Refusal) (zs : List Float)
+            → (o ≡ answered (thevenin_of (inverse r.n_buses (entry_at r.n_buses ys)) p q) (work_refusal Unlimited (steps_of_impedance r.n_buses (entry_at r.n_buses ys) p q))) × (zs ≡ zeros (length ws))
             → (o ≡ (after_impedance r ys a b ws).answer) × (zs ≡ (after_impedance r ys a b ws).work)
         unfolding after_impedance then_work
         impedance-found o zs h = rw (none_told, (found_at i (active_of r) p at_i).1, (found_at j (active_of r) q at_j).1) h
@@ -194,7 +155,7 @@ module _ (r : KronReducer) (ys : List Float) (a b : ℕ) (ws : List Float) where
     impedance-sound = let h = shaped-has r ys 0 (reading-accepted 4 r ys (length ws) accepted.0).1 in (h.size, h.record')
 
     -- what the elimination may use
-    pub impedance-holds : length r.active_buses ≡ limit → Holds r.n_buses r.active_buses ys
+    pub impedance-holds : length r.active_buses ≡ limit → Holds r ys
     impedance-holds long = shaped-holds r ys 0 long (reading-accepted 4 r ys (length ws) accepted.0).1
 
     pub impedance-room : length r.active_buses ≡ limit → 2 * (r.n_buses * (r.n_buses + r.n_buses)) ≤ length ws

@@ -1,13 +1,14 @@
 -- What `active_buses` answers and leaves, from the tests that the code makes, and what the numbers of a sound record have.
-use Rattle.prelude.proofs.Prelude.{◌≡◌, refl, sym, ap, ◌∙◌, subst, Bool, not, cond, List, ◌∷◌, ◌++◌, ℕ, zero, suc, ◌+◌, ◌-◌, ◌≤◌, ◌<◌, arith, T, eqb, ltb, length, get_or, take, replicate, lt_irrefl, ne_eqb, ltb-false, length-map, length-take-le, get_or-take}
+use Rattle.std.proofs.Common.{Some, None, Ok, Err}
+use Rattle.prelude.proofs.Prelude.{◌≡◌, refl, sym, ap, ◌∙◌, subst, Bool, not, cond, List, ◌∷◌, ◌++◌, ℕ, zero, suc, ◌+◌, ◌-◌, ◌≤◌, ◌<◌, arith, T, eqb, ltb, length, get_or, take, replicate, lt_irrefl, ltb-false, length-map, length-take-le, get_or-take}
 use lib.Seq.{take-append-add}
-use Rattle.refusals.specs.declared.Outcome.TheVariants.{Done}
-use Rattle.refusals.specs.Refusals.{limit, outcome}
-use Rattle.refusals.proofs.Answering.{passed, accepting}
-use Rattle.lists.specs.declared.Found.TheVariants.{At, Nothing}
+use Rattle.refusals.specs.declared.Refusal.{Refusal}
+use Rattle.refusals.specs.Refusals.{limit, answered, outcome}
+use Rattle.refusals.proofs.Answering.{held-refused, passed, accepting}
 use Rattle.lists.specs.Buses.{mem, ◌is_one_of◌, place, found_in}
 use Rattle.lists.proofs.Buses.{failed, get_or-in, below_all, rising-length}
-use Rattle.lists.proofs.Lookups.{get_or_map, found_nowhere}
+use Rattle.lists.proofs.Lookups.{get_or_map}
+use Rattle.lists.proofs.Chains.{found-is, found_nowhere}
 use Rattle.kron_reduction.specs.Reducer.{padded, active_of, numbers_of, sound, row_of}
 use Rattle.kron_reduction.specs.declared.KronReducer.{KronReducer}
 use Rattle.kron_reduction.specs.Reading.{active_numbers, active_refusal, after_active}
@@ -53,12 +54,12 @@ module _ (r : KronReducer) (full : length r.active_buses ≡ limit) (good : T (s
 
 -- a bus whose number no row has is not active
 pub unlisted : (r : KronReducer) (k : ℕ) → r.made ≤ limit → length r.numbers ≡ limit → T (sound r)
-    → found_in k (numbers_of r) ≡ Nothing → Nothing ≡ found_in (row_of r k) (active_of r)
-unfolding found_in
+    → found_in k (numbers_of r) ≡ None → None ≡ found_in (row_of r k) (active_of r)
 unlisted r k room all good e =
     let count : length (numbers_of r) ≡ r.made = length-take-le r.made r.numbers (rw all room) in
-    let row : row_of r k ≡ r.made = (unfold found_in in found_nowhere k (numbers_of r) e) ∙ count in
-    sym (ap (λ (b : Bool). cond b (At (place (row_of r k) (active_of r))) Nothing)
+    let row : row_of r k ≡ r.made = found_nowhere k (numbers_of r) e ∙ count in
+    sym (found-is (row_of r k) (active_of r)
+    ∙ ap (λ (b : Bool). cond b (Some (place (row_of r k) (active_of r))) None)
     (failed (mem (row_of r k) (active_of r)) (λ (m : row_of r k is_one_of active_of r). lt_irrefl r.made (subst (λ (n : ℕ). n < r.made) row (below_all r.made (active_of r) (sound-has r good).below (row_of r k) m)))))
 
 -- ---- the answer
@@ -69,13 +70,13 @@ take-zeros (suc m) zero h = absurd (omega (arith, h))
 take-zeros (suc m) (suc k) h = ap (λ (l : List ℕ). 0 ∷ l) (take-zeros m k (omega (arith, h)))
 
 module _ (r : KronReducer) (os : List ℕ) where
-  pub active-refused : (f : ℕ) → (f ≡ 0 → ⊥) → f ≡ active_refusal r (length os) → (outcome f ≡ (after_active r os).answer) × (os ≡ (after_active r os).buses)
+  pub active-refused : (f : Refusal) → Err f ≡ outcome (active_refusal r (length os)) → (Err f ≡ (after_active r os).answer) × (os ≡ (after_active r os).buses)
   unfolding after_active
-  active-refused f n e = rw (← e, ne_eqb f 0 n) (refl, refl)
+  active-refused f e = (e, held-refused (tt {0}) (active_refusal r (length os)) _ os f e)
 
   pub active-done : active_refusal r (length os) ≡ 0 → length r.active_buses ≡ limit → (zs : List ℕ) → zs ≡ take (length os) (padded (active_numbers r))
-      → (Done ≡ (after_active r os).answer) × (zs ≡ (after_active r os).buses)
-  unfolding after_active outcome
+      → (Ok tt ≡ (after_active r os).answer) × (zs ≡ (after_active r os).buses)
+  unfolding after_active answered
   active-done e full zs filled = rw e (refl, filled ∙ places)
     where
       h : Accepted r (length os)

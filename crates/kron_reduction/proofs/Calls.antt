@@ -1,14 +1,17 @@
 -- What the calls on a record answer and leave, from the tests that the code makes and from what a list of removals leaves.
+use Rattle.std.proofs.Common.{Result, Ok, Err}
 use Rattle.prelude.proofs.Prelude.{◌≡◌, refl, sym, ap, ◌∙◌, true, false, not, ◌||◌, ◌⊎◌, inl, inr, List, [], ◌∷◌, ◌++◌, ℕ, zero, suc, ◌+◌, ◌-◌, ◌*◌, ◌≤◌, arith, T, eqb, ltb, length, take, drop, Float, ap₂, append-nil, zero-add, sub-zero, le_trans, mul-le-mul, mul-le-mul_left, ne_eqb, ltb-false, length-drop, drop_of_length-le, length-take-le}
 use Rattle.complex.specs.{zeros}
 use Rattle.lists.proofs.Parts.{back}
-use Rattle.refusals.proofs.Answering.{passed, accepting}
+use Rattle.refusals.proofs.Answering.{accepted, passed, accepting}
 use Rattle.refusals.proofs.Numbers.{given-none, given-before, given-not, given-all}
-use Rattle.refusals.specs.Refusals.{limit, given_not_finite}
+use Rattle.refusals.specs.declared.Refusal.{Refusal}
+use Rattle.refusals.specs.declared.Refusal.TheVariants.{GivenNotFinite}
+use Rattle.refusals.specs.Refusals.{limit, outcome}
 use Rattle.binary64.specs.Values.{all_finite}
 use Rattle.kron_reduction.specs.declared.KronReducer.{KronReducer}
 use Rattle.kron_reduction.specs.declared.AfterRemovals.{AfterRemovals}
-use Rattle.kron_reduction.specs.declared.removal.Ran.{Ran}
+use Rattle.kron_reduction.specs.declared.Removals.{Removals}
 use Rattle.kron_reduction.specs.Kron.{State, eliminate, carried_out, stopped_by}
 use Rattle.kron_reduction.specs.Reducer.{reducer_of, record_of, active_of, numbers_of, sound, input_shape_refusal, present, input_refusal, state_in, state_of, reducer_state_of, row_major, stored, leaves, rows_of, removed_rows, removals_refusal, removals_of, ReducerState, AfterBuses, after_buses, padded}
 use Rattle.kron_reduction.specs.Inner.Removal.{StandsIn, left_by, Holds, RemovedAll}
@@ -16,7 +19,7 @@ use Rattle.lists.proofs.Buses.{neither, rising-length}
 use Rattle.kron_reduction.proofs.States.{Accepted, taken-accepted}
 use Rattle.kron_reduction.proofs.Reducer.{Sound, sound-has, filled-places}
 use Rattle.kron_reduction.proofs.Showing.{front-rows}
-use Rattle.kron_reduction.proofs.Taking.{holds-long, length-eliminate}
+use Rattle.kron_reduction.proofs.Taking.{refused-none, holds-long, length-eliminate}
 
 -- ---- the input refusals
 
@@ -37,20 +40,6 @@ shaped-has r ys l e =
     let (size, count) = neither (ltb limit r.made) _ many in
     search (accepting, ltb-false)
 
--- what is told: by the shapes, where they tell something, else by the numbers
-module _ (r : KronReducer) (ys : List Float) (l f : ℕ) (e : f ≡ input_shape_refusal r ys l) where
-  pub told-shape : (f ≡ 0 → ⊥) → input_refusal r ys l ≡ f
-  unfolding input_refusal
-  told-shape h = sym (given-before f _ (present r ys) e h)
-
-  pub told-not : f ≡ 0 → all_finite (present r ys) ≡ false → input_refusal r ys l ≡ given_not_finite
-  unfolding input_refusal
-  told-not z h = sym (given-not f _ (present r ys) e z h)
-
-  pub told_none : f ≡ 0 → all_finite (present r ys) ≡ true → input_refusal r ys l ≡ 0
-  unfolding input_refusal
-  told_none z h = sym (given-all f _ (present r ys) e z h)
-
 pub input-shaped : (r : KronReducer) (ys : List Float) (l : ℕ) → input_refusal r ys l ≡ 0 → input_shape_refusal r ys l ≡ 0
 unfolding input_refusal
 input-shaped r ys l e = (given-none (input_shape_refusal r ys l) (present r ys) e).0
@@ -63,7 +52,7 @@ pub accepts-finite : (r : KronReducer) (ys : List Float) (l : ℕ) → input_ref
 unfolding input_refusal
 accepts-finite r ys l e = (given-none (input_shape_refusal r ys l) (present r ys) e).1
 
-pub shaped-holds : (r : KronReducer) (ys : List Float) (l : ℕ) → length r.active_buses ≡ limit → input_shape_refusal r ys l ≡ 0 → Holds r.n_buses r.active_buses ys
+pub shaped-holds : (r : KronReducer) (ys : List Float) (l : ℕ) → length r.active_buses ≡ limit → input_shape_refusal r ys l ≡ 0 → Holds r ys
 shaped-holds r ys l long e = record {
   room = has.room;
   places = filled-places r.n_buses r.active_buses has.room long has.behind;
@@ -83,7 +72,7 @@ shaped-holds r ys l long e = record {
         let b : length (active_of r) ≡ r.n_buses = length-take-le r.n_buses r.active_buses (rw long has.room) in
         omega arith
 
-pub accepted-holds : (r : KronReducer) (ys : List Float) (l : ℕ) → length r.active_buses ≡ limit → input_refusal r ys l ≡ 0 → Holds r.n_buses r.active_buses ys
+pub accepted-holds : (r : KronReducer) (ys : List Float) (l : ℕ) → length r.active_buses ≡ limit → input_refusal r ys l ≡ 0 → Holds r ys
 accepted-holds r ys l long e = shaped-holds r ys l long (input-shaped r ys l e)
 
 -- ---- rows at the front, +0 behind
@@ -123,10 +112,38 @@ unfolding leaves
 leaves_none r ys = refl
 
 module _ (r : KronReducer) (ys : List Float) (ks : List ℕ) where
-  pub buses-refused : (f : ℕ) → (f ≡ 0 → ⊥) → input_refusal r ys (length ks) ≡ f
-      → (removals_of f 0 r ≡ (after_buses r ys ks).out) × (ys ≡ (after_buses r ys ks).slice)
+  -- what is left where the input is refused
+  abbrev Refused : ℕ → Type 0
+  Refused f = (removals_of f 0 r ≡ (after_buses r ys ks).out) × (ys ≡ (after_buses r ys ks).slice)
+
+  pub buses-refused : (f : ℕ) → (f ≡ 0 → ⊥) → input_refusal r ys (length ks) ≡ f → Refused f
   unfolding removed_rows removals_refusal leaves after_buses
   buses-refused f n e = rw (e, ne_eqb f 0 n) (refl, refl)
+
+  -- and what is answered there
+  abbrev Told : Refusal → Type 0
+  Told f = (record { answer = Err f; removed = 0 } ≡ (after_buses r ys ks).out.removals) × (r ≡ (after_buses r ys ks).out.rec) × (ys ≡ (after_buses r ys ks).slice)
+
+  told : (f : Refusal) → Err f ≡ outcome (input_refusal r ys (length ks)) → Told f
+  told f e =
+      let some : input_refusal r ys (length ks) ≡ 0 → ⊥ = λ z. refused-none (e ∙ ap outcome z) in
+      let (out, slice) = buses-refused (input_refusal r ys (length ks)) some refl in (
+        ap (λ (a : Result (Unit {0}) Refusal). record { answer = a; removed = 0 }) e ∙ ap (λ (t : AfterRemovals). t.removals) out,
+        ap (λ (t : AfterRemovals). t.rec) out,
+        slice,
+      )
+
+  pub told-shape : (f : Refusal) → Err f ≡ outcome (input_shape_refusal r ys (length ks)) → Told f
+  unfolding input_refusal
+  told-shape f e = told f (given-before (tt {0}) (tt {0}) _ (present r ys) f e)
+
+  pub told-not : Ok tt ≡ outcome (input_shape_refusal r ys (length ks)) → all_finite (present r ys) ≡ false → Told GivenNotFinite
+  unfolding input_refusal
+  told-not e h = told GivenNotFinite (given-not (tt {0}) (tt {0}) _ (present r ys) tt e h)
+
+  pub told_none : Ok tt ≡ outcome (input_shape_refusal r ys (length ks)) → all_finite (present r ys) ≡ true → input_refusal r ys (length ks) ≡ 0
+  unfolding input_refusal
+  told_none e h = (accepted (tt {0}) (tt {0}) _ tt (given-all (tt {0}) (tt {0}) _ (present r ys) tt e h)).0
 
   -- where the input is accepted
   module _ (ok : input_refusal r ys (length ks) ≡ 0) (long : length r.active_buses ≡ limit) (full : length r.numbers ≡ limit) where
@@ -145,24 +162,24 @@ module _ (r : KronReducer) (ys : List Float) (ks : List ℕ) where
     unfolding eliminate
     same-places = sym (accepted-holds r ys (length ks) long ok).places
 
-    module _ (ran : Ran) (bs : List ℕ) (zs : List Float) (t : RemovedAll r.n_buses r.active_buses ys rs ran bs zs) where
-      -- the record that the call leaves, by its parts
-      abbrev left : KronReducer
-      left = reducer_of r.made (r.n_buses - ran.done) bs r.numbers
+    module _ (ran : Removals) (q : KronReducer) (zs : List Float) (t : RemovedAll r ys rs ran q zs) where
+      -- what is answered, and left of the record
+      abbrev Left : Type 0
+      Left = (ran ≡ (after_buses r ys ks).out.removals) × (q ≡ (after_buses r ys ks).out.rec)
 
-      answered : left ≡ (leaves r ys (carried_out s rs)).rec → removals_of ran.stopped ran.done left ≡ (after_buses r ys ks).out
-      answered e =
-          ap₂ (λ (f d : ℕ). removals_of f d left) t.says t.count
-          ∙ ap (removals_of (stopped_by s rs) (length (carried_out s rs))) e
-          ∙ ap (λ (x : AfterBuses). x.out) (sym after)
+      answered : q ≡ (leaves r ys (carried_out s rs)).rec → Left
+      answered e = (
+        ap₂ (λ (a : Result (Unit {0}) Refusal) (d : ℕ). record { answer = a; removed = d }) t.says t.count ∙ ap (λ (x : AfterBuses). x.out.removals) (sym after),
+        e ∙ ap (λ (x : AfterBuses). x.out.rec) (sym after),
+      )
 
-      pub buses-none : ran.done ≡ 0 → (removals_of ran.stopped ran.done left ≡ (after_buses r ys ks).out) × (zs ≡ (after_buses r ys ks).slice)
+      pub buses-none : ran.removed ≡ 0 → Left × (zs ≡ (after_buses r ys ks).slice)
       unfolding left_by
       buses-none z =
           let none : carried_out s rs ≡ [] = nothing (carried_out s rs) (sym t.count ∙ z) in
           let kept : leaves r ys (carried_out s rs) ≡ reducer_state_of r ys = ap (leaves r ys) none ∙ leaves_none r ys in
-          let places : bs ≡ r.active_buses = t.places ∙ ap (λ (ts : List ℕ). padded (eliminate s ts).active) none ∙ same-places in
-          let all : left ≡ r = ap₂ (λ (n : ℕ) (xs : List ℕ). reducer_of r.made n xs r.numbers) (ap (λ (d : ℕ). r.n_buses - d) z ∙ sub-zero r.n_buses) places in (
+          let all : q ≡ r =
+          t.left ∙ ap₂ (λ (n : ℕ) (xs : List ℕ). reducer_of r.made n xs r.numbers) (ap (λ (d : ℕ). r.n_buses - d) z ∙ sub-zero r.n_buses) (ap (λ (ts : List ℕ). padded (eliminate s ts).active) none ∙ same-places) in (
             answered (all ∙ ap (λ (h : ReducerState). h.rec) (sym kept)),
             t.slice ∙ ap (left_by s ys) none ∙ ap (λ (h : ReducerState). h.slice) (sym kept) ∙ ap (λ (x : AfterBuses). x.slice) (sym after),
           )
@@ -171,8 +188,9 @@ module _ (r : KronReducer) (ys : List Float) (ks : List ℕ) where
       abbrev end : State
       end = eliminate s (carried_out s rs)
 
-      pub buses-fewer : ran.done ≤ r.n_buses
-      buses-fewer = t.within
+      -- and its size
+      pub size-left : q.n_buses ≡ r.n_buses - ran.removed
+      size-left = ap (λ (q : KronReducer). q.n_buses) t.left
 
       -- the numbers are as they were
       places-kept : r.numbers ≡ padded (numbers_of r)
@@ -181,27 +199,33 @@ module _ (r : KronReducer) (ys : List Float) (ks : List ℕ) where
           let has = sound-has r ok'.record' in
           filled-places r.made r.numbers ok'.size full has.spare
 
-      buses-left : length end.active ≡ r.n_buses - ran.done
+      buses-left : length end.active ≡ r.n_buses - ran.removed
       buses-left =
           let h = accepted-holds r ys (length ks) long ok in
           let e = length-eliminate s (carried_out s rs) h.rises (taken-accepted s rs) in
-          let l : length (active_of r) ≡ r.n_buses = holds-long r.n_buses r.active_buses ys h in
+          let l : length (active_of r) ≡ r.n_buses = holds-long r ys h in
           omega (arith, e, l, t.count)
 
-      pub buses-room : 2 * ((r.n_buses - ran.done) * (r.n_buses - ran.done)) ≤ length ys
-      buses-room = le_trans (mul-le-mul_left 2 (mul-le-mul (omega arith) (omega arith))) (accepted-holds r ys (length ks) long ok).fits
+      left-end : length end.active ≡ q.n_buses
+      left-end = buses-left ∙ sym size-left
 
-      pub buses-some : (ran.done ≡ 0 → ⊥) → length zs ≡ length ys → (cs : List Float) → cs ≡ zeros (length ys - 2 * ((r.n_buses - ran.done) * (r.n_buses - ran.done)))
-          → (removals_of ran.stopped ran.done left ≡ (after_buses r ys ks).out)
-          × (back (2 * ((r.n_buses - ran.done) * (r.n_buses - ran.done))) (length ys - 2 * ((r.n_buses - ran.done) * (r.n_buses - ran.done))) zs cs ≡ (after_buses r ys ks).slice)
+      pub buses-fewer : q.n_buses ≤ limit
+      buses-fewer = omega (arith, size-left, (accepted-holds r ys (length ks) long ok).room)
+
+      pub buses-room : 2 * (q.n_buses * q.n_buses) ≤ length ys
+      buses-room = le_trans (mul-le-mul_left 2 (mul-le-mul (omega (arith, size-left)) (omega (arith, size-left)))) (accepted-holds r ys (length ks) long ok).fits
+
+      pub buses-some : (ran.removed ≡ 0 → ⊥) → length zs ≡ length ys → (cs : List Float) → cs ≡ zeros (length ys - 2 * (q.n_buses * q.n_buses))
+          → Left
+          × (back (2 * (q.n_buses * q.n_buses)) (length ys - 2 * (q.n_buses * q.n_buses)) zs cs ≡ (after_buses r ys ks).slice)
       buses-some n same cs cleared =
-          let m = r.n_buses - ran.done in
           let kept : leaves r ys (carried_out s rs) ≡ laid r end = something (carried_out s rs) (λ (z : length (carried_out s rs) ≡ 0). n (t.count ∙ z)) in
-          let rec : left ≡ record_of r.made (numbers_of r) end.active =
-          ap₂ (λ (n : ℕ) (xs : List ℕ). reducer_of r.made n xs r.numbers) (sym buses-left) t.places
+          let rec : q ≡ record_of r.made (numbers_of r) end.active =
+          t.left
+          ∙ ap (λ (n : ℕ). reducer_of r.made n (padded end.active) r.numbers) (sym buses-left)
           ∙ ap (reducer_of r.made (length end.active) (padded end.active)) places-kept in (
             answered (rec ∙ ap (λ (h : ReducerState). h.rec) (sym kept)),
-            laid_out end m (length ys) zs cs buses-left t.shows same buses-room cleared
+            laid_out end q.n_buses (length ys) zs cs left-end t.shows same buses-room cleared
                 ∙ ap (λ (len : ℕ). row_major len end.active end.entries) (accepts-has r ys (length ks) ok).slice
                 ∙ ap (λ (h : ReducerState). h.slice) (sym kept)
                 ∙ ap (λ (x : AfterBuses). x.slice) (sym after),
@@ -234,7 +258,7 @@ removed-count r ys ks long full = elim (zero_or (input_refusal r ys (length ks))
     counted : input_refusal r ys (length ks) ≡ 0 → (after_buses r ys ks).out.removals.removed + (after_buses r ys ks).out.rec.n_buses ≡ r.n_buses
     counted ok = ap (λ (x : AfterBuses). x.out.removals.removed + x.out.rec.n_buses) (after r ys ks ok long full) ∙ sum (carried_out (state_in r.n_buses (active_of r) ys) (rows_of r ks)) (taken-accepted (state_in r.n_buses (active_of r) ys) (rows_of r ks))
       where
-        h : Holds r.n_buses r.active_buses ys
+        h : Holds r ys
         h = accepted-holds r ys (length ks) long ok
 
         sum : (ts : List ℕ) → Accepted (state_in r.n_buses (active_of r) ys) ts → length ts + (leaves r ys ts).rec.n_buses ≡ r.n_buses
@@ -242,4 +266,4 @@ removed-count r ys ks long full = elim (zero_or (input_refusal r ys (length ks))
         sum (t ∷ ts) a =
             let e = length-eliminate (state_in r.n_buses (active_of r) ys) (t ∷ ts) h.rises a in
             ap (λ (x : ReducerState). length (t ∷ ts) + x.rec.n_buses) (leaves-cons r ys t ts)
-            ∙ omega (arith, e, holds-long r.n_buses r.active_buses ys h)
+            ∙ omega (arith, e, holds-long r ys h)

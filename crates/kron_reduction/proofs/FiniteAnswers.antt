@@ -1,12 +1,14 @@
 -- What an accepted call leaves in the present rows, or writes, is finite, and no impedance is refused whose numbers are finite.
+use Rattle.std.proofs.Common.{Ok}
 use Rattle.prelude.proofs.Prelude.{◌≡◌, refl, sym, ap, ◌∙◌, subst, not, is_true, List, [], ◌∷◌, ◌++◌, ℕ, zero, suc, ◌+◌, ◌*◌, arith, T, length, replicate, Float, of_bits, take_at}
 use Rattle.binary64.specs.Values.{all_finite}
 use Rattle.complex.specs.{Complex, plus0, cadd, cmul, of_parts, of_sum, of_difference, of_product, entry as entry_of, entry_at, zeros, rows, Matrix}
 use Rattle.complex.proofs.Finite.{none, all_more, all_join, all_left, all_right, all-at}
 use Rattle.complex.proofs.Matrices.{length-rows, entry-within}
 use Rattle.lists.proofs.Buses.{below-up_to}
-use Rattle.refusals.specs.Refusals.{limit}
-use Rattle.refusals.proofs.Answering.{then-none}
+use Rattle.refusals.specs.Refusals.{limit, answered}
+use Rattle.refusals.proofs.Answering as Answering
+use Rattle.refusals.proofs.Answering.{accepted as accepted-by, then-none}
 use Rattle.refusals.proofs.Numbers.{given-none, given-all}
 use Rattle.refusals.proofs.Work.{all-finite, numbers-both, numbers-alone, then-numbers, work-met}
 use Rattle.refusals.specs.declared.Allowance.TheVariants.{Unlimited}
@@ -16,11 +18,9 @@ use Rattle.solver.specs.Solving.{is_singular, inverse}
 use Rattle.solver.specs.Steps.{steps_of_inverse}
 use Rattle.solver.proofs.FiniteAnswers.{inverse-regular}
 use Rattle.kron_reduction.specs.declared.KronReducer.{KronReducer}
-use Rattle.kron_reduction.specs.declared.Impedance.{Impedance}
-use Rattle.kron_reduction.specs.declared.Impedance.TheVariants.{Value, Refused}
 use Rattle.kron_reduction.specs.Kron.{start, remove, eliminate, carried_out}
 use Rattle.kron_reduction.specs.Reducer.{record_of, active_of, row_of, numbers_of, present, input_refusal, state_of, row_major, stored, leaves, rows_of, removed_rows, after_bus, after_buses}
-use Rattle.kron_reduction.specs.Reading.{reading_shape_refusal, reading_refusal, after_matrix, two, thevenin_of, of_thevenin, steps_of_impedance, impedance, impedance_number, impedance_told, after_impedance}
+use Rattle.kron_reduction.specs.Reading.{reading_shape_refusal, reading_refusal, after_matrix, two, thevenin_of, of_thevenin, steps_of_impedance, impedance_told, after_impedance}
 use Rattle.kron_reduction.specs.FiniteAnswers.{FiniteAnswers, AcceptedImpedance}
 use Rattle.kron_reduction.proofs.States.{Accepted, taken-accepted, FiniteIn, finite-remove, finite-eliminate, rows-finite}
 use Rattle.kron_reduction.proofs.Calls.{accepts-finite, shaped-has}
@@ -72,17 +72,6 @@ written-finite r ys os full e =
     (subst (λ (l : List Float). T (all_finite l)) (stored-now r ys (shaped-has r ys 0 (reading-accepted 2 r ys (length os) shaped).1).slice h)
     (all_join (present r ys) _ (given-none (reading_shape_refusal 2 r ys (length os)) (present r ys) e).1 (zeros-finite _)))
 
--- the value of an answer, else c
-value_of : Complex → Impedance → Complex
-value_of c (Value z) = z
-value_of c (Refused k) = c
-
--- an impedance that is answered meets nothing on its way
-impedance-none : (f : ℕ) (y z : Complex) → impedance f y ≡ Value z → (f ≡ 0) × (y ≡ z)
-unfolding impedance value_of impedance_number
-impedance-none zero y z e = (refl, ap (value_of y) e)
-impedance-none (suc f) y z e = absurd (let k : suc f ≡ 0 = ap impedance_number e in omega arith)
-
 across-finite : (told n : ℕ) (Y : Matrix) (p q : ℕ) → then_work told Unlimited (steps_of_impedance n Y p q) ≡ 0 → T (all_finite (of_parts (thevenin_of (inverse n Y) p q)))
 unfolding then_work work_refusal steps_of_impedance of_thevenin thevenin_of
 across-finite told n Y p q e =
@@ -92,11 +81,11 @@ across-finite told n Y p q e =
     let numbers = subst (λ (l : List Float). T (all_finite l)) (numbers-both (steps_of_inverse n Y) (computing (of_thevenin Z p q)) ∙ ap (λ (l : List Float). numbers_in (steps_of_inverse n Y) ++ l) (numbers-alone (of_thevenin Z p q))) all in
     all_right (of_sum (Z p p) (Z q q) ++ of_product twice (Z p q)) (of_difference (cadd (Z p p) (Z q q)) (cmul twice (Z p q))) (all_right (numbers_in (steps_of_inverse n Y)) (of_thevenin Z p q) numbers)
 
-answered-finite : (r : KronReducer) (ys : List Float) (a b : ℕ) (ws : List Float) (z : Complex) → (after_impedance r ys a b ws).answer ≡ Value z → T (all_finite (of_parts z))
+answered-finite : (r : KronReducer) (ys : List Float) (a b : ℕ) (ws : List Float) (z : Complex) → (after_impedance r ys a b ws).answer ≡ Ok z → T (all_finite (of_parts z))
 unfolding after_impedance
 answered-finite r ys a b ws z e =
-    let (none, same) = impedance-none _ _ z e in
-    subst (λ (c : Complex). T (all_finite (of_parts c))) same (across-finite (impedance_told (reading_refusal 4 r ys (length ws)) (active_of r) (row_of r a) (row_of r b)) r.n_buses (entry_at r.n_buses ys) (place (row_of r a) (active_of r)) (place (row_of r b) (active_of r)) none)
+    let (none, same) = accepted-by (tt {0}) _ _ z (sym e) in
+    subst (λ (c : Complex). T (all_finite (of_parts c))) (sym same) (across-finite (impedance_told (reading_refusal 4 r ys (length ws)) (active_of r) (row_of r a) (row_of r b)) r.n_buses (entry_at r.n_buses ys) (place (row_of r a) (active_of r)) (place (row_of r b) (active_of r)) none)
 
 pub finite-answers : FiniteAnswers
 unfolding after_bus after_buses
@@ -104,7 +93,7 @@ finite-answers r ys full = record {
   removals = λ (ks : List ℕ) (e : input_refusal r ys (length ks) ≡ 0). left-finite r ys ks e;
   removal = λ (k : ℕ) (e : input_refusal r ys 1 ≡ 0). left-finite r ys (k ∷ []) e;
   matrix = λ (os : List Float) (e : reading_refusal 2 r ys (length os) ≡ 0). written-finite r ys os full e;
-  impedance = λ (a b : ℕ) (ws : List Float) (z : Complex) (e : (after_impedance r ys a b ws).answer ≡ Value z). answered-finite r ys a b ws z e;
+  impedance = λ (a b : ℕ) (ws : List Float) (z : Complex) (e : (after_impedance r ys a b ws).answer ≡ Ok z). answered-finite r ys a b ws z e;
 }
 
 -- ---- what is accepted
@@ -118,12 +107,12 @@ accepted-across n Y p q f r =
 
 accepted : (r : KronReducer) (ys : List Float) (a b : ℕ) (ws : List Float) → let n = r.n_buses in let Y = entry_at n ys in let p = place (row_of r a) (active_of r) in let q = place (row_of r b) (active_of r) in
     impedance_told (reading_shape_refusal 4 r ys (length ws)) (active_of r) (row_of r a) (row_of r b) ≡ 0 → T (all_finite (present r ys)) → T (all_finite (numbers_in (steps_of_impedance n Y p q))) → T (not (is_singular n Y))
-    → after_impedance r ys a b ws ≡ record { answer = Value (thevenin_of (inverse n Y) p q); work = zeros (length ws) }
-unfolding after_impedance impedance_told reading_refusal impedance
+    → after_impedance r ys a b ws ≡ record { answer = Ok (thevenin_of (inverse n Y) p q); work = zeros (length ws) }
+unfolding after_impedance impedance_told reading_refusal answered
 accepted r ys a b ws told given computed regular =
     let n = r.n_buses in let Y = entry_at n ys in let p = place (row_of r a) (active_of r) in let q = place (row_of r b) (active_of r) in
     let (shape, active) = then-none (reading_shape_refusal 4 r ys (length ws)) _ told in
-    let none = sym (given-all 0 (reading_shape_refusal 4 r ys (length ws)) (present r ys) (sym shape) refl (is_true (all_finite (present r ys)) given)) in
+    let none = (accepted-by (tt {0}) (tt {0}) _ tt (given-all (tt {0}) (tt {0}) (reading_shape_refusal 4 r ys (length ws)) (present r ys) tt (Answering.none (tt {0}) _ shape) (is_true (all_finite (present r ys)) given))).0 in
     rw (none, active, work-met 0 Unlimited (steps_of_impedance n Y p q) refl, accepted-across n Y p q computed regular)
 
 -- `search` takes the part of a premise that is wanted: one that says more has it too

@@ -1,16 +1,16 @@
 -- Impedances of small matrices, computed: 20 of the impedance's own numbers, and of a column of the inverse that is not read; and a call that meets
 -- the premises of the theorem on what is accepted.
+use Rattle.std.proofs.Common.{Ok}
 use Rattle.prelude.proofs.Prelude.{◌≡◌, refl, ap, ◌∙◌, not, cond, List, [], ◌∷◌, T, eqb, length, replicate, Float, binary64, lt, add, sub, mul, div, of_bits}
 use Rattle.binary64.specs.Values.{all_finite}
 use Rattle.complex.specs.{Matrix, plus0, one, division_limit, cadd, csub, cmul, sqmag, cdiv, complex_inv, abs, entry, entry_at}
-use Rattle.lists.specs.Buses.{up_to, rising, all_below, all_zero, repeats, place}
+use Rattle.lists.specs.Buses.{up_to, rising, repeats, place}
 use Rattle.refusals.specs.declared.Allowance.TheVariants.{Unlimited}
 use Rattle.refusals.specs.Work.{computing, numbers_in, reductions, meets, granted, work_refusal}
 use Rattle.solver.specs.GaussJordan.{stays, held_after, pivot_row, swapped, scaled, reduced, pivoted, cleared, gauss_jordan_from, gauss_jordan, augmented, solution, singular_system}
 use Rattle.solver.specs.Solving.{is_singular, inverse, skipped, unit_column}
 use Rattle.solver.specs.Steps.{of_search, of_scaling, of_reducing, steps_of_row, steps_of_rows, steps_from, steps_of_run, steps_of_inverse}
 use Rattle.kron_reduction.specs.declared.KronReducer.{KronReducer}
-use Rattle.kron_reduction.specs.declared.Impedance.TheVariants.{Value}
 use Rattle.kron_reduction.specs.Reducer.{record_of, active_of, row_of, present, sound_rows, sound_numbers, input_shape_refusal}
 use Rattle.kron_reduction.specs.Reading.{reading_shape_refusal, two, thevenin_of, of_thevenin, steps_of_impedance, impedance_told, AfterImpedance, after_impedance}
 use Rattle.kron_reduction.proofs.FiniteAnswers.{accepted-impedance}
@@ -65,7 +65,7 @@ abbrev pair_of_buses : KronReducer
 pair_of_buses = record_of 2 (30 ∷ 10 ∷ []) (0 ∷ 1 ∷ [])
 
 nothing-told : impedance_told (reading_shape_refusal 4 pair_of_buses ring (length (replicate 16 one))) (active_of pair_of_buses) (row_of pair_of_buses 30) (row_of pair_of_buses 10) ≡ 0
-unfolding opened reading_shape_refusal input_shape_refusal sound_rows sound_numbers rising all_below all_zero repeats place impedance_told
+unfolding opened reading_shape_refusal input_shape_refusal sound_rows sound_numbers rising repeats place impedance_told
 nothing-told = refl
 
 ring-given : T (all_finite (present pair_of_buses ring))
@@ -85,8 +85,8 @@ across-ring : thevenin_of (inverse 2 (entry_at 2 ring)) (place (row_of pair_of_b
 unfolding opened entry entry_at place
 across-ring = refl
 
-pub accepts : (after_impedance pair_of_buses ring 30 10 (replicate 16 one)).answer ≡ Value (record { re = of_bits binary64 0x3fe5555555555555; im = plus0 })
+pub accepts : (after_impedance pair_of_buses ring 30 10 (replicate 16 one)).answer ≡ Ok (record { re = of_bits binary64 0x3fe5555555555555; im = plus0 })
 accepts =
     ap (λ (l : AfterImpedance). l.answer)
     (accepted-impedance pair_of_buses ring 30 10 (replicate 16 one) (search (nothing-told, tt)) (search (ring-given, tt)) (search (ring-computed, tt)) (search (ring-regular, tt)))
-    ∙ ap Value across-ring
+    ∙ ap Ok across-ring

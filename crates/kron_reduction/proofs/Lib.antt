@@ -1,3 +1,4 @@
+pub mod Look
 pub mod Positions
 pub mod Sizes
 pub mod Numbers
@@ -7,6 +8,7 @@ pub mod Rows
 pub mod Told
 pub mod Taking
 pub mod Reducer
+pub mod Numbered
 pub mod Making
 pub mod Calls
 pub mod Reading

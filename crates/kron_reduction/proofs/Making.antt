@@ -1,16 +1,16 @@
 -- What `new` answers and what a record's tests say, from the tests that the code makes.
-use Rattle.prelude.proofs.Prelude.{◌≡◌, refl, sym, ap, ◌∙◌, Bool, true, false, not, ◌&&◌, ◌||◌, List, [], ℕ, ◌*◌, ◌≤◌, ◌<◌, T, eqb, ltb, length, drop, Float, is_true, ap₂, le-leb, lt-leb, ne_eqb, ltb-false, leb}
-use Rattle.lists.specs.Buses.{up_to, rising, all_below, all_zero, repeats}
-use Rattle.refusals.specs.Refusals.{limit, outcome}
+use Rattle.std.proofs.Common.{Ok, Err}
+use Rattle.prelude.proofs.Prelude.{cond, zero, suc, ◌≡◌, refl, sym, ap, ◌∙◌, false, not, ◌||◌, List, [], ℕ, ◌*◌, ◌≤◌, T, eqb, ltb, length, Float, is_true, ltb-false}
+use Rattle.lists.specs.Buses.{up_to, repeats}
+use Rattle.refusals.specs.Refusals.{limit, answered, outcome}
 use Rattle.refusals.proofs.Refusing.{refusing}
-use Rattle.refusals.proofs.Answering.{outcome-refused, passed, accepting}
+use Rattle.refusals.proofs.Answering.{accepted, carried, none, passed, accepting}
 use Rattle.refusals.proofs.Numbers.{given-none, given-all}
 use Rattle.binary64.specs.Values.{all_finite}
 use Rattle.lists.proofs.Buses.{neither}
-use Rattle.refusals.specs.declared.Outcome.{Outcome}
-use Rattle.refusals.specs.declared.Outcome.TheVariants.{Done, Refused}
+use Rattle.refusals.specs.declared.Refusal.{Refusal}
 use Rattle.kron_reduction.specs.declared.KronReducer.{KronReducer}
-use Rattle.kron_reduction.specs.Reducer.{reducer_input_of, making_shape_refusal, making_refusal, record_of, after_new, active_of, sound_rows}
+use Rattle.kron_reduction.specs.Reducer.{ReducerInput, reducer_input_of, making_shape_refusal, making_refusal, record_of, after_new, made}
 
 -- ---- the refusals
 
@@ -22,7 +22,7 @@ shape-none n ys ns a b e l d = search refusing depth 9
 pub making-none : (n : ℕ) (ys : List Float) (ns : List ℕ) → n ≤ limit → length ns ≤ limit → length ys ≡ 2 * (n * n) → length ns ≡ n → repeats ns ≡ false
     → T (all_finite ys) → 0 ≡ making_refusal (reducer_input_of n ys ns)
 unfolding making_refusal
-making-none n ys ns a b e l d h = given-all 0 _ ys (shape-none n ys ns a b e l d) refl (is_true (all_finite ys) h)
+making-none n ys ns a b e l d h = sym (accepted (tt {0}) (tt {0}) _ tt (given-all (tt {0}) (tt {0}) _ ys tt (none (tt {0}) _ (sym (shape-none n ys ns a b e l d))) (is_true (all_finite ys) h))).0
 
 -- what an accepted making has
 pub record Makes (n : ℕ) (ys : List Float) (ns : List ℕ) : Type 0 where
@@ -43,32 +43,24 @@ makes-has n ys ns h =
     let (slice, count) = neither (not (eqb (length ys) (2 * (n * n)))) _ sizes in
     search (accepting, ltb-false)
 
-module _ (n : ℕ) (ys : List Float) (ns : List ℕ) (r : KronReducer) where
-  pub new-refused : (f : ℕ) → (f ≡ 0 → ⊥) → f ≡ making_refusal (reducer_input_of n ys ns) → r ≡ record_of 0 [] [] → record { answer = Refused f; rec = r } ≡ after_new (reducer_input_of n ys ns)
+module _ (n : ℕ) (ys : List Float) (ns : List ℕ) where
+  pub new-refused : (f : Refusal) → Err f ≡ outcome (making_refusal (reducer_input_of n ys ns)) → Err f ≡ after_new (reducer_input_of n ys ns)
   unfolding after_new
-  new-refused f z e s =
-      rw (← e, ne_eqb f 0 z) (ap₂ (λ (o : Outcome) (r : KronReducer). record { answer = o; rec = r }) (outcome-refused f f refl z) s)
+  new-refused f e = carried (record_of n ns (up_to n)) (tt {0}) (making_refusal (reducer_input_of n ys ns)) f e
 
-  pub new-done : making_refusal (reducer_input_of n ys ns) ≡ 0 → r ≡ record_of (length ns) ns (up_to (length ns)) → record { answer = Done; rec = r } ≡ after_new (reducer_input_of n ys ns)
-  unfolding after_new outcome
-  new-done e s =
-      rw e (ap (λ (r : KronReducer). record { answer = Done; rec = r }) (s ∙ ap (λ (m : ℕ). record_of m ns (up_to m)) (makes-has n ys ns e).many))
+  pub new-done : (r : KronReducer) → Ok tt ≡ outcome (making_refusal (reducer_input_of n ys ns)) → r ≡ record_of (length ns) ns (up_to (length ns)) → Ok r ≡ after_new (reducer_input_of n ys ns)
+  unfolding after_new
+  new-done r e s =
+      let z = (accepted (tt {0}) (tt {0}) (making_refusal (reducer_input_of n ys ns)) tt e).0 in
+      ap Ok (s ∙ ap (λ (m : ℕ). record_of m ns (up_to m)) (makes-has n ys ns z).many) ∙ none (record_of n ns (up_to n)) (making_refusal (reducer_input_of n ys ns)) z
 
--- ---- the record's tests
+-- ---- the record of a making
 
-module _ (r : KronReducer) where
-  pub sound-large : limit < r.n_buses → false ≡ sound_rows r
-  unfolding sound_rows
-  sound-large h = sym (rw (lt-leb r.n_buses limit h))
-
-  module _ (small : r.n_buses ≤ limit) (b : Bool) (in_order : b ≡ (rising (active_of r) && all_below r.made (active_of r))) where
-    first_three : (leb r.n_buses limit && rising (active_of r) && all_below r.made (active_of r)) ≡ b
-    first_three = rw (le-leb r.n_buses limit small) (sym in_order)
-
-    pub sound-order : b ≡ false → false ≡ sound_rows r
-    unfolding sound_rows
-    sound-order e = sym (ap (λ (c : Bool). c && all_zero (drop r.n_buses r.active_buses)) (first_three ∙ e))
-
-    pub sound-behind : b ≡ true → (c : Bool) → c ≡ all_zero (drop r.n_buses r.active_buses) → c ≡ sound_rows r
-    unfolding sound_rows
-    sound-behind e c f = f ∙ sym (ap (λ (c : Bool). c && all_zero (drop r.n_buses r.active_buses)) (first_three ∙ e))
+-- the record that removals begin with is the one answered
+pub made-answered : (M : ReducerInput) → after_new M ≡ answered (made M) (making_refusal M)
+unfolding after_new made answered
+made-answered M = go (making_refusal M)
+  where
+    go : (f : ℕ) → answered (record_of M.size M.numbers (up_to M.size)) f ≡ answered (cond (eqb f 0) (record_of M.size M.numbers (up_to M.size)) (record_of 0 [] [])) f
+    go zero = refl
+    go (suc f) = refl

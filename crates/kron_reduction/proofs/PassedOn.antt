@@ -1,8 +1,8 @@
 -- A removal and an impedance by operations that answer a finite number or none.
+use Rattle.std.proofs.Common.{Some, None}
 use Rattle.prelude.proofs.Prelude.{◌≡◌, refl, sym, ◌∙◌, Bool, true, false, not, ℕ, T, eqb, is_true}
 use Rattle.binary64.specs.Values.{all_finite}
 use Rattle.complex.specs.{Complex, Matrix, plus0, cadd, cmul, cdiv, too_small}
-use Rattle.complex.specs.declared.Pair.TheVariants.{Finite, NotFinite}
 use Rattle.complex.specs.Computed.{of_sum, of_product, of_quotient}
 use Rattle.complex.specs.Leaves.{pair, sum, difference, product, quotient}
 use Rattle.complex.proofs.LeafSteps.{passes_on}
@@ -21,13 +21,13 @@ entry-passed k Y i j =
 
 module _ (s : State) (k : ℕ) where
   answered : T (accepts s k) → (i j : ℕ) → i is_one_of (remove s k).active → j is_one_of (remove s k).active
-      → entry_answer k s.entries i j ≡ Finite ((remove s k).entries i j)
+      → entry_answer k s.entries i j ≡ Some ((remove s k).entries i j)
   answered h i j l m =
       entry-passed k s.entries i j
       ∙ sym (pair-finite _ (kron k s.entries i j) (is_true (all_finite (of_new_entry k s.entries i j)) (removal-at s k (accepted-finite s k h) i j l m)))
 
   -- an entry that is not answered "not finite"
-  entry-finite : (i j : ℕ) → (entry_answer k s.entries i j ≡ NotFinite → ⊥) → T (all_finite (of_new_entry k s.entries i j))
+  entry-finite : (i j : ℕ) → (entry_answer k s.entries i j ≡ None → ⊥) → T (all_finite (of_new_entry k s.entries i j))
   entry-finite i j other = go (all_finite (of_new_entry k s.entries i j)) refl
     where
       go : (b : Bool) → all_finite (of_new_entry k s.entries i j) ≡ b → T b

@@ -35,7 +35,7 @@ ltb-leb : (x y : ℕ) → ltb x y ≡ leb (x + 1) y
 ltb-leb x y = rw add-one
 
 rises-tail : (n x : ℕ) (xs : List ℕ) → (rising (x ∷ xs) && all_below n (x ∷ xs)) ≡ (ltb x n && rises_from (x + 1) n xs)
-unfolding rising all_below rises_from
+unfolding rising rises_from
 rises-tail n x [] = and-true (ltb x n)
 rises-tail n x (y ∷ ys) =
     and-mix (ltb x y) (rising (y ∷ ys)) (ltb x n) (all_below n (y ∷ ys))
@@ -43,7 +43,7 @@ rises-tail n x (y ∷ ys) =
     ∙ ap (λ (b : Bool). ltb x n && (b && (ltb y n && rises_from (y + 1) n ys))) (ltb-leb x y)
 
 pub rises-from : (n : ℕ) (xs : List ℕ) → (rising xs && all_below n xs) ≡ rises_from 0 n xs
-unfolding rising all_below rises_from
+unfolding rising rises_from
 rises-from n [] = refl
 rises-from n (x ∷ xs) = rises-tail n x xs ∙ ap (λ (b : Bool). b && (ltb x n && rises_from (x + 1) n xs)) (sym (leb-zero x))
 

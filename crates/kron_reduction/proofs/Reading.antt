@@ -1,12 +1,13 @@
 -- What `reduced_matrix` answers and leaves, from the tests that the code makes.
-use Rattle.prelude.proofs.Prelude.{◌≡◌, refl, sym, ap, ◌∙◌, not, List, ◌++◌, ℕ, ◌-◌, ◌*◌, ◌≤◌, arith, eqb, ltb, length, take, drop, Float, ap₂, ne_eqb, length-append, length-drop, length-take-le, take_at}
+use Rattle.std.proofs.Common.{Ok, Err}
+use Rattle.prelude.proofs.Prelude.{◌≡◌, refl, sym, ap, ◌∙◌, not, List, ◌++◌, ℕ, ◌-◌, ◌*◌, ◌≤◌, arith, eqb, ltb, length, take, drop, Float, ap₂, length-append, length-drop, length-take-le, take_at}
 use native.Mathlib.Nat.{le_refl}
 use Rattle.complex.specs.{zeros}
 use Rattle.lists.proofs.Parts.{back}
-use Rattle.refusals.proofs.Answering.{passed, accepting}
+use Rattle.refusals.proofs.Answering.{held-refused, passed, accepting}
 use Rattle.refusals.proofs.Numbers.{given-none}
-use Rattle.refusals.specs.declared.Outcome.TheVariants.{Done}
-use Rattle.refusals.specs.Refusals.{limit, outcome}
+use Rattle.refusals.specs.declared.Refusal.{Refusal}
+use Rattle.refusals.specs.Refusals.{limit, answered, outcome}
 use Rattle.kron_reduction.specs.declared.KronReducer.{KronReducer}
 use Rattle.kron_reduction.specs.Reducer.{active_of, present, input_shape_refusal, state_of, row_major, state_in}
 use Rattle.kron_reduction.specs.Inner.Removal.{Holds}
@@ -30,26 +31,26 @@ module _ (per : ℕ) (r : KronReducer) (ys : List Float) (m : ℕ) where
   reading-shaped e = (given-none (reading_shape_refusal per r ys m) (present r ys) e).0
 
   -- what the test of the numbers may use
-  pub reading-holds : reading_shape_refusal per r ys m ≡ 0 → length r.active_buses ≡ limit → Holds r.n_buses r.active_buses ys
+  pub reading-holds : reading_shape_refusal per r ys m ≡ 0 → length r.active_buses ≡ limit → Holds r ys
   reading-holds e long = shaped-holds r ys 0 long (reading-accepted e).1
 
 -- ---- the answer
 
-pub stored-now : (r : KronReducer) (ys : List Float) → length ys ≡ 2 * (r.made * r.made) → Holds r.n_buses r.active_buses ys
+pub stored-now : (r : KronReducer) (ys : List Float) → length ys ≡ 2 * (r.made * r.made) → Holds r ys
     → take (2 * (r.n_buses * r.n_buses)) ys ++ zeros (length ys - 2 * (r.n_buses * r.n_buses)) ≡ row_major (2 * (r.made * r.made)) (active_of r) (state_of r ys).entries
 unfolding state_of
 stored-now r ys long h =
-    let e : length (active_of r) ≡ r.n_buses = holds-long r.n_buses r.active_buses ys h in
+    let e : length (active_of r) ≡ r.n_buses = holds-long r ys h in
     stored-front (state_in r.n_buses (active_of r) ys) r.n_buses (length ys) ys e (shown-shows r.n_buses (active_of r) ys h.rises e) refl h.fits
     ∙ ap (λ (len : ℕ). row_major len (active_of r) (state_of r ys).entries) long
 
 module _ (r : KronReducer) (ys os : List Float) where
-  pub matrix-refused : (f : ℕ) → (f ≡ 0 → ⊥) → f ≡ reading_refusal 2 r ys (length os) → (outcome f ≡ (after_matrix r ys os).answer) × (os ≡ (after_matrix r ys os).out)
+  pub matrix-refused : (f : Refusal) → Err f ≡ outcome (reading_refusal 2 r ys (length os)) → (Err f ≡ (after_matrix r ys os).answer) × (os ≡ (after_matrix r ys os).out)
   unfolding after_matrix
-  matrix-refused f n e = rw (← e, ne_eqb f 0 n) (refl, refl)
+  matrix-refused f e = (e, held-refused (tt {0}) (reading_refusal 2 r ys (length os)) _ os f e)
 
-  -- the rows that `copy_rows` may copy
-  pub matrix-holds : reading_refusal 2 r ys (length os) ≡ 0 → length r.active_buses ≡ limit → Holds r.n_buses r.active_buses ys
+  -- the rows that `copy_to` may copy
+  pub matrix-holds : reading_refusal 2 r ys (length os) ≡ 0 → length r.active_buses ≡ limit → Holds r ys
   matrix-holds e long = reading-holds 2 r ys (length os) (reading-shaped 2 r ys (length os) e) long
 
   pub matrix-same : reading_refusal 2 r ys (length os) ≡ 0 → length os ≡ length ys
@@ -57,31 +58,12 @@ module _ (r : KronReducer) (ys os : List Float) where
 
   pub matrix-done : (e : reading_refusal 2 r ys (length os) ≡ 0) → length r.active_buses ≡ limit → (zs : List Float)
       → zs ≡ take (2 * (r.n_buses * r.n_buses)) ys ++ zeros (length ys - 2 * (r.n_buses * r.n_buses))
-      → (Done ≡ (after_matrix r ys os).answer) × (zs ≡ (after_matrix r ys os).out)
-  unfolding after_matrix outcome
+      → (Ok tt ≡ (after_matrix r ys os).answer) × (zs ≡ (after_matrix r ys os).out)
+  unfolding after_matrix answered
   matrix-done e long zs filled = rw e (refl, filled ∙ rows_of)
     where
-      h : Holds r.n_buses r.active_buses ys
+      h : Holds r ys
       h = matrix-holds e long
 
       rows_of : take (2 * (r.n_buses * r.n_buses)) ys ++ zeros (length ys - 2 * (r.n_buses * r.n_buses)) ≡ row_major (2 * (r.made * r.made)) (active_of r) (state_of r ys).entries
       rows_of = stored-now r ys (shaped-has r ys 0 (reading-accepted 2 r ys (length os) (reading-shaped 2 r ys (length os) e)).1).slice h
-
--- the front of os becomes that of ys, the rest +0
-pub front-cleared : (a w : ℕ) (ys os zs cs : List Float) → w ≡ a → a ≤ length ys → length os ≡ length ys → zs ≡ take w ys
-    → cs ≡ zeros (length (take (length os - a) (drop a (zs ++ drop w os)))) → back a (length os - a) (zs ++ drop w os) cs ≡ take a ys ++ zeros (length ys - a)
-front-cleared a w ys os zs cs e fits same filled cleared =
-    back_end a (length os) mid cs long
-    ∙ ap₂ (λ (x y : List Float). x ++ y) (take_at zs (drop w os) a short ∙ filled ∙ ap (λ (w : ℕ). take w ys) e) (cleared ∙ ap zeros rest)
-  where
-    mid : List Float
-    mid = zs ++ drop w os
-
-    short : length zs ≡ a
-    short = ap length filled ∙ ap (λ (w : ℕ). length (take w ys)) e ∙ length-take-le a ys fits
-
-    long : length (zs ++ drop w os) ≡ length os
-    long = simp (length-append, length-drop) (omega (arith, short, e))
-
-    rest : length (take (length os - a) (drop a (zs ++ drop w os))) ≡ length ys - a
-    rest = length-take-le (length os - a) (drop a (zs ++ drop w os)) (rw (length-drop, long) (le_refl (length os - a))) ∙ ap (λ (n : ℕ). n - a) same

@@ -9,8 +9,9 @@ use Rattle.complex.proofs.Entries.{entry-append-left}
 use Rattle.complex.proofs.Matrices.{length-zeros, length-rows, entry-rows, grid-ext, entry-within}
 use Rattle.lists.proofs.Order.{length-up_to}
 use Rattle.binary64.specs.Values.{all_finite}
-use Rattle.refusals.specs.Refusals.{limit, too_many}
-use Rattle.refusals.proofs.Numbers.{given-all, given-before}
+use Rattle.refusals.specs.Refusals.{limit, too_many, then_given}
+use Rattle.refusals.proofs.Answering.{accepted, none}
+use Rattle.refusals.proofs.Numbers.{given-all}
 use Rattle.kron_reduction.specs.declared.KronReducer.{KronReducer}
 use Rattle.kron_reduction.specs.Kron.{State, eliminate, carried_out, stopped_by}
 use Rattle.kron_reduction.specs.Reducer.{padded, record_of, active_of, numbers_of, sound_rows, sound_numbers, sound, input_shape_refusal, present, input_refusal, state_of, row_major, stored, leaves, rows_of, removed_rows, removals_refusal}
@@ -29,12 +30,10 @@ behind-record_of : (n : ℕ) (ns : List ℕ) → length ns ≡ n → drop n (pad
 behind-record_of n ns e = ap (λ (m : ℕ). drop m (padded ns)) (sym e) ∙ drop-append_seam ns (replicate (limit - length ns) 0)
 
 pub all-zero-replicate : (n : ℕ) → T (all_zero (replicate n 0))
-unfolding all_zero
 all-zero-replicate zero = tt
 all-zero-replicate (suc n) = all-zero-replicate n
 
 pub all-zero-is : (xs : List ℕ) → T (all_zero xs) → xs ≡ replicate (length xs) 0
-unfolding all_zero
 all-zero-is [] h = refl
 all-zero-is (x ∷ xs) h =
     let e = eqb→eq x 0 (and_l (eqb x 0) (all_zero xs) h) in
@@ -152,7 +151,7 @@ module _ (n : ℕ) (ns : List ℕ) (s : State) (small : n ≤ limit) (many : len
   pub input-stored : FiniteIn s → (l : ℕ) → l ≤ limit → input_refusal (stored n ns s).rec (stored n ns s).slice l ≡ 0
   unfolding input_refusal
   input-stored fine l h =
-      sym (given-all 0 _ (present (stored n ns s).rec (stored n ns s).slice) (sym (shape-stored l h)) refl (ap all_finite present-stored ∙ is_true (all_finite (rows s.entries s.active s.active)) (rows-finite s fine)))
+      (accepted (tt {0}) (tt {0}) _ tt (given-all (tt {0}) (tt {0}) _ (present (stored n ns s).rec (stored n ns s).slice) tt (none (tt {0}) _ (shape-stored l h)) (ap all_finite present-stored ∙ is_true (all_finite (rows s.entries s.active s.active)) (rows-finite s fine)))).0
 
   -- it is read back as that state, as far as its buses are active
   pub state-stored : Agree s (state_of (stored n ns s).rec (stored n ns s).slice)
@@ -194,8 +193,8 @@ unfolding input_shape_refusal
 shape-long r ys l h = rw (lt-ltb limit l h, or-true (ltb limit r.made))
 
 pub input-long : (r : KronReducer) (ys : List Float) (l : ℕ) → limit < l → input_refusal r ys l ≡ too_many
-unfolding input_refusal
-input-long r ys l h = sym (given-before too_many _ (present r ys) (sym (shape-long r ys l h)) (λ (z : ◌≡◌ {A = ℕ} 1 0). absurd (omega arith)))
+unfolding input_refusal then_given
+input-long r ys l h = rw (shape-long r ys l h)
 
 pub removable-long : (r : KronReducer) (ys : List Float) (ks : List ℕ) → limit < length ks → removed_rows r ys ks ≡ []
 unfolding removed_rows

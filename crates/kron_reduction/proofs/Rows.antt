@@ -1,4 +1,7 @@
 -- The refusal of a removal, told of the n rows at the front of a slice, and the same of the state that they hold.
+use Rattle.std.proofs.Common.{Ok, Err}
+use Rattle.refusals.specs.declared.Refusal.TheVariants.{SmallEntry, ComputedNotFinite}
+use Rattle.refusals.proofs.Answering.{refused-by, none}
 use Rattle.prelude.proofs.Prelude.{◌≡◌, refl, sym, ap, ◌∙◌, subst, Bool, true, false, cond, List, [], ◌∷◌, inl, inr, ℕ, ◌*◌, ◌≤◌, ◌<◌, T, length, get_or, take, Float, finite, ap₂, is_true, lt}
 use Rattle.binary64.specs.Values.{all_finite}
 use Rattle.complex.specs.{Matrix, entry_at, division_limit, sqmag, too_small}
@@ -6,7 +9,7 @@ use Rattle.complex.specs.Inner.Ordinary.{ordinary_square, all_ordinary}
 use Rattle.complex.proofs.Sticky.{same_test}
 use Rattle.lists.specs.Buses.{mem, ◌is_one_of◌, up_to, others, place, rising}
 use Rattle.lists.proofs.Buses.{failed, in_head, in_tail, in-cases, stays, get_or-in, place-lt, get_or-place, place-get_or, below-up_to, in-up_to}
-use Rattle.refusals.specs.Refusals.{small_entry, computed_not_finite}
+use Rattle.refusals.specs.Refusals.{outcome}
 use Rattle.kron_reduction.specs.Kron.{kron, State, start, of_new_entry, of_removal, removal_refusal}
 use Rattle.kron_reduction.specs.Inner.Removal.{of_entry, Fine}
 use Rattle.kron_reduction.specs.Reducer.{state_in}
@@ -50,22 +53,22 @@ module _ (n : ℕ) (Y : Matrix) (k : ℕ) (l : k < n) where
       let (b, q) = other-than j k (up_to n) y in
       h i (below-up_to n i a) j (below-up_to n j b) p q)
 
-  pub row_small : lt (sqmag (Y k k)) division_limit ≡ true → small_entry ≡ removal_refusal (start n Y) k
-  row_small small = sym (refusal_is (start n Y) k ∙ rw (active, small))
+  pub row_small : lt (sqmag (Y k k)) division_limit ≡ true → Err SmallEntry ≡ outcome (removal_refusal (start n Y) k)
+  row_small small = refused-by (tt {0}) SmallEntry _ (refusal_is (start n Y) k ∙ rw (active, small))
 
   module _ (big : lt (sqmag (Y k k)) division_limit ≡ false) where
-    pub row_done : T (all_finite (of_removal (start n Y) k)) → 0 ≡ removal_refusal (start n Y) k
-    row_done h = sym (refusal_is (start n Y) k ∙ rw (active, big, is_true (all_finite (of_removal (start n Y) k)) h))
+    pub row_done : T (all_finite (of_removal (start n Y) k)) → Ok tt ≡ outcome (removal_refusal (start n Y) k)
+    row_done h = none (tt {0}) _ (refusal_is (start n Y) k ∙ rw (active, big, is_true (all_finite (of_removal (start n Y) k)) h))
 
-    pub row-not : (T (all_finite (of_removal (start n Y) k)) → ⊥) → computed_not_finite ≡ removal_refusal (start n Y) k
-    row-not h = sym (refusal_is (start n Y) k ∙ rw (active, big, failed (all_finite (of_removal (start n Y) k)) h))
+    pub row-not : (T (all_finite (of_removal (start n Y) k)) → ⊥) → Err ComputedNotFinite ≡ outcome (removal_refusal (start n Y) k)
+    row-not h = refused-by (tt {0}) ComputedNotFinite _ (refusal_is (start n Y) k ∙ rw (active, big, failed (all_finite (of_removal (start n Y) k)) h))
 
-    pub row-square : finite (sqmag (Y k k)) ≡ false → computed_not_finite ≡ removal_refusal (start n Y) k
+    pub row-square : finite (sqmag (Y k k)) ≡ false → Err ComputedNotFinite ≡ outcome (removal_refusal (start n Y) k)
     row-square e = row-not (λ (h : T (all_finite (of_removal (start n Y) k))). subst T e (removal-square (start n Y) k h))
 
 -- rows of ordinary size, and a divisor that is not small
 pub row-ordinary : (n : ℕ) (ys : List Float) (k : ℕ) → k < n → 2 * (n * n) ≤ length ys → T (all_ordinary (take (2 * (n * n)) ys))
-    → lt (sqmag (entry_at n ys k k)) division_limit ≡ false → lt (sqmag (entry_at n ys k k)) ordinary_square ≡ false → 0 ≡ removal_refusal (start n (entry_at n ys)) k
+    → lt (sqmag (entry_at n ys k k)) division_limit ≡ false → lt (sqmag (entry_at n ys k k)) ordinary_square ≡ false → Ok tt ≡ outcome (removal_refusal (start n (entry_at n ys)) k)
 row-ordinary n ys k l fits all big far =
     row_done n (entry_at n ys) k l big
     (fine-all n (entry_at n ys) k l (ordinary-square n ys k l fits all big far)

@@ -1,58 +1,41 @@
 -- What the careful pass tells: of an entry by what its operations answer, of a row and of all rows by what its loop has passed.
-use Rattle.prelude.proofs.Prelude.{◌≡◌, sym, ap, ◌∙◌, subst, Bool, true, false, ◌&&◌, ◌++◌, ℕ, ◌+◌, ◌≤◌, ◌<◌, arith, T}
+use Rattle.std.proofs.Common.{Option, Some, None, is_some}
+use Rattle.prelude.proofs.Prelude.{cond, List, Float, ◌≡◌, refl, sym, ap, subst, Bool, true, false, ℕ, ◌+◌, ◌≤◌, ◌<◌, arith, T}
 use borrow.Author.Count.{below_more}
 use Rattle.binary64.specs.Values.{all_finite}
-use Rattle.complex.specs.declared.Pair.TheVariants.{Finite, NotFinite}
-use Rattle.complex.specs.{Complex, Matrix, csub, cmul, cdiv, of_difference, of_product, of_quotient}
-use Rattle.complex.specs.Leaves.{product, quotient, difference}
-use Rattle.complex.proofs.Answers.{pair-tells, pair-tells-not}
-use Rattle.complex.proofs.Finite.{all_both}
+use Rattle.complex.specs.{Complex, Matrix, cmul, cdiv, of_product, of_quotient}
+use Rattle.complex.specs.Leaves.{pair, product, quotient, difference, passing}
+use Rattle.complex.proofs.LeafSteps.{passes_on}
 use Rattle.kron_reduction.specs.Kron.{new_entry, kron}
 use Rattle.kron_reduction.specs.Inner.Removal.{of_entry, Tells, Fine}
 
+-- ---- an operation's answer that is passed on
+
+pub passed-none : (o : Option Complex) (next : Complex → Option Complex) → None ≡ o → None ≡ passing o next
+unfolding passing
+passed-none o next e = ap (λ (o : Option Complex). passing o next) e
+
+pub passed-some : (o : Option Complex) (next : Complex → Option Complex) (c : Complex) → Some c ≡ o → next c ≡ passing o next
+unfolding passing
+passed-some o next c e = ap (λ (o : Option Complex). passing o next) e
+
 -- ---- an entry
 
-module _ (ij ik kj kk : Complex) where
-  three : all_finite (of_entry ij ik kj kk) ≡ (all_finite (of_product ik kj) && all_finite (of_quotient (cmul ik kj) kk) && all_finite (of_difference ij (cdiv (cmul ik kj) kk)))
-  unfolding new_entry
-  three =
-      all_both (of_product ik kj ++ of_quotient (cmul ik kj) kk) (of_difference ij (cdiv (cmul ik kj) kk))
-      ∙ ap (λ (b : Bool). b && all_finite (of_difference ij (cdiv (cmul ik kj) kk))) (all_both (of_product ik kj) (of_quotient (cmul ik kj) kk))
+-- what its operations answer is passed on
+pub entry-passed : (ij ik kj kk : Complex) → passing (product ik kj) (λ (p : Complex). passing (quotient p kk) (λ (q : Complex). difference ij q)) ≡ pair (of_entry ij ik kj kk) (new_entry ij ik kj kk)
+unfolding product quotient difference new_entry
+entry-passed ij ik kj kk =
+    let p = cmul ik kj in
+    passes_on (of_product ik kj) p _ _ _ (passes_on (of_quotient p kk) (cdiv p kk) _ _ _ refl)
 
-  pub entry-no-product : NotFinite ≡ product ik kj → false ≡ all_finite (of_entry ij ik kj kk)
-  unfolding product
-  entry-no-product e = sym (three ∙ rw (pair-tells-not (of_product ik kj) (cmul ik kj) e))
-
-  module _ (p : Complex) (had : Finite p ≡ product ik kj) where
-    one : (all_finite (of_product ik kj) ≡ true) × (p ≡ cmul ik kj)
-    unfolding product
-    one = pair-tells (of_product ik kj) (cmul ik kj) p had
-
-    pub entry-no-quotient : NotFinite ≡ quotient p kk → false ≡ all_finite (of_entry ij ik kj kk)
-    unfolding quotient
-    entry-no-quotient e =
-        let q : all_finite (of_quotient (cmul ik kj) kk) ≡ false = ap (λ (c : Complex). all_finite (of_quotient c kk)) (sym one.1) ∙ pair-tells-not (of_quotient p kk) (cdiv p kk) e in
-        sym (three ∙ rw (one.0, q))
-
-    module _ (q : Complex) (got : Finite q ≡ quotient p kk) where
-      two : (all_finite (of_quotient (cmul ik kj) kk) ≡ true) × (q ≡ cdiv (cmul ik kj) kk)
-      unfolding quotient
-      two =
-          let (a, b) = pair-tells (of_quotient p kk) (cdiv p kk) q got in
-          (ap (λ (c : Complex). all_finite (of_quotient c kk)) (sym one.1) ∙ a, b ∙ ap (λ (c : Complex). cdiv c kk) one.1)
-
-      last : (b : Bool) → all_finite (of_difference ij q) ≡ b → b ≡ all_finite (of_entry ij ik kj kk)
-      last b e =
-          let d : all_finite (of_difference ij (cdiv (cmul ik kj) kk)) ≡ b = ap (λ (c : Complex). all_finite (of_difference ij c)) (sym two.1) ∙ e in
-          sym (three ∙ rw (one.0, two.0, d))
-
-      pub entry-no-difference : NotFinite ≡ difference ij q → false ≡ all_finite (of_entry ij ik kj kk)
-      unfolding difference
-      entry-no-difference e = last false (pair-tells-not (of_difference ij q) (csub ij q) e)
-
-      pub entry-all : (d : Complex) → Finite d ≡ difference ij q → true ≡ all_finite (of_entry ij ik kj kk)
-      unfolding difference
-      entry-all d e = last true (pair-tells (of_difference ij q) (csub ij q) d e).0
+-- whether it is answered
+pub pair-told : (xs : List Float) (c : Complex) → is_some (pair xs c) ≡ all_finite xs
+unfolding pair
+pair-told xs c = go (all_finite xs)
+  where
+    go : (b : Bool) → is_some (cond b (Some c) None) ≡ b
+    go true = refl
+    go false = refl
 
 -- the same of the entries that the code reads
 pub same_numbers : (a b c d a' b' c' d' : Complex) → a ≡ a' → b ≡ b' → c ≡ c' → d ≡ d' → all_finite (of_entry a b c d) ≡ all_finite (of_entry a' b' c' d')

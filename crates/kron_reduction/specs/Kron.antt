@@ -1,10 +1,8 @@
 -- Kron's formula, and the removal of buses by it. A bus is its row in the matrix at making, here and below every call.
-use Rattle.std.specs.Prelude.{ℕ, ◌≡◌, Bool, not, cond, List, [], ◌∷◌, ◌++◌, T, eqb, Float}
+use Rattle.std.specs.Prelude.{ℕ, ◌≡◌, Bool, not, cond, List, [], ◌∷◌, ◌++◌, T, eqb, Float, Option, Some, None}
 use Rattle.std.specs.Float.Ieee.Scale.{finite}
 use Rattle.binary64.specs.Values.{all_finite}
 use Rattle.complex.specs.declared.Complex.{Complex}
-use Rattle.complex.specs.declared.Pair.{Pair}
-use Rattle.complex.specs.declared.Pair.TheVariants.{Finite, NotFinite}
 use Rattle.complex.specs.Arithmetic.{csub, cmul, cdiv, sqmag, too_small}
 use Rattle.complex.specs.Computed.{of_parts, of_product, of_sqmag, of_quotient}
 use Rattle.complex.specs.Leaves.{pair, product, quotient, difference, passing}
@@ -96,7 +94,7 @@ abbrev pub MetInOrder : Type 0
 MetInOrder = (s : State) (k : ℕ) → removal_refusal s k ≡ cond (mem k s.active) (work_refusal Unlimited (steps_of_removal s k)) not_active
 
 -- the new entry in row i and column j by the operations that answer a finite number or none, each behind the one before
-unfoldable pub entry_answer : ℕ → Matrix → ℕ → ℕ → Pair
+unfoldable pub entry_answer : ℕ → Matrix → ℕ → ℕ → Option Complex
 unfolding product quotient difference passing
 entry_answer k Y i j =
     passing (product (Y i k) (Y k j)) (λ (p : Complex). passing (quotient p (Y k k)) (λ (q : Complex). difference (Y i j) q))
@@ -107,8 +105,8 @@ pub record PassedOn : Type 0 where
   pub entry : (k : ℕ) (Y : Matrix) (i j : ℕ) → entry_answer k Y i j ≡ pair (of_new_entry k Y i j) (kron k Y i j)
   -- of a removal that is carried out every entry is answered
   pub answered : (s : State) (k : ℕ) → T (accepts s k) → (i j : ℕ) → i is_one_of (remove s k).active → j is_one_of (remove s k).active
-      → entry_answer k s.entries i j ≡ Finite ((remove s k).entries i j)
+      → entry_answer k s.entries i j ≡ Some ((remove s k).entries i j)
   -- and one of an active bus, whose own entry's square is finite and not too small, is carried out where none is answered "not finite"
   pub carries-out : (s : State) (k : ℕ) → k is_one_of s.active → T (not (too_small (s.entries k k))) → T (finite (sqmag (s.entries k k)))
-      → ((i j : ℕ) → i is_one_of (remove s k).active → j is_one_of (remove s k).active → entry_answer k s.entries i j ≡ NotFinite → ⊥)
+      → ((i j : ℕ) → i is_one_of (remove s k).active → j is_one_of (remove s k).active → entry_answer k s.entries i j ≡ None → ⊥)
       → T (accepts s k)

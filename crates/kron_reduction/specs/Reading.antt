@@ -1,5 +1,5 @@
 -- What `reduced_matrix`, `active_buses` and `thevenin_impedance` answer and leave, for every record and slice.
-use Rattle.std.specs.Prelude.{ℕ, zero, suc, ◌*◌, ◌-◌, ◌≡◌, not, cond, List, ◌++◌, map, eqb, ltb, length, get_or, replicate, Float}
+use Rattle.std.specs.Prelude.{ℕ, ◌*◌, ◌-◌, ◌≡◌, not, cond, List, ◌++◌, map, eqb, ltb, length, get_or, replicate, Float, Result}
 use Rattle.std.specs.Float.{binary64}
 use Rattle.std.specs.Float.Ieee.{of_bits}
 use Rattle.complex.specs.declared.Complex.{Complex}
@@ -8,15 +8,13 @@ use Rattle.complex.specs.Arithmetic.{cadd, csub, cmul}
 use Rattle.complex.specs.Computed.{of_sum, of_difference, of_product}
 use Rattle.complex.specs.Leaves.{pair, sum, difference, product, passing}
 use Rattle.complex.specs.Matrices.{Matrix, entry_at, zeros}
-use Rattle.refusals.specs.declared.Outcome.{Outcome}
-use Rattle.refusals.specs.Refusals.{limit, too_many, wrong_length, bad_record, not_active, refuse, then_given, outcome}
+use Rattle.refusals.specs.declared.Refusal.{Refusal}
+use Rattle.refusals.specs.Refusals.{limit, too_many, wrong_length, bad_record, not_active, refuse, then_given, answered, outcome}
 use Rattle.refusals.specs.declared.Allowance.TheVariants.{Unlimited}
 use Rattle.refusals.specs.Work.{Step, computing, then_work}
 use Rattle.solver.specs.Solving.{inverse}
 use Rattle.solver.specs.Steps.{steps_of_inverse}
 use Rattle.kron_reduction.specs.declared.KronReducer.{KronReducer}
-use Rattle.kron_reduction.specs.declared.Impedance.{Impedance}
-use Rattle.kron_reduction.specs.declared.Impedance.TheVariants.{Value, Refused}
 use Rattle.lists.specs.Buses.{mem, place}
 use Rattle.kron_reduction.specs.Reducer.{active_of, row_of, sound, input_shape_refusal, present, state_of, row_major}
 
@@ -34,7 +32,7 @@ reading_refusal per r ys m = then_given (reading_shape_refusal per r ys m) (pres
 -- ---- the present matrix
 
 pub record AfterMatrix : Type 0 where
-  pub answer : Outcome
+  pub answer : Result (Unit {0}) Refusal
   pub out : List Float
 
 -- the present rows, +0 behind; where refused the output as it was
@@ -57,7 +55,7 @@ active_refusal r m =
     (refuse (not (sound r)) bad_record 0))
 
 pub record AfterActive : Type 0 where
-  pub answer : Outcome
+  pub answer : Result (Unit {0}) Refusal
   pub buses : List ℕ
 
 -- the number of each present row's bus, 0 behind; where refused the output as it was
@@ -77,16 +75,6 @@ unfoldable pub thevenin_of : Matrix → ℕ → ℕ → Complex
 unfolding two plus0
 thevenin_of Z p q = csub (cadd (Z p p) (Z q q)) (cmul (record { re = two; im = plus0 }) (Z p q))
 
--- the answer of a call with this refusal
-unfoldable pub impedance : ℕ → Complex → Impedance
-impedance zero z = Value z
-impedance (suc k) z = Refused (suc k)
-
--- the number of an answer
-unfoldable pub impedance_number : Impedance → ℕ
-impedance_number (Value z) = 0
-impedance_number (Refused k) = k
-
 -- the numbers that it computes
 unfoldable pub of_thevenin : Matrix → ℕ → ℕ → List Float
 unfolding two plus0
@@ -105,7 +93,7 @@ unfoldable pub impedance_told : ℕ → List ℕ → ℕ → ℕ → ℕ
 impedance_told input xs i j = cond (eqb input 0) (refuse (not (mem i xs)) not_active (refuse (not (mem j xs)) not_active 0)) input
 
 pub record AfterImpedance : Type 0 where
-  pub answer : Impedance
+  pub answer : Result Complex Refusal
   pub work : List Float
 
 -- between the buses numbered a and b: refused before the work, else with 13 or 20 as the work meets them. The work slice is +0 unless
@@ -120,7 +108,7 @@ after_impedance r ys a b ws =
     let p = place (row_of r a) xs in
     let q = place (row_of r b) xs in
     record {
-      answer = impedance (then_work told Unlimited (steps_of_impedance n Y p q)) (thevenin_of (inverse n Y) p q);
+      answer = answered (thevenin_of (inverse n Y) p q) (then_work told Unlimited (steps_of_impedance n Y p q));
       work = cond (eqb told 0) (zeros (length ws)) ws;
     }
 

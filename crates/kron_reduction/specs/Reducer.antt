@@ -1,11 +1,12 @@
 -- What `new`, `eliminate_bus` and `eliminate_buses` answer and leave, for every record and slice. The contracts are these definitions.
 use Rattle.std.specs.Prelude.{ℕ, ◌*◌, ◌-◌}
-use Rattle.std.specs.Prelude.{Bool, not, ◌&&◌, ◌||◌, cond, List, [], ◌∷◌, ◌++◌, T, eqb, leb, ltb, length, take, drop, replicate, Float}
+use Rattle.std.specs.Prelude.{Float, Result}
+use Rattle.std.specs.Prelude.{Bool, not, ◌&&◌, ◌||◌, cond, List, [], ◌∷◌, ◌++◌, T, eqb, leb, ltb, length, take, drop, replicate}
 use Rattle.complex.specs.Matrices.{Matrix, entry_at, rows, zeros}
 use Rattle.lists.specs.Buses.{up_to, rising, all_below, all_zero, place, repeats, rows_in}
-use Rattle.refusals.specs.Refusals.{limit, too_many, wrong_length, bus_twice, bad_record, refuse, then_given, outcome}
+use Rattle.refusals.specs.Refusals.{limit, too_many, wrong_length, bus_twice, bad_record, refuse, then_given, answered, outcome}
+use Rattle.refusals.specs.declared.Refusal.{Refusal}
 use Rattle.kron_reduction.specs.declared.KronReducer.{KronReducer}
-use Rattle.kron_reduction.specs.declared.NewReducer.{NewReducer}
 use Rattle.kron_reduction.specs.declared.AfterRemoval.{AfterRemoval}
 use Rattle.kron_reduction.specs.declared.AfterRemovals.{AfterRemovals}
 use Rattle.kron_reduction.specs.Kron.{State, eliminate, carried_out, stopped_by}
@@ -49,10 +50,14 @@ reducer_of m n xs ns = record { made = m; n_buses = n; active_buses = xs; number
 abbrev pub record_of : ℕ → List ℕ → List ℕ → KronReducer
 record_of n ns xs = reducer_of n (length xs) (padded xs) (padded ns)
 
-unfoldable pub after_new : ReducerInput → NewReducer
-after_new M =
-    let f = making_refusal M in
-    record { answer = outcome f; rec = cond (eqb f 0) (record_of M.size M.numbers (up_to M.size)) (record_of 0 [] []) }
+-- what a making answers: the record of its buses, all active, or its refusal
+unfoldable pub after_new : ReducerInput → Result KronReducer Refusal
+unfolding answered
+after_new M = answered (record_of M.size M.numbers (up_to M.size)) (making_refusal M)
+
+-- the record that removals after a making begin with: where that is refused, one of no bus
+unfoldable pub made : ReducerInput → KronReducer
+made M = cond (eqb (making_refusal M) 0) (record_of M.size M.numbers (up_to M.size)) (record_of 0 [] [])
 
 -- ---- a record and its slice
 

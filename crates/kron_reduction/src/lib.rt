@@ -9,24 +9,21 @@ ghost use Rattle.complex.specs.Matrices.{zeros};
 ghost use Rattle.lists.specs.Buses.{up_to, found_in};
 ghost use Rattle.refusals.specs.Refusals.{limit, outcome};
 ghost use Rattle.kron_reduction.specs.Reducer.{padded, reducer_input_of, making_shape_refusal, making_refusal, record_of, after_new};
-ghost use Rattle.kron_reduction.specs.Reducer.{reducer_of, active_of, sound_rows, sound_numbers, sound, input_shape_refusal, input_refusal};
+ghost use Rattle.kron_reduction.specs.Reducer.{active_of, sound_rows, sound_numbers, sound, input_shape_refusal, present, input_refusal};
 ghost use Rattle.kron_reduction.specs.Reducer.{row_of, removals_of, after_bus, after_buses};
-ghost use Rattle.kron_reduction.specs.Reading.{impedance_number, reading_shape_refusal, reading_refusal, after_matrix};
+ghost use Rattle.kron_reduction.specs.Reading.{reading_shape_refusal, reading_refusal, after_matrix};
 ghost use Rattle.kron_reduction.specs.Reading.{active_numbers, active_refusal};
 ghost use Rattle.kron_reduction.specs.Reading.{after_active, after_impedance};
 
-use crate::careful::{front_finite, front_ordinary};
-use crate::removal::{Ran, all_zero, find_bus, in_order, remove_list};
+use crate::careful::Front;
+use crate::removal::{find_bus, in_order};
 use crate::thevenin::impedance_between;
 use binary64::finite::all_finite;
 use complex::Complex;
 use complex::slices::clear;
-use lists::Found;
-use lists::numbers::{all_zero as all_zero_numbers, find, repeats, rows_of};
-use refusals::{
-    BAD_RECORD, BUS_TWICE, GIVEN_NOT_FINITE, LIMIT, NOT_ACTIVE, Outcome, TOO_MANY, WRONG_LENGTH,
-};
-use solver::rows::copy;
+use lists::checks::{all_are, repeats};
+use lists::numbers::{find, rows_of};
+use refusals::{LIMIT, Refusal};
 
 mod careful;
 mod removal;
@@ -36,6 +33,7 @@ const ROW: usize = 2 * LIMIT;
 
 // The size at making, the present size, the active buses by their rows at making, rising, and the number of each row at making;
 // 0 in the places behind both. Only here a bus is a row: the calls and their answers, `active_buses` too, name it by number.
+// Arrays with their lengths beside them: fixed memory, and the bytes that the C interface hands out hold them so.
 #[derive(Clone, Copy)]
 pub struct KronReducer {
     pub made: usize,
@@ -44,23 +42,17 @@ pub struct KronReducer {
     pub numbers: [u32; LIMIT],
 }
 
-#[derive(Clone, Copy)]
-pub struct NewReducer {
-    pub answer: Outcome,
-    pub rec: KronReducer,
-}
-
-// What the removal of one bus answers, and the record after it.
+// What the removal of one bus answers, and the record after it. A refused one leaves a record too, so the answer stands beside it.
 #[derive(Clone, Copy)]
 pub struct AfterRemoval {
-    pub answer: Outcome,
+    pub answer: Result<(), Refusal>,
     pub rec: KronReducer,
 }
 
-// What a list of removals answers: also how many were carried out.
+// What a list of removals answers: also how many were carried out, which a refused list tells too.
 #[derive(Clone, Copy)]
 pub struct Removals {
-    pub answer: Outcome,
+    pub answer: Result<(), Refusal>,
     pub removed: usize,
 }
 
@@ -70,403 +62,273 @@ pub struct AfterRemovals {
     pub rec: KronReducer,
 }
 
-// The impedance between two buses.
-#[derive(Clone, Copy)]
-pub enum Impedance {
-    Value(Complex),
-    Refused(u32),
-}
-
-// The refusal's number, 0 where there is none.
-pub fn number_of(answer: Impedance) -> u32
-    ensures { result ≡ impedance_number answer }
-{
-    match answer {
-        Impedance::Value(_) => 0,
-        Impedance::Refused(k) => k,
-    }
-}
-
 // ---- making
 
-// The buses 0, 1, .. n - 1, and 0 behind them.
+// The buses 0, 1, .. n - 1, and 0 behind them, in a record's fixed memory.
 fn first_buses(n: usize) -> [u8; LIMIT]
     requires { n ≤ limit }
     ensures { result ≡ padded (up_to n) }
 {
     let mut active = [0; LIMIT];
-    let mut i = 0;
-    while i < n {
+    for i in 0..n {
         active[i] = i as u8;
-        i += 1;
     }
     active
 }
 
-// The numbers, and 0 behind them.
+// The numbers, and 0 behind them, in a record's fixed memory.
 fn in_places(numbers: &[u32]) -> [u32; LIMIT]
     requires { length numbers.now ≤ limit }
     ensures { result ≡ padded numbers.now }
 {
     let mut places = [0; LIMIT];
-    let mut i = 0;
-    while i < numbers.len() {
-        places[i] = numbers[i];
-        i += 1;
-    }
+    places[0..numbers.len()].copy_from_slice(numbers);
     places
 }
 
-// The record of buses with these numbers, all active.
-fn record_of(numbers: &[u32]) -> KronReducer
-    requires { length numbers.now ≤ limit }
-    ensures { result ≡ record_of (length numbers.now) numbers.now (up_to (length numbers.now)) }
+// What size, lengths and numbers tell of a making from a slice of `len` numbers: refused with 1, 2 or 8.
+#[tactic(auto, using(crate::proofs::Look::by), unfolding(crate::specs::Reducer::making_shape_refusal, refusals::specs::Refusals::answered))]
+fn making_shape_refusal(n: usize, len: usize, numbers: &[u32]) -> Result<(), Refusal>
+    ensures { (ys : List Float) → length ys ≡ len → result ≡ outcome (making_shape_refusal (reducer_input_of n ys numbers.now)) }
 {
-    let n = numbers.len();
-    KronReducer {
-        made: n,
-        n_buses: n,
-        active_buses: first_buses(n),
-        numbers: in_places(numbers),
+    if n > LIMIT || numbers.len() > LIMIT {
+        return Err(Refusal::TooMany);
     }
-}
-
-// What size, lengths and numbers tell of a making from a slice of `len` numbers: 1, 2 or 8, or 0.
-fn making_shape_refusal(n: usize, len: usize, numbers: &[u32]) -> u32
-    ensures { (ys : List Float) → length ys ≡ len → result ≡ making_shape_refusal (reducer_input_of n ys numbers.now) }
-{
-    if n > LIMIT {
-        return TOO_MANY;
-    }
-    if numbers.len() > LIMIT {
-        return TOO_MANY;
-    }
-    if len != 2 * (n * n) {
-        return WRONG_LENGTH;
-    }
-    if numbers.len() != n {
-        return WRONG_LENGTH;
+    if len != 2 * (n * n) || numbers.len() != n {
+        return Err(Refusal::WrongLength);
     }
     if repeats(numbers) {
-        return BUS_TWICE;
+        return Err(Refusal::BusTwice);
     }
-    0
+    Ok(())
 }
 
-// The refusals of a making: 1, 2, 8 or 19, or 0.
-fn making_refusal(n: usize, y: &[f64], numbers: &[u32]) -> u32
-    ensures { result ≡ making_refusal (reducer_input_of n y.now numbers.now) }
+// A making is refused with 1, 2, 8 or 19.
+fn making_refusal(n: usize, y: &[f64], numbers: &[u32]) -> Result<(), Refusal>
+    ensures { result ≡ outcome (making_refusal (reducer_input_of n y.now numbers.now)) }
 {
-    let f = making_shape_refusal(n, y.len(), numbers);
-    if f != 0 {
-        return f;
+    making_shape_refusal(n, y.len(), numbers)?;
+    if !all_finite(y) {
+        return Err(Refusal::GivenNotFinite);
     }
-    if all_finite(y) {
-        return 0;
-    }
-    GIVEN_NOT_FINITE
+    Ok(())
 }
 
 impl KronReducer {
-    // y holds n rows of n entries, real then imaginary, and `numbers` the number of each row's bus. Refusals: 1, 2, 8, 19.
-    pub fn new(n: usize, y: &[f64], numbers: &[u32]) -> NewReducer
+    // The record of buses with these numbers, all active.
+    fn of_numbers(numbers: &[u32]) -> KronReducer
+        requires { length numbers.now ≤ limit }
+        ensures { result ≡ record_of (length numbers.now) numbers.now (up_to (length numbers.now)) }
+    {
+        let n = numbers.len();
+        KronReducer {
+            made: n,
+            n_buses: n,
+            active_buses: first_buses(n),
+            numbers: in_places(numbers),
+        }
+    }
+
+    // The record of n buses, all active: y holds n rows of n entries, real then imaginary, in per unit, and `numbers` the number of each
+    // row's bus. Refusals: 1, 2, 8, 19.
+    pub fn new(n: usize, y: &[f64], numbers: &[u32]) -> Result<KronReducer, Refusal>
         ensures { (result ≡ after_new (reducer_input_of n y.now numbers.now)) × F64s y.now }
     {
-        let f = making_refusal(n, y, numbers);
-        if f != 0 {
-            return NewReducer {
-                answer: Outcome::Refused(f),
-                rec: record_of(&numbers[0..0]),
-            };
+        making_refusal(n, y, numbers)?;
+        Ok(KronReducer::of_numbers(numbers))
+    }
+}
+
+// ---- a record and its slice
+
+impl KronReducer {
+    // Whether no number stands twice, with 0 in the places behind.
+    #[tactic(auto, using(crate::proofs::Look::by), unfolding(crate::specs::Reducer::sound_numbers))]
+    fn numbers_sound(&self) -> bool
+        requires { self.now.made ≤ limit }
+        ensures { result ≡ sound_numbers self.now }
+    {
+        !repeats(&self.numbers[0..self.made]) && all_are(&self.numbers[self.made..], 0)
+    }
+
+    // Whether the active rows rise below the size at making and are as many as the present size, with 0 in the places behind.
+    #[tactic(auto, unfolding(crate::specs::Reducer::sound_rows))]
+    fn rows_sound(&self) -> bool
+        ensures { result ≡ sound_rows self.now }
+    {
+        self.n_buses <= LIMIT
+            && in_order(self.made, &self.active_buses[0..self.n_buses])
+            && all_are(&self.active_buses[self.n_buses..], 0)
+    }
+
+    // Whether a record made within the limit is sound, in its rows and in its numbers.
+    fn is_sound(&self) -> bool
+        requires { self.now.made ≤ limit }
+        ensures { result ≡ sound self.now }
+    {
+        self.rows_sound() && self.numbers_sound()
+    }
+
+    // What the record, a slice of `len` numbers and a list of `count` buses tell: refused with 1, 2 or 9.
+    #[tactic(auto, unfolding(crate::specs::Reducer::input_shape_refusal, refusals::specs::Refusals::answered))]
+    fn input_shape_refusal(&self, len: usize, count: usize) -> Result<(), Refusal>
+        ensures { (ys : List Float) → length ys ≡ len → result ≡ outcome (input_shape_refusal self.now ys count) }
+    {
+        let made = self.made;
+        if made > LIMIT || count > LIMIT {
+            return Err(Refusal::TooMany);
         }
-        NewReducer {
-            answer: Outcome::Done,
-            rec: record_of(numbers),
+        if len != 2 * (made * made) {
+            return Err(Refusal::WrongLength);
         }
+        if !self.is_sound() {
+            return Err(Refusal::BadRecord);
+        }
+        Ok(())
     }
 }
 
 // ---- removal
 
-fn answer_of(f: u32) -> Outcome
-    ensures { result ≡ outcome f }
-{
-    if f == 0 {
-        return Outcome::Done;
+impl KronReducer {
+    // A list of removals whose input is accepted. `ordinary` says that the present rows are of ordinary size.
+    fn remove_accepted(&mut self, y: &mut [f64], buses: &[u32], ordinary: bool) -> Removals
+        requires { (input_refusal self.old y.old (length buses.now) ≡ 0)
+            × (T ordinary → T (all_ordinary (present self.old y.old))) }
+        ensures { (result ≡ (after_buses self.old y.old buses.now).out.removals)
+            × (self.new ≡ (after_buses self.old y.old buses.now).out.rec)
+            × (y.new ≡ (after_buses self.old y.old buses.now).slice) }
+    {
+        let count = buses.len();
+        // fixed memory, as no library crate takes any from the heap
+        let mut rows = [0; LIMIT];
+        rows_of(&self.numbers[0..self.made], buses, &mut rows[0..count]);
+        let mut row = [0.0; ROW];
+        let ran = self.remove_list(y, &mut row, &rows[0..count], ordinary);
+        if ran.removed == 0 {
+            return ran;
+        }
+        let m = self.n_buses;
+        let a = 2 * (m * m);
+        let e = y.len();
+        clear(&mut y[a..e]);
+        ran
     }
-    Outcome::Refused(f)
-}
 
-// Whether no number stands twice, with 0 in the places behind.
-fn numbers_sound(made: usize, numbers: &[u32]) -> bool
-    requires { (made ≤ limit) × (length numbers.now ≡ limit) }
-    ensures { result ≡ sound_numbers (reducer_of made 0 [] numbers.now) }
-{
-    if repeats(&numbers[0..made]) {
-        return false;
-    }
-    all_zero_numbers(&numbers[made..LIMIT])
-}
-
-// Whether the active rows rise below the size at making and are as many as the present size, with 0 in the places behind.
-fn rows_sound(made: usize, n: usize, active: &[u8]) -> bool
-    requires { length active.now ≡ limit }
-    ensures { result ≡ sound_rows (reducer_of made n active.now []) }
-{
-    if n > LIMIT {
-        return false;
-    }
-    if !in_order(made, &active[0..n]) {
-        return false;
-    }
-    all_zero(&active[n..LIMIT])
-}
-
-// Whether a record made within the limit is sound, in its rows and in its numbers. Its parts are lent: to hand on a record copies all of
-// it.
-fn is_sound(made: usize, n: usize, active: &[u8], numbers: &[u32]) -> bool
-    requires { (made ≤ limit) × (length active.now ≡ limit) × (length numbers.now ≡ limit) }
-    ensures { result ≡ sound (reducer_of made n active.now numbers.now) }
-{
-    if !rows_sound(made, n, active) {
-        return false;
-    }
-    numbers_sound(made, numbers)
-}
-
-// What the record, a slice of `len` numbers and a list of `count` buses tell: 1, 2 or 9, or 0.
-fn input_shape_refusal(
-    made: usize,
-    n: usize,
-    active: &[u8],
-    numbers: &[u32],
-    len: usize,
-    count: usize,
-) -> u32
-    requires { (length active.now ≡ limit) × (length numbers.now ≡ limit) }
-    ensures { (ys : List Float) → length ys ≡ len
-        → result ≡ input_shape_refusal (reducer_of made n active.now numbers.now) ys count }
-{
-    if made > LIMIT {
-        return TOO_MANY;
-    }
-    if count > LIMIT {
-        return TOO_MANY;
-    }
-    if len != 2 * (made * made) {
-        return WRONG_LENGTH;
-    }
-    if !is_sound(made, n, active, numbers) {
-        return BAD_RECORD;
-    }
-    0
-}
-
-// Whether the numbers of the n rows at the front are finite, as those of ordinary size are.
-fn given_finite(n: usize, y: &[f64], ordinary: bool) -> bool
-    requires { (n ≤ limit) × (2 * (n * n) ≤ length y.now) × (T ordinary → T (all_ordinary (take (2 * (n * n)) y.now))) }
-    ensures { result ≡ all_finite (take (2 * (n * n)) y.now) }
-{
-    if ordinary {
-        return true;
-    }
-    front_finite(n, y)
-}
-
-// A list of removals whose input is accepted, on the record's parts. `ordinary` says that the present rows are of ordinary size.
-fn remove_accepted(
-    made: usize,
-    n: usize,
-    active: &mut [u8],
-    numbers: &[u32],
-    y: &mut [f64],
-    buses: &[u32],
-    ordinary: bool,
-) -> Ran
-    requires { (length active.old ≡ limit) × (length numbers.now ≡ limit)
-        × (input_refusal (reducer_of made n active.old numbers.now) y.old (length buses.now) ≡ 0)
-        × (T ordinary → T (all_ordinary (take (2 * (n * n)) y.old))) }
-    ensures { (result.done ≤ n)
-        × (removals_of result.stopped result.done (reducer_of made (n - result.done) active.new numbers.now)
-        ≡ (after_buses (reducer_of made n active.old numbers.now) y.old buses.now).out)
-        × (y.new ≡ (after_buses (reducer_of made n active.old numbers.now) y.old buses.now
-        ).slice) }
-{
-    let count = buses.len();
-    let mut rows = [0; LIMIT];
-    rows_of(&numbers[0..made], buses, &mut rows[0..count]);
-    let mut row = [0.0; ROW];
-    let ran = remove_list(n, active, y, &mut row, &rows[0..count], ordinary);
-    let done = ran.done;
-    if done == 0 {
-        return ran;
-    }
-    let m = n - done;
-    let a = 2 * (m * m);
-    let e = y.len();
-    clear(&mut y[a..e]);
-    ran
-}
-
-// What a list of removals answers on an input refusal.
-fn none_removed(r: KronReducer, f: u32) -> AfterRemovals
-    ensures { result ≡ removals_of f 0 r }
-{
-    let removals = Removals {
-        answer: answer_of(f),
-        removed: 0,
-    };
-    AfterRemovals {
-        removals: removals,
-        rec: r,
+    // The buses of a list are removed in order, up to the first that is refused.
+    fn remove(&mut self, y: &mut [f64], buses: &[u32]) -> Removals
+        ensures { (result ≡ (after_buses self.old y.old buses.now).out.removals)
+            × (self.new ≡ (after_buses self.old y.old buses.now).out.rec)
+            × (y.new ≡ (after_buses self.old y.old buses.now).slice) }
+    {
+        if let Err(refusal) = self.input_shape_refusal(y.len(), buses.len()) {
+            return Removals {
+                answer: Err(refusal),
+                removed: 0,
+            };
+        }
+        let present = Front { n: self.n_buses, y };
+        let ordinary = present.is_ordinary();
+        if !ordinary && !present.is_finite() {
+            return Removals {
+                answer: Err(Refusal::GivenNotFinite),
+                removed: 0,
+            };
+        }
+        self.remove_accepted(y, buses, ordinary)
     }
 }
 
-// The buses of a list are removed in order, up to the first that is refused. Refusals: 1, 2, 9, 19; then 11, 12 or 20 as the list meets
-// them.
+// The buses of a list are removed from the record and from y, in per unit, in order, up to the first that is refused. Refusals: 1, 2, 9,
+// 19; then 11, 12 or 20 as the list meets them.
 pub fn remove_buses(r: KronReducer, y: &mut [f64], buses: &[u32]) -> AfterRemovals
     ensures { (result ≡ (after_buses r y.old buses.now).out)
         × (y.new ≡ (after_buses r y.old buses.now).slice) }
 {
-    let made = r.made;
-    let n = r.n_buses;
-    let mut active = r.active_buses;
-    let numbers = r.numbers;
-    let f = input_shape_refusal(made, n, &active, &numbers, y.len(), buses.len());
-    if f != 0 {
-        return none_removed(r, f);
-    }
-    let ordinary = front_ordinary(n, y);
-    if !given_finite(n, y, ordinary) {
-        return none_removed(r, GIVEN_NOT_FINITE);
-    }
-    let ran = remove_accepted(made, n, &mut active, &numbers, y, buses, ordinary);
-    let done = ran.done;
-    let removals = Removals {
-        answer: answer_of(ran.stopped),
-        removed: done,
-    };
-    let rec = KronReducer {
-        made: made,
-        n_buses: n - done,
-        active_buses: active,
-        numbers: numbers,
-    };
-    AfterRemovals {
-        removals: removals,
-        rec: rec,
-    }
+    let mut rec = r;
+    let removals = rec.remove(y, buses);
+    AfterRemovals { removals, rec }
 }
 
-// One bus is removed. Refusals: 1, 2, 9, 19; 11; 12 or 20.
+// One bus is removed from the record and from y, in per unit. Refusals: 1, 2, 9, 19; 11; 12 or 20.
 pub fn remove_bus(r: KronReducer, y: &mut [f64], bus: u32) -> AfterRemoval
     ensures { (result ≡ (after_bus r y.old bus).out) × (y.new ≡ (after_bus r y.old bus).slice) }
 {
-    let list = [bus];
-    let out = remove_buses(r, y, &list);
-    let removals = out.removals;
-    let answer = removals.answer;
-    let rec = out.rec;
-    AfterRemoval {
-        answer: answer,
-        rec: rec,
-    }
+    let mut rec = r;
+    let answer = rec.remove(y, &[bus]).answer;
+    AfterRemoval { answer, rec }
 }
 
 // ---- reading
 
-// The present row of the bus with this number, or nothing.
-fn find_number(r: KronReducer, bus: u32) -> Found
-    requires { (r.made ≤ limit) × T (sound r) }
-    ensures { result ≡ found_in (row_of r bus) (active_of r) }
-{
-    let made = r.made;
-    let numbers = r.numbers;
-    let n = r.n_buses;
-    let active = r.active_buses;
-    let Found::At(row) = find(&numbers[0..made], bus) else {
-        return Found::Nothing;
-    };
-    find_bus(&active[0..n], row)
+impl KronReducer {
+    // The present row of the bus with this number, or nothing.
+    fn find_number(&self, bus: u32) -> Option<usize>
+        requires { (self.now.made ≤ limit) × T (sound self.now) }
+        ensures { result ≡ found_in (row_of self.now bus) (active_of self.now) }
+    {
+        let row = find(&self.numbers[0..self.made], bus)?;
+        find_bus(&self.active_buses[0..self.n_buses], row)
+    }
+
+    // What the record, a slice of `len` numbers and a second of m, which must have `per` for each entry at making, tell: refused with 1, 2
+    // or 9.
+    #[tactic(auto, unfolding(crate::specs::Reading::reading_shape_refusal, refusals::specs::Refusals::answered))]
+    fn reading_shape_refusal(&self, len: usize, m: usize, per: usize) -> Result<(), Refusal>
+        requires { per ≤ 4 }
+        ensures { (ys : List Float) → length ys ≡ len → result ≡ outcome (reading_shape_refusal per self.now ys m) }
+    {
+        let made = self.made;
+        if made > LIMIT {
+            return Err(Refusal::TooMany);
+        }
+        if m != per * (made * made) {
+            return Err(Refusal::WrongLength);
+        }
+        self.input_shape_refusal(len, 0)
+    }
+
+    // A call with a second slice of m numbers, which must have `per` for each entry at making, is refused with 1, 2, 9 or 19.
+    fn reading_refusal(&self, y: &[f64], m: usize, per: usize) -> Result<(), Refusal>
+        requires { per ≤ 4 }
+        ensures { result ≡ outcome (reading_refusal per self.now y.now m) }
+    {
+        self.reading_shape_refusal(y.len(), m, per)?;
+        let front = Front { n: self.n_buses, y };
+        if !front.is_finite() {
+            return Err(Refusal::GivenNotFinite);
+        }
+        Ok(())
+    }
+
+    // A call with an output of m bus numbers, one for each row at making, is refused with 1, 2 or 9.
+    #[tactic(auto, unfolding(crate::specs::Reading::active_refusal, refusals::specs::Refusals::answered))]
+    fn active_refusal(&self, m: usize) -> Result<(), Refusal>
+        ensures { result ≡ outcome (active_refusal self.now m) }
+    {
+        if self.made > LIMIT {
+            return Err(Refusal::TooMany);
+        }
+        if m != self.made {
+            return Err(Refusal::WrongLength);
+        }
+        if self.is_sound() {
+            Ok(())
+        } else {
+            Err(Refusal::BadRecord)
+        }
+    }
 }
 
-// What the record, a slice of `len` numbers and a second of m, which must have `per` for each entry at making, tell: 1, 2 or 9, or 0.
-fn reading_shape_refusal(r: KronReducer, len: usize, m: usize, per: usize) -> u32
-    requires { per ≤ 4 }
-    ensures { (ys : List Float) → length ys ≡ len → result ≡ reading_shape_refusal per r ys m }
-{
-    let made = r.made;
-    if made > LIMIT {
-        return TOO_MANY;
-    }
-    if m != per * (made * made) {
-        return WRONG_LENGTH;
-    }
-    let n = r.n_buses;
-    let active = r.active_buses;
-    let numbers = r.numbers;
-    input_shape_refusal(made, n, &active, &numbers, len, 0)
-}
-
-// The input refusals of a call with a second slice of m numbers, which must have `per` for each entry at making: 1, 2, 9 or 19, or 0.
-fn reading_refusal(r: KronReducer, y: &[f64], m: usize, per: usize) -> u32
-    requires { per ≤ 4 }
-    ensures { result ≡ reading_refusal per r y.now m }
-{
-    let f = reading_shape_refusal(r, y.len(), m, per);
-    if f != 0 {
-        return f;
-    }
-    if front_finite(r.n_buses, y) {
-        return 0;
-    }
-    GIVEN_NOT_FINITE
-}
-
-// n rows of n entries of y, and +0 behind them.
-fn copy_rows(n: usize, y: &[f64], out: &mut [f64])
-    requires { (n ≤ limit) × (2 * (n * n) ≤ length y.now) × (length out.old ≡ length y.now) }
-    ensures { out.new ≡ take (2 * (n * n)) y.now ++ zeros (length y.now - 2 * (n * n)) }
-{
-    let a = 2 * (n * n);
-    let e = out.len();
-    copy(&y[0..a], &mut out[0..a]);
-    clear(&mut out[a..e]);
-}
-
-// The present rows of y are copied to `out`, +0 behind. Refusals: 1, 2, 9, 19.
-pub fn reduced_matrix(r: KronReducer, y: &[f64], out: &mut [f64]) -> Outcome
+// The present rows of y, in per unit, are copied to `out`, +0 behind. Refusals: 1, 2, 9, 19.
+pub fn reduced_matrix(r: KronReducer, y: &[f64], out: &mut [f64]) -> Result<(), Refusal>
     ensures { (result ≡ (after_matrix r y.now out.old).answer)
         × (out.new ≡ (after_matrix r y.now out.old).out) }
 {
-    let f = reading_refusal(r, y, out.len(), 2);
-    if f != 0 {
-        return answer_of(f);
-    }
-    let n = r.n_buses;
-    copy_rows(n, y, out);
-    Outcome::Done
-}
-
-// The input refusals of a call with an output of m bus numbers, one for each row at making: 1, 2 or 9, or 0.
-fn active_refusal(r: KronReducer, m: usize) -> u32
-    ensures { result ≡ active_refusal r m }
-{
-    let made = r.made;
-    if made > LIMIT {
-        return TOO_MANY;
-    }
-    if m != made {
-        return WRONG_LENGTH;
-    }
-    let n = r.n_buses;
-    let active = r.active_buses;
-    let numbers = r.numbers;
-    if is_sound(made, n, &active, &numbers) {
-        0
-    } else {
-        BAD_RECORD
-    }
+    r.reading_refusal(y, out.len(), 2)?;
+    let front = Front { n: r.n_buses, y };
+    front.copy_to(out);
+    Ok(())
 }
 
 // The numbers of the active buses, in the order of their rows, and 0 behind them.
@@ -474,42 +336,24 @@ pub fn active_numbers(r: KronReducer) -> [u32; LIMIT]
     requires { (r.made ≤ limit) × T (sound r) }
     ensures { result ≡ padded (active_numbers r) }
 {
-    let n = r.n_buses;
-    let active = r.active_buses;
-    let numbers = r.numbers;
+    // fixed memory, as no library crate takes any from the heap
     let mut list = [0; LIMIT];
-    let mut i = 0;
-    while i < n {
-        let row = active[i] as usize;
-        list[i] = numbers[row];
-        i += 1;
+    for i in 0..r.n_buses {
+        let row = r.active_buses[i] as usize;
+        list[i] = r.numbers[row];
     }
     list
 }
 
-// The first places of a list, as many as `out` has.
-fn copy_places(places: &[u32], out: &mut [u32])
-    requires { length out.old ≤ length places.now }
-    ensures { out.new ≡ take (length out.old) places.now }
-{
-    let mut i = 0;
-    while i < out.len() {
-        out[i] = places[i];
-        i += 1;
-    }
-}
-
 // The number of each present row's bus, in order, in `out`, 0 behind. Refusals: 1, 2, 9.
-pub fn active_buses(r: KronReducer, out: &mut [u32]) -> Outcome
+pub fn active_buses(r: KronReducer, out: &mut [u32]) -> Result<(), Refusal>
     ensures { (result ≡ (after_active r out.old).answer) × (out.new ≡ (after_active r out.old).buses) }
 {
-    let f = active_refusal(r, out.len());
-    if f != 0 {
-        return answer_of(f);
-    }
+    r.active_refusal(out.len())?;
     let list = active_numbers(r);
-    copy_places(&list, out);
-    Outcome::Done
+    let count = out.len();
+    out.copy_from_slice(&list[0..count]);
+    Ok(())
 }
 
 // The impedance seen between two buses, in per unit, from the inverse, for which every island needs a shunt to ground: without one 13,
@@ -522,20 +366,17 @@ pub fn thevenin_impedance(
     bus_i: u32,
     bus_j: u32,
     work: &mut [f64],
-) -> Impedance
+) -> Result<Complex, Refusal>
     ensures { (result ≡ (after_impedance r y.now bus_i bus_j work.old).answer)
         × (work.new ≡ (after_impedance r y.now bus_i bus_j work.old).work) }
 {
-    let f = reading_refusal(r, y, work.len(), 4);
-    if f != 0 {
-        return Impedance::Refused(f);
-    }
-    let n = r.n_buses;
-    let Found::At(i) = find_number(r, bus_i) else {
-        return Impedance::Refused(NOT_ACTIVE);
+    r.reading_refusal(y, work.len(), 4)?;
+    let Some(i) = r.find_number(bus_i) else {
+        return Err(Refusal::NotActive);
     };
-    let Found::At(j) = find_number(r, bus_j) else {
-        return Impedance::Refused(NOT_ACTIVE);
+    let Some(j) = r.find_number(bus_j) else {
+        return Err(Refusal::NotActive);
     };
-    impedance_between(n, i, j, y, work)
+    let front = Front { n: r.n_buses, y };
+    impedance_between(&front, i, j, work)
 }

@@ -3,38 +3,24 @@ ghost use Rattle.std.specs.Prelude.{◌≡◌, ◌&&◌, ℕ, ◌+◌, ◌*◌, 
 ghost use Rattle.complex.specs.Entries.{entry};
 ghost use Rattle.complex.specs.Matrices.{entry_at};
 ghost use Rattle.refusals.specs.Refusals.{limit};
-ghost use Rattle.lists.specs.Buses.{found_in, rising, all_below, all_zero};
+ghost use Rattle.lists.specs.Buses.{found_in, rising, all_below};
 ghost use Rattle.kron_reduction.specs.Kron.{new_entry, kron};
 ghost use Rattle.complex.specs.Inner.Ordinary.{all_ordinary};
+ghost use Rattle.kron_reduction.specs.Reducer.{present};
 ghost use Rattle.kron_reduction.specs.Inner.Removal.{old_row, Holds, RemovedOne, RemovedAll};
 
-use crate::careful::{front_ordinary, row_refusal};
+use crate::careful::Front;
+use crate::{KronReducer, Removals};
 use complex::Complex;
 use complex::entry::{get, put};
 use complex::raw::{cdiv, cmul, csub};
-use lists::Found;
-use refusals::NOT_ACTIVE;
-use solver::rows::copy;
-
-// How a list of removals ended: the refusal that stopped it, or 0, and how many were carried out.
-#[derive(Clone, Copy)]
-pub struct Ran {
-    pub stopped: u32,
-    pub done: usize,
-}
+use refusals::Refusal;
 
 // Where a bus stands among the active ones, or nothing. A row is below 256, so a record holds it in a byte.
-pub fn find_bus(active: &[u8], bus: usize) -> Found
+pub fn find_bus(active: &[u8], bus: usize) -> Option<usize>
     ensures { result ≡ found_in bus active.now }
 {
-    let mut i = 0;
-    while i < active.len() {
-        if active[i] as usize == bus {
-            return Found::At(i);
-        }
-        i += 1;
-    }
-    Found::Nothing
+    active.iter().position(|row| *row as usize == bus)
 }
 
 // Whether the buses rise and are all below the size at making.
@@ -42,33 +28,14 @@ pub fn in_order(made: usize, buses: &[u8]) -> bool
     ensures { result ≡ (rising buses.now && all_below made buses.now) }
 {
     let mut low = 0;
-    let mut i = 0;
-    while i < buses.len() {
-        let bus = buses[i] as usize;
-        if bus < low {
-            return false;
-        }
-        if bus >= made {
+    for place in buses {
+        let bus = *place as usize;
+        if bus < low || bus >= made {
             return false;
         }
         low = bus + 1;
-        i += 1;
     }
     true
-}
-
-// Whether every place is 0. The whole list is looked through, without an early end, so that the loop runs on several at once.
-pub fn all_zero(places: &[u8]) -> bool
-    ensures { result ≡ all_zero places.now }
-{
-    let mut zero = true;
-    let mut i = 0;
-    while i < places.len() {
-        let same = places[i] == 0;
-        zero = zero & same;
-        i += 1;
-    }
-    zero
 }
 
 // Of n active buses the one in row k drops out.
@@ -78,11 +45,7 @@ fn close_places(active: &mut [u8], n: usize, k: usize)
         × (get_or active.new (n - 1) 0 ≡ 0)
         × ((p : ℕ) → n ≤ p → get_or active.new p 0 ≡ get_or active.old p 0) }
 {
-    let mut p = k;
-    while p + 1 < n {
-        active[p] = active[p + 1];
-        p += 1;
-    }
+    active.copy_within(k + 1..n, k);
     active[n - 1] = 0;
 }
 
@@ -102,119 +65,124 @@ fn near(x: usize) -> usize
     (x - 1) % 131072 + 1
 }
 
-// The columns first .. end of a row without column k, of the old columns d further on, in place: `s` begins with the new row, the old one
-// `at` entries further on, and far is at + d. Column q is written to place q, and the old columns still to be read stand behind q + far, so
-// nothing unread is overwritten; column k's own entry is read before them all.
-fn reduce_columns(
+// Row k of n, as it stood before the others are reduced by it.
+#[derive(Clone, Copy)]
+struct Pivot<'a> {
+    n: usize,
     k: usize,
-    d: usize,
-    first: usize,
-    end: usize,
-    at: usize,
-    far: usize,
-    s: &mut [f64],
-    row: &[f64],
-)
-    requires { ((q : ℕ) → first ≤ q → q < end → old_row k q ≡ q + d)
-        × (first ≤ end)
-        × (far ≡ at + d)
-        × (2 * (end + far) ≤ length s.old)
-        × (2 * (at + k) + 1 < length s.old)
-        × (2 * (end + d) ≤ length row.now)
-        × (2 * k + 1 < length row.now) }
-    ensures { ((q : ℕ) → first ≤ q → q < end → entry s.new q
-        ≡ new_entry (entry s.old (at + old_row k q)) (entry s.old (at + k)) (entry row.now (old_row k q))
-        (entry row.now k))
-        × ((q : ℕ) → q < first → entry s.new q ≡ entry s.old q)
-        × ((q : ℕ) → end ≤ q → entry s.new q ≡ entry s.old q) }
-{
-    let ik = get(s, at + k);
-    let kk = get(row, k);
-    let mut q = first;
-    while q < end {
-        put(s, q, new_entry(get(s, q + far), ik, get(row, q + d), kk));
-        q += 1;
+    row: &'a [f64],
+    ghost whole: { (n ≤ limit) × (k < n) × (length row.now ≡ 2 * n) },
+}
+
+impl Pivot<'_> {
+    // The columns first .. end of a row without column k, of the old columns d further on, in place: `s` begins with the new row, the old
+    // one `at` entries further on, and far is at + d. Column q is written to place q, and the old columns still to be read stand behind
+    // q + far, so nothing unread is overwritten; column k's own entry is read before them all.
+    fn reduce_columns(
+        &self,
+        d: usize,
+        first: usize,
+        end: usize,
+        at: usize,
+        far: usize,
+        s: &mut [f64],
+    )
+        requires { ((q : ℕ) → first ≤ q → q < end → old_row self.now.k q ≡ q + d)
+            × (first ≤ end)
+            × (end + d ≤ self.now.n)
+            × (far ≡ at + d)
+            × (2 * (end + far) ≤ length s.old)
+            × (2 * (at + self.now.k) + 1 < length s.old) }
+        ensures { ((q : ℕ) → first ≤ q → q < end → entry s.new q
+            ≡ new_entry (entry s.old (at + old_row self.now.k q)) (entry s.old (at + self.now.k))
+            (entry self.now.row.now (old_row self.now.k q)) (entry self.now.row.now self.now.k))
+            × ((q : ℕ) → q < first → entry s.new q ≡ entry s.old q)
+            × ((q : ℕ) → end ≤ q → entry s.new q ≡ entry s.old q) }
+    {
+        let row = self.row;
+        let ik = get(s, at + self.k);
+        let kk = get(row, self.k);
+        for q in first..end {
+            put(s, q, new_entry(get(s, q + far), ik, get(row, q + d), kk));
+        }
     }
-}
 
-// The columns before k. Row 0's stay where they are; they have a call of their own, for `near` is never 0.
-fn left_columns(k: usize, at: usize, s: &mut [f64], row: &[f64])
-    requires { (at ≤ limit * limit) × (2 * (at + k) + 1 < length s.old) × (2 * k + 1 < length row.now) }
-    ensures { ((q : ℕ) → q < k → entry s.new q
-        ≡ new_entry (entry s.old (at + old_row k q)) (entry s.old (at + k)) (entry row.now (old_row k q))
-        (entry row.now k))
-        × ((q : ℕ) → k ≤ q → entry s.new q ≡ entry s.old q) }
-{
-    if at == 0 {
-        reduce_columns(k, 0, 0, k, 0, 0, s, row);
-        return;
+    // The columns before k. Row 0's stay where they are; they have a call of their own, for `near` is never 0.
+    fn left_columns(&self, at: usize, s: &mut [f64])
+        requires { (at ≤ limit * limit) × (2 * (at + self.now.k) + 1 < length s.old) }
+        ensures { ((q : ℕ) → q < self.now.k → entry s.new q
+            ≡ new_entry (entry s.old (at + old_row self.now.k q)) (entry s.old (at + self.now.k))
+            (entry self.now.row.now (old_row self.now.k q)) (entry self.now.row.now self.now.k))
+            × ((q : ℕ) → self.now.k ≤ q → entry s.new q ≡ entry s.old q) }
+    {
+        if at == 0 {
+            self.reduce_columns(0, 0, self.k, 0, 0, s);
+        } else {
+            self.reduce_columns(0, 0, self.k, at, near(at), s);
+        }
     }
-    reduce_columns(k, 0, 0, k, at, near(at), s, row);
-}
 
-// A row of n entries that begins `at` entries into s, reduced by row k, stands without column k at the front of s.
-fn reduce_row(n: usize, k: usize, at: usize, s: &mut [f64], row: &[f64])
-    requires { (k < n) × (at ≤ limit * limit) × (length s.old ≡ 2 * (at + n)) × (length row.now ≡ 2 * n) }
-    ensures { ((q : ℕ) → q < n - 1 → entry s.new q
-        ≡ new_entry (entry s.old (at + old_row k q)) (entry s.old (at + k)) (entry row.now (old_row k q))
-        (entry row.now k))
-        × ((q : ℕ) → n - 1 ≤ q → entry s.new q ≡ entry s.old q) }
-{
-    left_columns(k, at, s, row);
-    reduce_columns(k, 1, k, n - 1, at, near(at + 1), s, row);
-}
-
-// Row i of the n, reduced by row k, becomes row p of the n - 1. The part handed on is from where the new row begins to where the old one
-// ends.
-fn put_row(n: usize, k: usize, i: usize, p: usize, y: &mut [f64], row: &[f64])
-    requires { (n ≤ limit) × (k < n) × (i < n) × (p ≤ i) × (2 * (n * n) ≤ length y.old) × (length row.now ≡ 2 * n) }
-    ensures { ((q : ℕ) → q < n - 1 → entry_at (n - 1) y.new p q
-        ≡ new_entry (entry_at n y.old i (old_row k q)) (entry_at n y.old i k) (entry row.now (old_row k q))
-        (entry row.now k))
-        × ((r q : ℕ) → r < p → q < n - 1 → entry_at (n - 1) y.new r q ≡ entry_at (n - 1) y.old r q)
-        × ((r q : ℕ) → i < r → entry_at n y.new r q ≡ entry_at n y.old r q)
-        × ((t : ℕ) → p * (n - 1) + (n - 1) ≤ t → entry y.new t ≡ entry y.old t) }
-{
-    let b = p * (n - 1);
-    let at = i * n - b;
-    let f = 2 * b;
-    let e = f + 2 * (at + n);
-    reduce_row(n, k, at, &mut y[f..e], row);
-}
-
-// The rows first .. end of the n - 1, of the old rows d further down.
-fn put_rows(n: usize, k: usize, d: usize, first: usize, end: usize, y: &mut [f64], row: &[f64])
-    requires { (n ≤ limit)
-        × (k < n)
-        × (first ≤ end)
-        × (end + d ≤ n)
-        × ((p : ℕ) → first ≤ p → p < end → old_row k p ≡ p + d)
-        × (2 * (n * n) ≤ length y.old)
-        × (length row.now ≡ 2 * n) }
-    ensures { ((r q : ℕ) → first ≤ r → r < end → q < n - 1 → entry_at (n - 1) y.new r q
-        ≡ new_entry (entry_at n y.old (old_row k r) (old_row k q)) (entry_at n y.old (old_row k r) k)
-        (entry row.now (old_row k q)) (entry row.now k))
-        × ((r q : ℕ) → r < first → q < n - 1 → entry_at (n - 1) y.new r q ≡ entry_at (n - 1) y.old r q)
-        × ((r q : ℕ) → end + d ≤ r → entry_at n y.new r q ≡ entry_at n y.old r q)
-        × ((t : ℕ) → end * (n - 1) ≤ t → entry y.new t ≡ entry y.old t) }
-{
-    let mut p = first;
-    while p < end {
-        put_row(n, k, p + d, p, y, row);
-        p += 1;
+    // A row of n entries that begins `at` entries into s, reduced by row k, stands without column k at the front of s.
+    fn reduce_row(&self, at: usize, s: &mut [f64])
+        requires { (at ≤ limit * limit) × (length s.old ≡ 2 * (at + self.now.n)) }
+        ensures { ((q : ℕ) → q < self.now.n - 1 → entry s.new q
+            ≡ new_entry (entry s.old (at + old_row self.now.k q)) (entry s.old (at + self.now.k))
+            (entry self.now.row.now (old_row self.now.k q)) (entry self.now.row.now self.now.k))
+            × ((q : ℕ) → self.now.n - 1 ≤ q → entry s.new q ≡ entry s.old q) }
+    {
+        self.left_columns(at, s);
+        self.reduce_columns(1, self.k, self.n - 1, at, near(at + 1), s);
     }
-}
 
-// Every row but k, reduced by row k.
-fn other_rows(n: usize, k: usize, y: &mut [f64], row: &[f64])
-    requires { (n ≤ limit) × (k < n) × (2 * (n * n) ≤ length y.old) × (length row.now ≡ 2 * n) }
-    ensures { ((p q : ℕ) → p < n - 1 → q < n - 1 → entry_at (n - 1) y.new p q
-        ≡ new_entry (entry_at n y.old (old_row k p) (old_row k q)) (entry_at n y.old (old_row k p) k)
-        (entry row.now (old_row k q)) (entry row.now k))
-        × ((t : ℕ) → (n - 1) * (n - 1) ≤ t → entry y.new t ≡ entry y.old t) }
-{
-    put_rows(n, k, 0, 0, k, y, row);
-    put_rows(n, k, 1, k, n - 1, y, row);
+    // Row i of the n, reduced by row k, becomes row p of the n - 1. The part handed on is from where the new row begins to where the old
+    // one ends.
+    fn put_row(&self, i: usize, p: usize, y: &mut [f64])
+        requires { (i < self.now.n) × (p ≤ i) × (2 * (self.now.n * self.now.n) ≤ length y.old) }
+        ensures { ((q : ℕ) → q < self.now.n - 1 → entry_at (self.now.n - 1) y.new p q
+            ≡ new_entry (entry_at self.now.n y.old i (old_row self.now.k q)) (entry_at self.now.n y.old i self.now.k)
+            (entry self.now.row.now (old_row self.now.k q)) (entry self.now.row.now self.now.k))
+            × ((r q : ℕ) → r < p → q < self.now.n - 1 → entry_at (self.now.n - 1) y.new r q ≡ entry_at (self.now.n - 1) y.old r q)
+            × ((r q : ℕ) → i < r → entry_at self.now.n y.new r q ≡ entry_at self.now.n y.old r q)
+            × ((t : ℕ) → p * (self.now.n - 1) + (self.now.n - 1) ≤ t → entry y.new t ≡ entry y.old t) }
+    {
+        let b = p * (self.n - 1);
+        let at = i * self.n - b;
+        let f = 2 * b;
+        let e = f + 2 * (at + self.n);
+        self.reduce_row(at, &mut y[f..e]);
+    }
+
+    // The rows first .. end of the n - 1, of the old rows d further down.
+    fn put_rows(&self, d: usize, first: usize, end: usize, y: &mut [f64])
+        requires { (first ≤ end)
+            × (end + d ≤ self.now.n)
+            × ((p : ℕ) → first ≤ p → p < end → old_row self.now.k p ≡ p + d)
+            × (2 * (self.now.n * self.now.n) ≤ length y.old) }
+        ensures { ((r q : ℕ) → first ≤ r → r < end → q < self.now.n - 1 → entry_at (self.now.n - 1) y.new r q
+            ≡ new_entry (entry_at self.now.n y.old (old_row self.now.k r) (old_row self.now.k q))
+            (entry_at self.now.n y.old (old_row self.now.k r) self.now.k)
+            (entry self.now.row.now (old_row self.now.k q)) (entry self.now.row.now self.now.k))
+            × ((r q : ℕ) → r < first → q < self.now.n - 1 → entry_at (self.now.n - 1) y.new r q ≡ entry_at (self.now.n - 1) y.old r q)
+            × ((r q : ℕ) → end + d ≤ r → entry_at self.now.n y.new r q ≡ entry_at self.now.n y.old r q)
+            × ((t : ℕ) → end * (self.now.n - 1) ≤ t → entry y.new t ≡ entry y.old t) }
+    {
+        for p in first..end {
+            self.put_row(p + d, p, y);
+        }
+    }
+
+    // Every row but k, reduced by row k.
+    fn other_rows(&self, y: &mut [f64])
+        requires { 2 * (self.now.n * self.now.n) ≤ length y.old }
+        ensures { ((p q : ℕ) → p < self.now.n - 1 → q < self.now.n - 1 → entry_at (self.now.n - 1) y.new p q
+            ≡ new_entry (entry_at self.now.n y.old (old_row self.now.k p) (old_row self.now.k q))
+            (entry_at self.now.n y.old (old_row self.now.k p) self.now.k)
+            (entry self.now.row.now (old_row self.now.k q)) (entry self.now.row.now self.now.k))
+            × ((t : ℕ) → (self.now.n - 1) * (self.now.n - 1) ≤ t → entry y.new t ≡ entry y.old t) }
+    {
+        self.put_rows(0, 0, self.k, y);
+        self.put_rows(1, self.k, self.n - 1, y);
+    }
 }
 
 // Row and column k drop out of the n rows at the slice's front; what stands behind the rows left stays. `row` is room for a row.
@@ -227,34 +195,13 @@ fn remove_row(n: usize, k: usize, y: &mut [f64], row: &mut [f64])
     let w = 2 * n;
     let a = 2 * (k * n);
     let e = a + w;
-    copy(&y[a..e], &mut row[0..w]);
-    other_rows(n, k, y, &row[0..w]);
-}
-
-// One bus is removed from the n that `active` and the slice's front hold: 0, or 11, 12 or 20 with both as they were. `ordinary` says that
-// the front is of ordinary size.
-fn remove_one(
-    n: usize,
-    active: &mut [u8],
-    y: &mut [f64],
-    row: &mut [f64],
-    bus: usize,
-    ordinary: bool,
-) -> u32
-    requires { Holds n active.old y.old × (length row.old ≡ 2 * limit)
-        × (T ordinary → T (all_ordinary (take (2 * (n * n)) y.old))) }
-    ensures { RemovedOne n active.old y.old bus result active.new y.new }
-{
-    let Found::At(k) = find_bus(&active[0..n], bus) else {
-        return NOT_ACTIVE;
+    row[0..w].copy_from_slice(&y[a..e]);
+    let pivot = Pivot {
+        n,
+        k,
+        row: &row[0..w],
     };
-    let f = row_refusal(n, k, y, ordinary);
-    if f != 0 {
-        return f;
-    }
-    remove_row(n, k, y, row);
-    close_places(active, n, k);
-    0
+    pivot.other_rows(y);
 }
 
 // Whether the m rows after `done` removals are of ordinary size: the caller has told it of the first ones.
@@ -264,39 +211,62 @@ fn still_ordinary(done: usize, m: usize, y: &[f64], ordinary: bool) -> bool
     ensures { T result → T (all_ordinary (take (2 * (m * m)) y.now)) }
 {
     if done == 0 {
-        return ordinary;
+        ordinary
+    } else {
+        Front { n: m, y }.is_ordinary()
     }
-    front_ordinary(m, y)
 }
 
-// The buses of a list are removed in order, up to the first that is refused. `ordinary` says that the front is of ordinary size.
-pub fn remove_list(
-    n: usize,
-    active: &mut [u8],
-    y: &mut [f64],
-    row: &mut [f64],
-    buses: &[usize],
-    ordinary: bool,
-) -> Ran
-    requires { Holds n active.old y.old × (length row.old ≡ 2 * limit)
-        × (T ordinary → T (all_ordinary (take (2 * (n * n)) y.old))) }
-    ensures { RemovedAll n active.old y.old buses.now result active.new y.new }
-{
-    let mut done = 0;
-    while done < buses.len() {
-        let m = n - done;
-        let still = still_ordinary(done, m, y, ordinary);
-        let f = remove_one(m, active, y, row, buses[done], still);
-        if f != 0 {
-            return Ran {
-                stopped: f,
-                done: done,
-            };
-        }
-        done += 1;
+impl KronReducer {
+    // One bus, told by its row, is removed from the record and from the rows at the slice's front, or refused with 11, 12 or 20 and both as
+    // they were. `ordinary` says that the front is of ordinary size.
+    fn remove_one(
+        &mut self,
+        y: &mut [f64],
+        row: &mut [f64],
+        bus: usize,
+        ordinary: bool,
+    ) -> Result<(), Refusal>
+        requires { Holds self.old y.old × (length row.old ≡ 2 * limit)
+            × (T ordinary → T (all_ordinary (present self.old y.old))) }
+        ensures { RemovedOne self.old y.old bus result self.new y.new }
+    {
+        let n = self.n_buses;
+        let Some(k) = find_bus(&self.active_buses[0..n], bus) else {
+            return Err(Refusal::NotActive);
+        };
+        Front { n, y }.row_refusal(k, ordinary)?;
+        remove_row(n, k, y, row);
+        close_places(&mut self.active_buses, n, k);
+        self.n_buses = n - 1;
+        Ok(())
     }
-    Ran {
-        stopped: 0,
-        done: done,
+
+    // The buses of a list, told by their rows, are removed in order, up to the first that is refused. `ordinary` says that the front is of
+    // ordinary size.
+    pub fn remove_list(
+        &mut self,
+        y: &mut [f64],
+        row: &mut [f64],
+        buses: &[usize],
+        ordinary: bool,
+    ) -> Removals
+        requires { Holds self.old y.old × (length row.old ≡ 2 * limit)
+            × (T ordinary → T (all_ordinary (present self.old y.old))) }
+        ensures { RemovedAll self.old y.old buses.now result self.new y.new }
+    {
+        for (removed, bus) in buses.iter().enumerate() {
+            let still = still_ordinary(removed, self.n_buses, y, ordinary);
+            if let Err(refusal) = self.remove_one(y, row, *bus, still) {
+                return Removals {
+                    answer: Err(refusal),
+                    removed,
+                };
+            }
+        }
+        Removals {
+            answer: Ok(()),
+            removed: buses.len(),
+        }
     }
 }

@@ -9,3 +9,4 @@ pub mod Naming
 pub mod Stores
 pub mod Within
 pub mod Each
+pub mod Chains

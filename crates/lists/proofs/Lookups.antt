@@ -1,40 +1,10 @@
 -- Numbers looked up from the front of a list: where one stands, and whether the rest is zero. `search seeking` and `search passing` prove the
 -- steps of the loops.
-use Rattle.prelude.proofs.Prelude.{◌≡◌, refl, sym, ◌∙◌, subst, Bool, true, false, ◌&&◌, ◌||◌, cond, List, [], ◌∷◌, ℕ, zero, suc, ◌+◌, ◌≤◌, ◌<◌, add-one, arith, T, eqb, length, get_or, drop, map, zero-add, eqb→eq, length-map, drop_of_length-le, drop-cons, eq-eqb, ne_eqb}
+use Rattle.prelude.proofs.Prelude.{◌≡◌, refl, sym, ◌∙◌, Bool, true, false, ◌&&◌, ◌||◌, List, [], ◌∷◌, ℕ, zero, suc, ◌+◌, ◌≤◌, ◌<◌, add-one, arith, T, eqb, length, get_or, drop, map, eqb→eq, length-map, drop_of_length-le, drop-cons, eq-eqb, ne_eqb}
 use lib.Ieee.Fits.{eq→eqb}
-use Rattle.lists.specs.Buses.{mem, ◌is_one_of◌, place, found_in, all_zero, rows_in}
-use Rattle.lists.proofs.Buses.{or_assoc, place_none}
-use Rattle.lists.proofs.Ends.{mem-here, mem-next, mem-end}
-use Rattle.lists.specs.declared.Found.TheVariants.{At, Nothing}
-
--- ---- a bus that is looked for: where it stands in what is left of the list
-
-pub record Sought (k : ℕ) (xs : List ℕ) (i : ℕ) : Type 0 where
-  pub among : mem k xs ≡ mem k (drop i xs)
-  pub stands : place k xs ≡ i + place k (drop i xs)
-
-pub sought-start : (k : ℕ) (xs : List ℕ) → Sought k xs 0
-sought-start k xs = record { among = refl; stands = sym (zero-add _) }
-
-module _ (k : ℕ) (xs : List ℕ) (i : ℕ) (s : Sought k xs i) where
-  pub sought-here : i < length xs → get_or xs i 0 ≡ k → At i ≡ found_in k xs
-  unfolding found_in place
-  sought-here h e =
-      let z : place k (drop i xs) ≡ 0 = rw (drop-cons xs i 0, eq-eqb k (get_or xs i 0) (sym e)) in
-      let p : place k xs ≡ i = omega (arith, s.stands) in
-      rw (s.among, mem-here k i xs h e, p)
-
-  pub sought-next : i < length xs → (get_or xs i 0 ≡ k → ⊥) → Sought k xs (i + 1)
-  unfolding place
-  sought-next h n =
-      let p : place k (drop i xs) ≡ suc (place k (drop (i + 1) xs)) = rw (add-one i, drop-cons xs i 0, ne_eqb k (get_or xs i 0) (λ e. n (sym e))) in
-      record { among = s.among ∙ mem-next k i xs h n; stands = omega (arith, s.stands) }
-
-  pub sought-end : length xs ≤ i → Nothing ≡ found_in k xs
-  unfolding found_in
-  sought-end h = rw (s.among, mem-end k i xs h)
-
-pub ruleset seeking = (sought-start, sought-here, sought-next, sought-end)
+use Rattle.lists.specs.Buses.{mem, place, all_zero, rows_in}
+use Rattle.lists.proofs.Buses.{or_assoc}
+use Rattle.lists.proofs.Ends.{mem-end}
 
 -- ---- a list looked through to its end: whether all is zero, and whether a number is in it, of what was passed and of the rest
 
@@ -50,7 +20,7 @@ pub or-none : (f : Bool) → (f || false) ≡ f
 or-none true = refl
 or-none false = refl
 
-eqb-turned : (a b : ℕ) → eqb a b ≡ eqb b a
+pub eqb-turned : (a b : ℕ) → eqb a b ≡ eqb b a
 eqb-turned a b = go (eqb b a) (eqb→eq b a) (λ (p : b ≡ a). eq→eqb p)
   where
     go : (c : Bool) → (T c → b ≡ a) → (b ≡ a → T c) → eqb a b ≡ c
@@ -75,28 +45,6 @@ module _ (xs : List ℕ) (i : ℕ) (f : Bool) where
     seen_end h = sym (e ∙ rw (mem-end k i xs h) (or-none f))
 
 pub ruleset passing = (zero_more, zero-end, seen_more, seen_end)
-
--- ---- a bus that was found, or not
-
-pub found_at : (k : ℕ) (xs : List ℕ) (p : ℕ) → found_in k xs ≡ At p → (k is_one_of xs) × (place k xs ≡ p)
-unfolding found_in
-found_at k xs p e = go (mem k xs) e
-  where
-    go : (b : Bool) → cond b (At (place k xs)) Nothing ≡ At p → T b × (place k xs ≡ p)
-    go true e = (tt, cc)
-    go false e = let z : ◌≡◌ {A = ℕ} 0 1 = cc in absurd (omega arith)
-
-pub found-not : (k : ℕ) (xs : List ℕ) → found_in k xs ≡ Nothing → mem k xs ≡ false
-unfolding found_in
-found-not k xs e = go (mem k xs) e
-  where
-    go : (b : Bool) → cond b (At (place k xs)) Nothing ≡ Nothing → b ≡ false
-    go true e = let z : ◌≡◌ {A = ℕ} 0 1 = cc in absurd (omega arith)
-    go false e = refl
-
--- its row is then the count of rows
-pub found_nowhere : (k : ℕ) (xs : List ℕ) → found_in k xs ≡ Nothing → place k xs ≡ length xs
-found_nowhere k xs e = place_none k xs (λ (m : k is_one_of xs). subst T (found-not k xs e) m)
 
 -- ---- the rows of a list of buses
 

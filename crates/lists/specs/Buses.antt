@@ -1,7 +1,6 @@
 -- Lists of buses.
-use Rattle.std.specs.Prelude.{ℕ, zero, suc, Bool, true, false, ◌||◌, ◌&&◌, cond, List, [], ◌∷◌, ◌++◌, map, T, eqb, ltb}
-use Rattle.lists.specs.declared.Found.{Found}
-use Rattle.lists.specs.declared.Found.TheVariants.{At, Nothing}
+use Rattle.std.specs.Prelude.{ℕ, zero, suc, Bool, true, false, ◌||◌, ◌&&◌, cond, List, [], ◌∷◌, ◌++◌, map, T, eqb, ltb, Option}
+use Rattle.std.specs.List.{list_any, list_all, position}
 
 -- the buses of a matrix of n rows: 0, 1, .. n - 1
 unfoldable pub up_to : ℕ → List ℕ
@@ -28,26 +27,29 @@ place k [] = 0
 place k (x ∷ xs) = cond (eqb k x) 0 (suc (place k xs))
 
 -- the same, or nothing
-unfoldable pub found_in : ℕ → List ℕ → Found
-found_in k xs = cond (mem k xs) (At (place k xs)) Nothing
+abbrev pub found_in : ℕ → List ℕ → Option ℕ
+found_in k xs = position (λ (x : ℕ). eqb x k) xs
 
 unfoldable pub rising : List ℕ → Bool
 rising [] = true
 rising (x ∷ []) = true
 rising (x ∷ (y ∷ xs)) = ltb x y && rising (y ∷ xs)
 
-unfoldable pub all_below : ℕ → List ℕ → Bool
-all_below n [] = true
-all_below n (x ∷ xs) = ltb x n && all_below n xs
+abbrev pub all_below : ℕ → List ℕ → Bool
+all_below n xs = list_all (λ (x : ℕ). ltb x n) xs
 
-unfoldable pub all_zero : List ℕ → Bool
-all_zero [] = true
-all_zero (x ∷ xs) = eqb x 0 && all_zero xs
+abbrev pub all_zero : List ℕ → Bool
+all_zero xs = list_all (λ (x : ℕ). eqb x 0) xs
 
 -- a number that stands twice in the list
 unfoldable pub repeats : List ℕ → Bool
 repeats [] = false
 repeats (x ∷ xs) = mem x xs || repeats xs
+
+-- the same of a list of any values, by what tells two of them equal
+unfoldable pub repeats_by : {A : Type 0} → (A → A → Bool) → List A → Bool
+repeats_by same [] = false
+repeats_by same (x ∷ xs) = list_any (λ y. same y x) xs || repeats_by same xs
 
 -- each of ks is one of xs
 unfoldable pub within : List ℕ → List ℕ → Bool

@@ -3,10 +3,3 @@
 
 pub mod checks;
 pub mod numbers;
-
-// The row of a bus, or nothing.
-#[derive(Clone, Copy)]
-pub enum Found {
-    At(usize),
-    Nothing,
-}

@@ -18,12 +18,12 @@ two-words = refl
 
 -- 1.0, and the one pattern of a NaN
 pub one-and-nan : of_floats (of_bits binary64 0x3ff0000000000000 ∷ nan ∷ []) ≡ 0 ∷ 0 ∷ 0 ∷ 0 ∷ 0 ∷ 0 ∷ 0xf0 ∷ 0x3f ∷ 0 ∷ 0 ∷ 0 ∷ 0 ∷ 0 ∷ 0 ∷ 0xf8 ∷ 0x7f ∷ []
-unfolding of_floats of_words bytes_of of_bits to_bits
+unfolding of_words bytes_of of_bits to_bits
 one-and-nan = refl
 
 -- another pattern of a NaN is read as the same NaN
 pub signaling-nan : floats 1 (1 ∷ 0 ∷ 0 ∷ 0 ∷ 0 ∷ 0 ∷ 0xf0 ∷ 0xff ∷ []) ≡ nan ∷ []
-unfolding floats words word up_to of_bits
+unfolding words word up_to of_bits
 signaling-nan = refl
 
 -- 256 does not come back from one byte, nor from a place that holds no byte

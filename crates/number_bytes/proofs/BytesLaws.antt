@@ -1,12 +1,12 @@
 -- Laws of numbers read and written: one more of them, how many there are, and a number in its place.
-use Rattle.prelude.proofs.Prelude.{◌≡◌, refl, sym, ap, ◌∙◌, List, [], ◌∷◌, ◌++◌, ℕ, zero, suc, ◌+◌, ◌*◌, ◌≤◌, ◌<◌, add-one, arith, length, get_or, take, drop, ap₂, map, append_assoc, append-nil, ◌/◌, ◌%◌, set, length-append, length-map, sets, take_all, take_at, take-suc, get_or-take, length-take-le, mul-le-mul_left, Float, nan, binary64, of_bits, to_bits}
-use native.Mathlib.Numerals.{towards_suc, unary_clauses}
+use Rattle.prelude.proofs.Prelude.{get_or-drop, drop-drop, add-zero, ◌^◌, ◌≡◌, refl, sym, ap, ◌∙◌, List, [], ◌∷◌, ◌++◌, ℕ, zero, suc, ◌+◌, ◌*◌, ◌≤◌, ◌<◌, add-one, arith, length, get_or, take, drop, ap₂, map, append_assoc, append-nil, ◌/◌, ◌%◌, set, length-append, length-map, take_all, take_at, take-suc, get_or-take, length-take-le, mul-le-mul_left}
+use native.Mathlib.Numerals.{unary_clauses}
 use lib.Seq.{sets-eq, length-sets, take-suc-set}
 use Rattle.lists.specs.Buses.{up_to}
 use Rattle.lists.proofs.Order.{length-up_to, get_or-up_to}
 use Rattle.lists.proofs.Lookups.{get_or_map}
 use Rattle.lists.proofs.Fronts.{Filling, filling-start, filling-more, filling-whole}
-use Rattle.number_bytes.specs.Bytes.{word, bytes_of, put_word, words, floats, of_words, of_floats}
+use Rattle.number_bytes.specs.Bytes.{word, bytes_of, put_word, words, of_words}
 
 map-append : {A B : Type 0} (f : A → B) (xs ys : List A) → map f (xs ++ ys) ≡ map f xs ++ map f ys
 map-append f [] ys = refl
@@ -47,41 +47,40 @@ pub get_or_words : (k n : ℕ) (bs : List ℕ) (i : ℕ) → i < n → get_or (w
 unfolding words
 get_or_words k n bs i h = get_or_map (λ (j : ℕ). word k bs (k * j)) 0 0 (up_to n) i (rw length-up_to h) ∙ ap (λ (j : ℕ). word k bs (k * j)) (get_or-up_to n i 0 h)
 
--- A slice that is filled with the numbers in bs: one more is read, or all are.
-module _ (k : ℕ) (bs old out : List ℕ) (i : ℕ) (s : Filling (words k (length old) bs) old out i) where
-  pub read_more : (v : ℕ) → i < length out → v ≡ word k bs (k * i) → Filling (words k (length old) bs) old (set out i v) (i + 1)
+-- A slice that is filled with what the numbers in bs stand for: one more is read, or all are.
+module _ {A : Type 0} (k : ℕ) (of : ℕ → A) (bs : List ℕ) (old out : List A) (i : ℕ) (s : Filling (map of (words k (length old) bs)) old out i) where
+  count : length (map of (words k (length old) bs)) ≡ length old
+  count = length-map (words k (length old) bs) of ∙ length-words k (length old) bs
+
+  pub read_more : (v : A) → i < length out → v ≡ of (word k bs (k * i)) → Filling (map of (words k (length old) bs)) old (set out i v) (i + 1)
   read_more v h e =
       let l : i < length old = omega (arith, s.long) in
-      filling-more (words k (length old) bs) old out i s 0 v (rw length-words l) h (e ∙ sym (get_or_words k (length old) bs i l))
+      filling-more (map of (words k (length old) bs)) old out i s v v (rw count l) h
+      (e ∙ ap of (sym (get_or_words k (length old) bs i l)) ∙ sym (get_or_map of 0 v (words k (length old) bs) i (rw length-words l)))
 
-  pub read_all : length out ≤ i → out ≡ words k (length old) bs
-  read_all = filling-whole (words k (length old) bs) old out i s (length-words k (length old) bs)
+  pub read_all : length out ≤ i → out ≡ map of (words k (length old) bs)
+  read_all = filling-whole (map of (words k (length old) bs)) old out i s count
 
-module _ (bs : List ℕ) (old out : List Float) (i : ℕ) (s : Filling (floats (length old) bs) old out i) where
-  count : length (floats (length old) bs) ≡ length old
-  unfolding floats
-  count = length-map (words 8 (length old) bs) (of_bits binary64) ∙ length-words 8 (length old) bs
+pub ruleset reading = (filling-start, read_more, read_all)
 
-  pub floats-more : (w : ℕ) (v : Float) → i < length out → w ≡ word 8 bs (8 * i) → v ≡ of_bits binary64 w → Filling (floats (length old) bs) old (set out i v) (i + 1)
-  unfolding floats
-  floats-more w v h e g =
-      let l : i < length old = omega (arith, s.long) in
-      filling-more (floats (length old) bs) old out i s nan v (rw count l) h
-      (g ∙ ap (of_bits binary64) (e ∙ sym (get_or_words 8 (length old) bs i l)) ∙ sym (get_or_map (of_bits binary64) 0 nan (words 8 (length old) bs) i (rw length-words l)))
-
-  pub floats-all : length out ≤ i → out ≡ floats (length old) bs
-  floats-all = filling-whole (floats (length old) bs) old out i s count
-
-pub ruleset reading = (filling-start, read_more, read_all, floats-more, floats-all)
-
-pub half-bytes : (bs : List ℕ) (a : ℕ) → get_or bs a 0 + 0x100 * get_or bs (a + 1) 0 + 0x1_0000 * get_or bs (a + 2) 0 + 0x100_0000 * get_or bs (a + 3) 0 ≡ word 4 bs a
+-- a number by its bytes, which stand alone or as a part of more
+word-drop : (k : ℕ) (bs : List ℕ) (a b : ℕ) → word k (drop a bs) b ≡ word k bs (a + b)
 unfolding word
-half-bytes bs a = simp towards_suc (omega arith)
+word-drop zero bs a b = refl
+word-drop (suc k) bs a b = ap₂ (λ (x v : ℕ). x + 256 * v) (get_or-drop a bs b 0) (word-drop k bs a (suc b) ∙ (let e : a + suc b ≡ suc (a + b) = omega arith in ap (word k bs) e))
 
--- a word is its two halves
-pub word-halves : (bs : List ℕ) (a : ℕ) → word 4 bs a + 0x1_0000_0000 * word 4 bs (a + 4) ≡ word 8 bs a
+word-part : (k n : ℕ) (bs part : List ℕ) (a : ℕ) → k ≤ n → part ≡ take n (drop a bs) → word k part 0 ≡ word k bs a
+word-part k n bs part a h e = ap (λ (l : List ℕ). word k l 0) e ∙ word-take k n (drop a bs) 0 (omega (arith, h)) ∙ word-drop k bs a 0 ∙ ap (word k bs) (add-zero a)
+
+pub word-4 : (bs part : List ℕ) (a n : ℕ) → n ≡ 4 → part ≡ take n (drop a bs)
+    → get_or part 0 0 + get_or part 1 0 * 256 + get_or part 2 0 * 65536 + get_or part 3 0 * 16777216 ≡ word 4 bs a
 unfolding word
-word-halves bs a = simp towards_suc (omega arith)
+word-4 bs part a n m e = omega (arith, word-part 4 n bs part a (omega arith) e)
+
+pub word-8 : (bs part : List ℕ) (a n : ℕ) → n ≡ 8 → part ≡ take n (drop a bs)
+    → get_or part 0 0 + get_or part 1 0 * 256 + get_or part 2 0 * 256 ^ 2 + get_or part 3 0 * 256 ^ 3 + get_or part 4 0 * 256 ^ 4 + get_or part 5 0 * 256 ^ 5 + get_or part 6 0 * 256 ^ 6 + get_or part 7 0 * 256 ^ 7 ≡ word 8 bs a
+unfolding word
+word-8 bs part a n m e = omega (arith, word-part 8 n bs part a (omega arith) e)
 
 -- ---- writing
 
@@ -104,26 +103,30 @@ pub of_words-snoc : (k : ℕ) (us : List ℕ) (w : ℕ) → of_words k (us ++ (w
 unfolding of_words
 of_words-snoc k us w = of_words-append k us (w ∷ []) ∙ ap (λ (l : List ℕ). of_words k us ++ l) (append-nil (bytes_of k w))
 
-low_same : (x q y : ℕ) → x ≡ 256 * q + y → x % 256 ≡ y % 256
-low_same x q y e = omega (arith, e)
-
--- a word's bytes are those of its two halves
-pub bytes_halves : (w : ℕ) → bytes_of 8 w ≡ bytes_of 4 (w % 0x1_0000_0000) ++ bytes_of 4 (w / 0x1_0000_0000)
+pub bytes-4 : (w : ℕ) → w % 256 ∷ w / 256 % 256 ∷ w / 65536 % 256 ∷ w / 16777216 % 256 ∷ [] ≡ bytes_of 4 w
 unfolding bytes_of
-bytes_halves w =
-    let d1 : w / 256 ≡ 0x100_0000 * (w / 0x1_0000_0000) + w % 0x1_0000_0000 / 256 = omega arith in
-    let d2 : w / 256 / 256 ≡ 0x1_0000 * (w / 0x1_0000_0000) + w % 0x1_0000_0000 / 256 / 256 = omega (arith, d1) in
-    let d3 : w / 256 / 256 / 256 ≡ 0x100 * (w / 0x1_0000_0000) + w % 0x1_0000_0000 / 256 / 256 / 256 = omega (arith, d2) in
-    let e0 : w % 256 ≡ w % 0x1_0000_0000 % 256 = omega arith in
-    let e1 : w / 256 % 256 ≡ w % 0x1_0000_0000 / 256 % 256 = omega (arith, d1) in
-    let e2 : w / 256 / 256 % 256 ≡ w % 0x1_0000_0000 / 256 / 256 % 256 = omega (arith, d2) in
-    let e3 : w / 256 / 256 / 256 % 256 ≡ w % 0x1_0000_0000 / 256 / 256 / 256 % 256 = low_same (w / 256 / 256 / 256) (w / 0x1_0000_0000) (w % 0x1_0000_0000 / 256 / 256 / 256) d3 in
-    let e4 : w / 256 / 256 / 256 / 256 ≡ w / 0x1_0000_0000 = omega (arith, d3) in
-    rw (e4, ← e0, ← e1, ← e2, ← e3) refl
+bytes-4 w =
+    let d2 : w / 65536 ≡ w / 256 / 256 = omega arith in
+    let d3 : w / 16777216 ≡ w / 256 / 256 / 256 = omega (arith, d2) in
+    rw (d2, d3) refl
 
-pub put-halves : (bs : List ℕ) (a w : ℕ) → put_word 4 (put_word 4 bs a (w % 0x1_0000_0000)) (a + 4) (w / 0x1_0000_0000) ≡ put_word 8 bs a w
-unfolding put_word bytes_of
-put-halves bs a w = simp towards_suc (ap (sets bs a) (sym (bytes_halves w)))
+pub bytes-8 : (w : ℕ) → w % 256 ∷ w / 256 % 256 ∷ w / 65536 % 256 ∷ w / 16777216 % 256 ∷ w / 256 ^ 4 % 256 ∷ w / 256 ^ 5 % 256 ∷ w / 256 ^ 6 % 256 ∷ w / 256 ^ 7 % 256 ∷ [] ≡ bytes_of 8 w
+unfolding bytes_of
+bytes-8 w =
+    let d2 : w / 65536 ≡ w / 256 / 256 = omega arith in
+    let d3 : w / 16777216 ≡ w / 256 / 256 / 256 = omega (arith, d2) in
+    let d4 : w / 256 ^ 4 ≡ w / 256 / 256 / 256 / 256 = omega (arith, d3) in
+    let d5 : w / 256 ^ 5 ≡ w / 256 / 256 / 256 / 256 / 256 = omega (arith, d4) in
+    let d6 : w / 256 ^ 6 ≡ w / 256 / 256 / 256 / 256 / 256 / 256 = omega (arith, d5) in
+    let d7 : w / 256 ^ 7 ≡ w / 256 / 256 / 256 / 256 / 256 / 256 / 256 = omega (arith, d6) in
+    rw (d2, d3, d4, d5, d6, d7) refl
+
+-- a part that is lent to be written, and comes back
+pub put-part : (k : ℕ) (bs part : List ℕ) (a n w : ℕ) → n ≡ k → a + k ≤ length bs → part ≡ bytes_of k w → take a bs ++ (part ++ drop n (drop a bs)) ≡ put_word k bs a w
+unfolding put_word
+put-part k bs part a n w m h e =
+    rw (e, m, drop-drop, ← append_assoc)
+    (ap (λ (j : ℕ). take a bs ++ bytes_of k w ++ drop (a + j) bs) (sym (length-bytes_of k w)) ∙ sym (sets-eq (bytes_of k w) bs a (rw length-bytes_of h)))
 
 pub length-put_word : (k : ℕ) (bs : List ℕ) (a w : ℕ) → length (put_word k bs a w) ≡ length bs
 unfolding put_word
@@ -174,15 +177,15 @@ module _ (k : ℕ) (ws old now : List ℕ) (i : ℕ) (s : Writing k ws old now i
       let m = mul-le-mul_left k h in
       sym (take_all (k * i) now (omega (arith, s.long))) ∙ s.front ∙ ap (of_words k) (take_all i ws h)
 
--- numbers of binary64 by their words
-module _ (xs : List Float) (old now : List ℕ) (i : ℕ) (s : Writing 8 (map (to_bits binary64) xs) old now i) (e : length old ≡ 8 * length xs) where
-  pub floats-written : (then : List ℕ) (w : ℕ) → i < length xs → w ≡ to_bits binary64 (get_or xs i nan) → then ≡ put_word 8 now (8 * i) w → Writing 8 (map (to_bits binary64) xs) old then (i + 1)
-  floats-written then w h g p =
-      writing_more 8 (map (to_bits binary64) xs) old now i s (rw length-map e) then (rw length-map h)
-      (p ∙ ap (put_word 8 now (8 * i)) (g ∙ sym (get_or_map (to_bits binary64) nan 0 xs i h)))
+-- The loop's step, over the numbers that the whole numbers stand for.
+pub written_of : {A : Type 0} (k : ℕ) (to : A → ℕ) (xs : List A) (old now : List ℕ) (i : ℕ) (x : A) → Writing k (map to xs) old now i → length old ≡ k * length xs
+    → (then : List ℕ) → i < length xs → x ≡ get_or xs i x → then ≡ put_word k now (k * i) (to x) → Writing k (map to xs) old then (i + 1)
+written_of k to xs old now i x s e then h q p =
+    writing_more k (map to xs) old now i s (rw length-map e) then (rw length-map h)
+    (p ∙ ap (λ (y : _). put_word k now (k * i) (to y)) q ∙ ap (put_word k now (k * i)) (sym (get_or_map to x 0 xs i h)))
 
-  pub floats-done : length xs ≤ i → now ≡ of_floats xs
-  unfolding of_floats
-  floats-done h = writing-all 8 (map (to_bits binary64) xs) old now i s (rw length-map e) (rw length-map h)
+pub all_written : {A : Type 0} (k : ℕ) (to : A → ℕ) (xs : List A) (old now : List ℕ) (i : ℕ) → Writing k (map to xs) old now i → length old ≡ k * length xs
+    → length xs ≤ i → now ≡ of_words k (map to xs)
+all_written k to xs old now i s e h = writing-all k (map to xs) old now i s (rw length-map e) (rw length-map h)
 
-pub ruleset writing = (writing_start, writing_more, writing-all, floats-written, floats-done)
+pub ruleset writing = (writing_start, written_of, all_written)

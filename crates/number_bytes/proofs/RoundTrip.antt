@@ -84,7 +84,6 @@ bits_back [] f = refl
 bits_back (x ∷ xs) f = ap₂ (λ (y : Float) (l : List Float). y ∷ l) (of_bits-to_bits binary64 x (f 0)) (bits_back xs (λ (j : ℕ). f (suc j)))
 
 floats-back : (xs : List Float) → F64s xs → floats (length xs) (of_floats xs) ≡ xs
-unfolding floats of_floats
 floats-back xs f =
     let ws = map (to_bits binary64) xs in
     ap (λ (n : ℕ). map (of_bits binary64) (words 8 n (of_words 8 ws))) (sym (length-map xs (to_bits binary64)))

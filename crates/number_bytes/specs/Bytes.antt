@@ -32,11 +32,9 @@ of_words k [] = []
 of_words k (w ∷ ws) = bytes_of k w ++ of_words k ws
 
 -- the first n numbers of binary64: every pattern of a NaN is the one NaN
-unfoldable pub floats : ℕ → List ℕ → List Float
-unfolding words
+abbrev pub floats : ℕ → List ℕ → List Float
 floats n bs = map (of_bits binary64) (words 8 n bs)
 
 -- numbers of binary64 one after the other: a NaN is 7ff8000000000000
-unfoldable pub of_floats : List Float → List ℕ
-unfolding of_words
+abbrev pub of_floats : List Float → List ℕ
 of_floats xs = of_words 8 (map (to_bits binary64) xs)

@@ -1,140 +1,124 @@
-// Numbers in a byte slice, the lowest byte first: words of 8 bytes, halves of 4, and numbers of binary64 by the words of their bits.
+// Numbers in a byte slice, the lowest byte first: whole numbers of 4 and of 8 bytes, and numbers of binary64 by the words of their bits.
 #![tactic(auto)]
 
-ghost use Rattle.std.specs.Prelude.{◌≡◌, ◌+◌, ◌*◌, ◌≤◌, ◌<◌, length};
+ghost use Rattle.std.specs.Prelude.{◌≡◌, ℕ, ◌+◌, ◌*◌, ◌≤◌, length, map};
+ghost use Rattle.std.specs.Float.{binary64};
+ghost use Rattle.std.specs.Float.Ieee.{of_bits, to_bits};
 ghost use Rattle.number_bytes.specs.Bytes as spec;
 
 use binary64::words::{of_word, to_word};
 
-// ---- one number
+// A number that is kept in SIZE bytes, as a whole number.
+pub trait Stored: Copy {
+    const SIZE: usize;
 
-fn wide(b: u8) -> u32
-    ensures { (result ≡ b) × (result < 256) }
-{
-    b as u32
+    ghost SIZE: { ℕ };
+
+    // What the whole number w stands for, and the whole number that stands for x.
+    ghost of_whole: { ℕ → Self };
+
+    ghost to_whole: { Self → ℕ };
+
+    // The number of the bytes from place a on.
+    fn at(s: &[u8], a: usize) -> Self
+        requires { a + SIZE ≤ length s.now }
+        ensures { result ≡ of_whole (spec.word SIZE s.now a) };
+
+    // Writes the number in the bytes from place a on.
+    fn put(self, s: &mut [u8], a: usize)
+        requires { a + SIZE ≤ length s.old }
+        ensures { s.new ≡ spec.put_word SIZE s.old a (to_whole self) };
 }
 
-fn wider(h: u32) -> u64
-    ensures { (result ≡ h) × (result < 0x1_0000_0000) }
-{
-    h as u64
-}
+impl Stored for u32 {
+    const SIZE: usize = 4;
 
-// The number of the 4 bytes from place a on.
-pub fn half_at(s: &[u8], a: usize) -> u32
-    requires { a + 4 ≤ length s.now }
-    ensures { result ≡ spec.word 4 s.now a }
-{
-    let b0 = wide(s[a]);
-    let b1 = wide(s[a + 1]);
-    let b2 = wide(s[a + 2]);
-    let b3 = wide(s[a + 3]);
-    b0 + 0x100 * b1 + 0x1_0000 * b2 + 0x100_0000 * b3
-}
+    ghost SIZE = { 4 };
 
-// The number of the 8 bytes from place a on.
-pub fn word_at(s: &[u8], a: usize) -> u64
-    requires { a + 8 ≤ length s.now }
-    ensures { result ≡ spec.word 8 s.now a }
-{
-    let low = wider(half_at(s, a));
-    let high = wider(half_at(s, a + 4));
-    low + 0x1_0000_0000 * high
-}
+    ghost of_whole = { λ w. w };
 
-// Writes a number in the 4 bytes from place a on.
-pub fn put_half(s: &mut [u8], a: usize, h: u32)
-    requires { a + 4 ≤ length s.old }
-    ensures { s.new ≡ spec.put_word 4 s.old a h }
-{
-    let h1 = h / 256;
-    let h2 = h1 / 256;
-    let h3 = h2 / 256;
-    s[a] = (h % 256) as u8;
-    s[a + 1] = (h1 % 256) as u8;
-    s[a + 2] = (h2 % 256) as u8;
-    s[a + 3] = (h3 % 256) as u8;
-}
+    ghost to_whole = { λ x. x };
 
-// Writes a number in the 8 bytes from place a on.
-pub fn put_word(s: &mut [u8], a: usize, w: u64)
-    requires { a + 8 ≤ length s.old }
-    ensures { s.new ≡ spec.put_word 8 s.old a w }
-{
-    put_half(s, a, (w % 0x1_0000_0000) as u32);
-    put_half(s, a + 4, (w / 0x1_0000_0000) as u32);
-}
+    fn at(s: &[u8], a: usize) -> u32 {
+        u32::from_le_bytes(s[a..a + 4].try_into().unwrap())
+    }
 
-// ---- many
-
-// Reads halves, one after the other.
-pub fn read_halves(s: &[u8], out: &mut [u32])
-    requires { length s.now ≡ 4 * length out.old }
-    ensures { out.new ≡ spec.words 4 (length out.old) s.now }
-{
-    let mut i = 0;
-    while i < out.len() {
-        out[i] = half_at(s, 4 * i);
-        i += 1;
+    fn put(self, s: &mut [u8], a: usize) {
+        s[a..a + 4].copy_from_slice(&self.to_le_bytes());
     }
 }
 
-// Reads words as whole numbers.
-pub fn read_words(s: &[u8], out: &mut [usize])
-    requires { length s.now ≡ 8 * length out.old }
-    ensures { out.new ≡ spec.words 8 (length out.old) s.now }
-{
-    let mut i = 0;
-    while i < out.len() {
-        out[i] = word_at(s, 8 * i) as usize;
-        i += 1;
+impl Stored for u64 {
+    const SIZE: usize = 8;
+
+    ghost SIZE = { 8 };
+
+    ghost of_whole = { λ w. w };
+
+    ghost to_whole = { λ x. x };
+
+    fn at(s: &[u8], a: usize) -> u64 {
+        u64::from_le_bytes(s[a..a + 8].try_into().unwrap())
+    }
+
+    fn put(self, s: &mut [u8], a: usize) {
+        s[a..a + 8].copy_from_slice(&self.to_le_bytes());
     }
 }
 
-// Reads words as numbers of binary64.
-pub fn read_floats(s: &[u8], out: &mut [f64])
-    requires { length s.now ≡ 8 * length out.old }
-    ensures { out.new ≡ spec.floats (length out.old) s.now }
-{
-    let mut i = 0;
-    while i < out.len() {
-        out[i] = of_word(word_at(s, 8 * i));
-        i += 1;
+impl Stored for usize {
+    const SIZE: usize = 8;
+
+    ghost SIZE = { 8 };
+
+    ghost of_whole = { λ w. w };
+
+    ghost to_whole = { λ x. x };
+
+    fn at(s: &[u8], a: usize) -> usize {
+        u64::at(s, a) as usize
+    }
+
+    fn put(self, s: &mut [u8], a: usize) {
+        (self as u64).put(s, a);
     }
 }
 
-// Writes halves, one after the other.
-pub fn write_halves(s: &mut [u8], xs: &[u32])
-    requires { length s.old ≡ 4 * length xs.now }
-    ensures { s.new ≡ spec.of_words 4 xs.now }
-{
-    let mut i = 0;
-    while i < xs.len() {
-        put_half(s, 4 * i, xs[i]);
-        i += 1;
+// By the 64 bits; every pattern of a NaN is the one NaN.
+impl Stored for f64 {
+    const SIZE: usize = 8;
+
+    ghost SIZE = { 8 };
+
+    ghost of_whole = { of_bits binary64 };
+
+    ghost to_whole = { to_bits binary64 };
+
+    fn at(s: &[u8], a: usize) -> f64 {
+        of_word(u64::at(s, a))
+    }
+
+    fn put(self, s: &mut [u8], a: usize) {
+        to_word(self).put(s, a);
     }
 }
 
-// Writes whole numbers, a word each.
-pub fn write_words(s: &mut [u8], xs: &[usize])
-    requires { length s.old ≡ 8 * length xs.now }
-    ensures { s.new ≡ spec.of_words 8 xs.now }
+// Reads numbers, one after the other.
+pub fn read<T: Stored>(s: &[u8], out: &mut [T])
+    requires { length s.now ≡ T.SIZE * length out.old }
+    ensures { out.new ≡ map T.of_whole (spec.words T.SIZE (length out.old) s.now) }
 {
-    let mut i = 0;
-    while i < xs.len() {
-        put_word(s, 8 * i, xs[i] as u64);
-        i += 1;
+    for (i, x) in out.iter_mut().enumerate() {
+        *x = T::at(s, T::SIZE * i);
     }
 }
 
-// Writes numbers of binary64, a word each.
-pub fn write_floats(s: &mut [u8], xs: &[f64])
-    requires { length s.old ≡ 8 * length xs.now }
-    ensures { s.new ≡ spec.of_floats xs.now }
+// Writes numbers, one after the other.
+pub fn write<T: Stored>(s: &mut [u8], xs: &[T])
+    requires { length s.old ≡ T.SIZE * length xs.now }
+    ensures { s.new ≡ spec.of_words T.SIZE (map T.to_whole xs.now) }
 {
-    let mut i = 0;
-    while i < xs.len() {
-        put_word(s, 8 * i, to_word(xs[i]));
-        i += 1;
+    for (i, x) in xs.iter().enumerate() {
+        x.put(s, T::SIZE * i);
     }
 }

@@ -1,10 +1,11 @@
 -- The claims on runs, from the law of the drops and the claims on lists of calls.
+use Rattle.std.proofs.Common.{Some, Ok, Err}
 use Rattle.prelude.proofs.Prelude.{◌≡◌, refl, sym, ap, ◌∙◌, subst, List, [], ◌∷◌, ℕ, ◌+◌, ◌*◌, ◌≤◌, arith, length, length-drop}
 use mathlib.Core.Path.{subst₂}
 use Rattle.binary64.specs.Values.{F64s}
 use Rattle.lists.specs.Buses.{rows_in}
 use Rattle.kron_reduction.specs.declared.KronReducer.{KronReducer}
-use Rattle.kron_reduction.specs.Reducer.{AcceptedMaking, record_of, after_new, ReducerState, stored}
+use Rattle.kron_reduction.specs.Reducer.{AcceptedMaking, record_of, made as record_made, ReducerState, stored}
 use Rattle.kron_reduction.specs.Reading.{active_numbers}
 use Rattle.claims.specs.Accounts.{left_from, left, fresh, account_from, kept, numbers_at}
 use Rattle.claims.specs.Finite.{Finite}
@@ -12,9 +13,8 @@ use Rattle.claims.specs.Removals.{Unchanged, Independent}
 use Rattle.claims.proofs.Bridge.{account-numbers, left_is, kept-state}
 use Rattle.claims.proofs.ByNumber.{removed-are as by_number, kept-numbers}
 use Rattle.claims.proofs.Removals.{removals}
-use Rattle.text_numbers.specs.declared.Number.TheVariants.{Is}
-use Rattle.reduce_text.specs.declared.read.End.{End}
-use Rattle.reduce_text.specs.declared.read.End.TheVariants.{Kept, BadLine}
+use Rattle.reduce_text.specs.Reading.{End}
+use Rattle.reduce_text.specs.declared.read.Trouble.TheVariants.{BadLine}
 use Rattle.text_numbers.specs.Bytes.{Bytes}
 use Rattle.reduce_text.specs.Lines.{lines, buses_of}
 use Rattle.reduce_text.specs.Reading.{most, drops, finish, first, run_of}
@@ -35,17 +35,17 @@ kept-text input h = ap (λ (e : End). text_of e (run_of input).reading.rec (run_
 
 -- numbers, entries and drops of the whole input
 pub record AsRead (input : Bytes) : Type 0 where
-  pub size : buses_of (first_line input) ≡ Is (size_of input)
+  pub size : buses_of (first_line input) ≡ Some (size_of input)
   pub small : size_of input ≤ most
   pub there : 1 + size_of input + entry_count input ≤ length (lines input)
   pub names : Names (size_of input) (bus_numbers input)
   pub numbers : length (making_in input).given ≡ 2 * entry_count input
   pub place : ℕ
-  pub then : run_of input ≡ drops finish place (after_new (making_in input)).rec (making_in input).given (drop_part input)
+  pub then : run_of input ≡ drops finish place (record_made (making_in input)) (making_in input).given (drop_part input)
 
 as_read : (input : Bytes) (ls : List Bytes) → lines input ≡ ls → IsKept input → AsRead input
 unfolding run_of size_of making_in bus_numbers
-as_read input [] e h = absurd (at-end (BadLine 1) (unfold first in rw e at h))
+as_read input [] e h = absurd (at-end (Err (BadLine 1)) (unfold first in rw e at h))
 as_read input (l ∷ ls) e h =
     let a = first-buses l ls (rw e at h) in
     record {
@@ -62,7 +62,7 @@ module _ (input : Bytes) (h : IsKept input) where
   abbrev given : AsRead input
   given = as_read input (lines input) refl h
 
-  abbrev at-drops : end_of (drops finish given.place (after_new (making_in input)).rec (making_in input).given (drop_part input)) ≡ Kept
+  abbrev at-drops : end_of (drops finish given.place (record_made (making_in input)) (making_in input).given (drop_part input)) ≡ Ok tt
   at-drops = ap end_of (sym given.then) ∙ h
 
   is_made : AcceptedMaking (making_in input)
@@ -71,13 +71,13 @@ module _ (input : Bytes) (h : IsKept input) where
 
   ends : state_left input ≡ left (making_in input) (calls input)
   unfolding state_left left calls
-  ends = ap held_of given.then ∙ (drops-calls given.place (after_new (making_in input)).rec (making_in input).given (drop_part input) at-drops).ends
+  ends = ap held_of given.then ∙ (drops-calls given.place (record_made (making_in input)) (making_in input).given (drop_part input) at-drops).ends
 
   all_lines : 1 + size_of input + entry_count input + length (calls input) ≡ length (lines input)
   unfolding calls
   all_lines = omega (
     arith,
-    (drops-calls given.place (after_new (making_in input)).rec (making_in input).given (drop_part input) at-drops).all_lines,
+    (drops-calls given.place (record_made (making_in input)) (making_in input).given (drop_part input) at-drops).all_lines,
     given.there,
     length-drop (entry_count input) (behind_numbers input),
     length-drop (size_of input) (behind_first input),

@@ -31,7 +31,7 @@ two-bus : Bytes
 two-bus = ascii "buses 2\n0\n1\n3ff0000000000000 0000000000000000\nbff0000000000000 0000000000000000\nbff0000000000000 0000000000000000\n4000000000000000 0000000000000000\ndrop 1\n"
 
 two-bus-kept : IsKept two-bus
-unfolding two-bus Reading.run_of Reading.first Reading.most Reading.named Reading.entries Reading.drops Reading.finish Lines.lines Lines.starts_with Lines.number_after Lines.entry_of Words.decimal_of Words.hex_of Reducer.after_new Reducer.making_shape_refusal Reducer.making_refusal Refusals.then_given Buses.up_to Reducer.after_bus Reducer.leaves Reducer.removed_rows Reducer.removals_refusal Reducer.input_shape_refusal Reducer.input_refusal Reducer.sound_rows Reducer.sound_numbers Buses.repeats Buses.rows_in Reducer.state_of Reducer.stored Kron.eliminate Kron.carried_out Kron.stopped_by Kron.removal_refusal Kron.kron Buses.others Buses.place Buses.rising Buses.all_below Buses.all_zero Refusals.outcome Entries.entry Matrices.entry_at Matrices.row Arithmetic.cmul Arithmetic.csub Arithmetic.cdiv Ieee.of_bits Ieee.to_bits Ieee.sub Ieee.mul Ieee.div Ieee.lt Kron.of_row Kron.of_rows all_finite
+unfolding two-bus Reading.run_of Reading.first Reading.most Reading.named Reading.entries Reading.drops Reading.finish Lines.lines Lines.starts_with Lines.number_after Lines.entry_of Words.decimal_of Words.hex_of Reducer.made Reducer.making_shape_refusal Reducer.making_refusal Refusals.then_given Buses.up_to Reducer.after_bus Reducer.leaves Reducer.removed_rows Reducer.removals_refusal Reducer.input_shape_refusal Reducer.input_refusal Reducer.sound_rows Reducer.sound_numbers Buses.repeats Buses.rows_in Reducer.state_of Reducer.stored Kron.eliminate Kron.carried_out Kron.stopped_by Kron.removal_refusal Kron.kron Buses.others Buses.place Buses.rising Refusals.answered Entries.entry Matrices.entry_at Matrices.row Arithmetic.cmul Arithmetic.csub Arithmetic.cdiv Ieee.of_bits Ieee.to_bits Ieee.sub Ieee.mul Ieee.div Ieee.lt Kron.of_row Kron.of_rows all_finite
 two-bus-kept = refl
 
 two-bus-making : making_in two-bus ≡ book
@@ -52,7 +52,7 @@ apart : Bytes
 apart = ascii "buses 2\n7\n0\n3ff0000000000000 0000000000000000\n0000000000000000 8000000000000000\n0000000000000000 0000000000000000\n4000000000000000 0000000000000000\ndrop 0\n"
 
 apart-kept : IsKept apart
-unfolding apart Reading.run_of Reading.first Reading.most Reading.named Reading.entries Reading.drops Reading.finish Lines.lines Lines.starts_with Lines.number_after Lines.entry_of Words.decimal_of Words.hex_of Reducer.after_new Reducer.making_shape_refusal Reducer.making_refusal Refusals.then_given Buses.up_to Reducer.after_bus Reducer.leaves Reducer.removed_rows Reducer.removals_refusal Reducer.input_shape_refusal Reducer.input_refusal Reducer.sound_rows Reducer.sound_numbers Buses.repeats Buses.rows_in Reducer.state_of Reducer.stored Kron.eliminate Kron.carried_out Kron.stopped_by Kron.removal_refusal Kron.kron Buses.others Buses.place Buses.rising Buses.all_below Buses.all_zero Refusals.outcome Entries.entry Matrices.entry_at Matrices.row Arithmetic.cmul Arithmetic.csub Arithmetic.cdiv Ieee.of_bits Ieee.to_bits Ieee.sub Ieee.mul Ieee.div Ieee.lt Kron.of_row Kron.of_rows all_finite
+unfolding apart Reading.run_of Reading.first Reading.most Reading.named Reading.entries Reading.drops Reading.finish Lines.lines Lines.starts_with Lines.number_after Lines.entry_of Words.decimal_of Words.hex_of Reducer.made Reducer.making_shape_refusal Reducer.making_refusal Refusals.then_given Buses.up_to Reducer.after_bus Reducer.leaves Reducer.removed_rows Reducer.removals_refusal Reducer.input_shape_refusal Reducer.input_refusal Reducer.sound_rows Reducer.sound_numbers Buses.repeats Buses.rows_in Reducer.state_of Reducer.stored Kron.eliminate Kron.carried_out Kron.stopped_by Kron.removal_refusal Kron.kron Buses.others Buses.place Buses.rising Refusals.answered Entries.entry Matrices.entry_at Matrices.row Arithmetic.cmul Arithmetic.csub Arithmetic.cdiv Ieee.of_bits Ieee.to_bits Ieee.sub Ieee.mul Ieee.div Ieee.lt Kron.of_row Kron.of_rows all_finite
 apart-kept = refl
 
 only_one : (k : ℕ) → k is_one_of 1 ∷ [] → k ≡ 1

@@ -1,21 +1,17 @@
 -- What an input of `reduce` says: the buses and their numbers, the matrix that a reducer is made of, and the drops as a list of calls.
+use Rattle.std.specs.Prelude.{Option, Some, None, Ok}
 use Rattle.std.specs.Prelude.{ℕ, ◌*◌, List, [], ◌∷◌, ◌++◌, map, ◌≡◌, get_or, take, drop, Float}
 use Rattle.kron_reduction.specs.Reducer.{ReducerInput, reducer_input_of, ReducerState, reducer_state_of}
 use Rattle.claims.specs.Accounts.{Call, bus, Account, account}
-use Rattle.text_numbers.specs.declared.Number.{Number}
-use Rattle.text_numbers.specs.declared.Number.TheVariants.{Is, Not}
-use Rattle.reduce_text.specs.declared.text.Entry.{Entry}
-use Rattle.reduce_text.specs.declared.text.Entry.TheVariants.{Words, NoEntry}
-use Rattle.reduce_text.specs.declared.read.End.TheVariants.{Kept}
 use Rattle.text_numbers.specs.Bytes.{Bytes}
 use Rattle.reduce_text.specs.Lines.{lines, buses_of, number_of, drop_of, entry_of}
 use Rattle.reduce_text.specs.Reading.{of_word, run_of}
 
 -- ---- lines that are taken for numbers, for entries, and for drops
 
-abbrev pub bus_in : Number → List ℕ
-bus_in (Is k) = k ∷ []
-bus_in Not = []
+abbrev pub bus_in : Option ℕ → List ℕ
+bus_in (Some k) = k ∷ []
+bus_in None = []
 
 -- the buses of the number lines, in order
 unfoldable pub names_of : List Bytes → List ℕ
@@ -23,9 +19,9 @@ names_of [] = []
 names_of (l ∷ ls) = bus_in (number_of l) ++ names_of ls
 
 -- real and imaginary part
-abbrev pub entry_parts : Entry → List Float
-entry_parts (Words a b) = of_word a ∷ of_word b ∷ []
-entry_parts NoEntry = []
+abbrev pub entry_parts : Option (ℕ × ℕ) → List Float
+entry_parts (Some (a, b)) = of_word a ∷ of_word b ∷ []
+entry_parts None = []
 
 -- the numbers of the entry lines, in order
 unfoldable pub entries_of : List Bytes → List Float
@@ -47,9 +43,9 @@ calls_of ls = map bus (dropped ls)
 abbrev pub first_line : Bytes → Bytes
 first_line input = get_or (lines input) 0 []
 
-abbrev pub or_none : Number → ℕ
-or_none (Is n) = n
-or_none Not = 0
+abbrev pub or_none : Option ℕ → ℕ
+or_none (Some n) = n
+or_none None = 0
 
 -- the buses that the first line tells
 unfoldable pub size_of : Bytes → ℕ
@@ -92,7 +88,7 @@ account_of input = account (making_in input) (calls input)
 
 -- the input is read to its end, and no drop is refused: what is left is printed
 abbrev pub IsKept : Bytes → Type 0
-IsKept input = (run_of input).reading.end ≡ Kept
+IsKept input = (run_of input).reading.end ≡ Ok tt
 
 -- the record, and the numbers of the matrix, at the run's end
 unfoldable pub state_left : Bytes → ReducerState

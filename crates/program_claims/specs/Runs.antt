@@ -1,4 +1,5 @@
 -- What demand 3 says of the program `reduce`: its drops are a list of calls, and the claims on lists of calls hold of what it prints.
+use Rattle.std.specs.Prelude.{Some}
 use Rattle.std.specs.Prelude.{◌+◌, ◌≡◌, length}
 use Rattle.lists.specs.Buses.{rows_in}
 use Rattle.kron_reduction.specs.Reducer.{AcceptedMaking, record_of}
@@ -6,7 +7,6 @@ use Rattle.kron_reduction.specs.Reading.{active_numbers}
 use Rattle.claims.specs.Accounts.{left, kept, numbers_at}
 use Rattle.claims.specs.Finite.{Finite}
 use Rattle.claims.specs.Removals.{Unchanged, Independent}
-use Rattle.text_numbers.specs.declared.Number.TheVariants.{Is}
 use Rattle.text_numbers.specs.Bytes.{Bytes}
 use Rattle.reduce_text.specs.Lines.{lines, buses_of}
 use Rattle.reduce_text.specs.Reading.{run_of}
@@ -18,7 +18,7 @@ use Rattle.program_claims.specs.Inputs.{IsKept, state_left}
 -- of an input that is kept: the first line tells the buses; the making is accepted, so each line behind it that is due is a number, none of
 -- them twice, and then an entry; each line behind those is a call; and what the run ends with, and prints, is what the calls leave
 pub record DropsAreCalls (input : Bytes) : Type 0 where
-  pub size : buses_of (first_line input) ≡ Is (size_of input)
+  pub size : buses_of (first_line input) ≡ Some (size_of input)
   pub made : AcceptedMaking (making_in input)
   pub all_lines : 1 + size_of input + entry_count input + length (calls input) ≡ length (lines input)
   pub ends : state_left input ≡ left (making_in input) (calls input)

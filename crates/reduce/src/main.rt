@@ -6,15 +6,13 @@ ghost use Rattle.std.specs.Prelude.{◌≡◌, length};
 ghost use Rattle.reduce_text.specs.Reduce.{input_length, output_length, matrix_length, printed};
 ghost use Rattle.reduce.specs.Inner.Moves.{Front};
 
-use moves::Move;
-use reduce_text::Answer;
 use std::alloc::{AllocError, Global};
 use std::io::Error;
 use std::process::ExitCode;
 
 mod moves;
 
-// The buffers, by their lengths alone.
+// The buffers, by their lengths alone: fixed memory, since the program asks for none before a call has failed.
 fn input_buffer() -> [u8; reduce_text::INPUT]
     ensures { input_length ≡ length result }
 {
@@ -38,11 +36,7 @@ fn answer(input: &[u8], output: &mut [u8], matrix: &mut [f64]) -> usize
     requires { (output_length ≡ length output.old) × (matrix_length ≡ length matrix.old) }
     ensures { Front result output.new (printed input.now) }
 {
-    let told = reduce_text::reduce(input, output, matrix);
-    match told {
-        Answer::Written(n) => n,
-        Answer::Refused(_) => 0,
-    }
+    reduce_text::reduce(input, output, matrix).unwrap_or(0)
 }
 
 // The system's words for a failure, without its number.
@@ -66,14 +60,14 @@ fn fail(rt: &(impl Eprint + AllocGlobal), what: &str, why: Error) -> ExitCode {
 fn main(rt: HostRuntime) -> ExitCode {
     let mut input = input_buffer();
     let n = match moves::read(&mut rt.stdin(), &mut input) {
-        Move::Bytes(n) => n,
-        Move::Failed(why) => return fail(&rt, "reading standard input", why),
+        Ok(n) => n,
+        Err(why) => return fail(&rt, "reading standard input", why),
     };
     let mut output = output_buffer();
     let mut matrix = matrix_buffer();
     let k = answer(&input[..n], &mut output, &mut matrix);
     match moves::write(&mut rt.stdout(), &output[..k]) {
-        Move::Bytes(_) => ExitCode::SUCCESS,
-        Move::Failed(why) => fail(&rt, "writing standard output", why),
+        Ok(_) => ExitCode::SUCCESS,
+        Err(why) => fail(&rt, "writing standard output", why),
     }
 }

@@ -1,32 +1,27 @@
 -- What a run leaves has room: the making is accepted and the record is one that removals leave, so its buses are few, and the text of every run fits the output.
 use Rattle.prelude.proofs.Prelude.{◌≡◌, refl, sym, ap, ◌∙◌, subst, ◌⊎◌, inl, inr, Bool, true, false, cond, List, [], ◌∷◌, ◌++◌, ℕ, zero, suc, ◌+◌, ◌-◌, ◌*◌, ◌≤◌, ◌<◌, arith, T, length, get_or, replicate, Float, ◌^◌, map, mul-le-mul, le_trans, le_of_eq, leb, lit≤, leb→le, length-append}
+use Rattle.std.specs.Prelude.{Option, Some, None, Result, Ok, Err}
+use Rattle.reduce_text.specs.declared.read.Trouble.TheVariants.{RefusedDrop, BadLine}
 use Rattle.binary64.specs.Values.{all_finite}
 use Rattle.complex.specs.{entry_at}
 use Rattle.complex.proofs.Finite.{none, all_more, all_join}
-use Rattle.refusals.specs.declared.Outcome.{Outcome}
-use Rattle.refusals.specs.declared.Outcome.TheVariants.{Done, Refused}
-use Rattle.refusals.specs.Refusals.{limit, not_active, small_entry, computed_not_finite, outcome}
+use Rattle.refusals.specs.declared.Refusal.{Refusal}
+use Rattle.refusals.specs.Refusals.{limit, not_active, small_entry, computed_not_finite, outcome, number, number_of as answer_number, answered}
 use Rattle.kron_reduction.specs.declared.KronReducer.{KronReducer}
 use Rattle.kron_reduction.specs.Kron.{State, start, eliminate, carried_out, stopped_by}
-use Rattle.lists.specs.Buses.{mem, rising, all_below, repeats, rows_in}
-use Rattle.kron_reduction.specs.Reducer.{padded, reducer_input_of, making_refusal, record_of, active_of, sound, after_new, ReducerState, reducer_state_of, stored, leaves, removed_rows, removals_refusal, after_bus}
+use Rattle.lists.specs.Buses.{mem, rising, repeats, rows_in}
+use Rattle.kron_reduction.specs.Reducer.{padded, reducer_input_of, making_refusal, record_of, active_of, sound, made, ReducerState, reducer_state_of, stored, leaves, removed_rows, removals_refusal, after_bus}
 use Rattle.kron_reduction.specs.Reading.{active_numbers}
 use Rattle.kron_reduction.proofs.States.{FromState, stop-cases, FiniteIn, finite-eliminate, Regular, regular-start, regular-eliminate, taken-accepted}
 use Rattle.lists.proofs.Naming.{repeats-more}
 use Rattle.kron_reduction.proofs.Making.{making-none}
 use Rattle.kron_reduction.proofs.FiniteAnswers.{finite-start}
 use Rattle.kron_reduction.proofs.Reducer.{sound-record_of, active-room, length-stored, row_major-all, removed-stored, refusal-stored, leaves-stored}
-use Rattle.text_numbers.specs.declared.Number.{Number}
-use Rattle.text_numbers.specs.declared.Number.TheVariants.{Is, Not}
-use Rattle.reduce_text.specs.declared.text.Entry.{Entry}
-use Rattle.reduce_text.specs.declared.text.Entry.TheVariants.{Words, NoEntry}
-use Rattle.reduce_text.specs.declared.read.End.{End}
-use Rattle.reduce_text.specs.declared.read.End.TheVariants.{Kept, RefusedDrop, BadLine}
 use Rattle.text_numbers.specs.Bytes.{Bytes}
 use Rattle.text_numbers.proofs.WordSizes.{decimal-below}
 use Rattle.reduce_text.specs.Lines.{lines, buses_of, number_of, drop_of, entry_of}
 use Rattle.reduce_text.proofs.LineLaws.{entry-finite}
-use Rattle.reduce_text.specs.Reading.{most, Run, ended, no_reducer, Onward, of_word, on_number, on_outcome, on_entry, after_drop, drops, finish, entries, bad_at, named, first, run_of}
+use Rattle.reduce_text.specs.Reading.{most, End, Run, ended, no_reducer, Onward, of_word, on_number, on_outcome, on_entry, after_drop, drops, finish, entries, bad_at, named, first, run_of}
 
 -- `reduce` reads no more buses than the library takes
 pub most-limit : most ≤ limit
@@ -77,7 +72,7 @@ names_more k ns b h l m = record {
 
 -- ---- the numbers of entry lines are finite
 
-pub finite-more : (ys : List Float) (l : Bytes) (a b : ℕ) → T (all_finite ys) → entry_of l ≡ Words a b → T (all_finite (ys ++ (of_word a ∷ of_word b ∷ [])))
+pub finite-more : (ys : List Float) (l : Bytes) (a b : ℕ) → T (all_finite ys) → entry_of l ≡ Some (a, b) → T (all_finite (ys ++ (of_word a ∷ of_word b ∷ [])))
 finite-more ys l a b h e =
     let (x, y) = entry-finite l a b e in
     all_join ys (of_word a ∷ of_word b ∷ []) h (all_more (of_word a) (of_word b ∷ []) x (all_more (of_word b) [] y none))
@@ -96,11 +91,11 @@ pub making-accepted : (n : ℕ) (ns : List ℕ) (ys : List Float) → n ≤ most
 making-accepted n ns ys h m e f =
     sym (making-none n ys ns (le_trans h most-limit) (le_trans (le_of_eq m.many) (le_trans h most-limit)) e m.many m.distinct f)
 
-pub fresh : (n : ℕ) (ns : List ℕ) (ys : List Float) → n ≤ most → Names n ns → length ys ≡ 2 * (n * n) → T (all_finite ys) → reducer_state_of (after_new (reducer_input_of n ys ns)).rec ys ≡ stored n ns (start n (entry_at n ys))
-unfolding after_new stored
+pub fresh : (n : ℕ) (ns : List ℕ) (ys : List Float) → n ≤ most → Names n ns → length ys ≡ 2 * (n * n) → T (all_finite ys) → reducer_state_of (made (reducer_input_of n ys ns)) ys ≡ stored n ns (start n (entry_at n ys))
+unfolding made stored
 fresh n ns ys h m e f = rw (making-accepted n ns ys h m e f, row_major-all n ys e)
 
-pub stored-new : (n : ℕ) (ns : List ℕ) (ys : List Float) → n ≤ most → Names n ns → length ys ≡ 2 * (n * n) → T (all_finite ys) → StoredRun n ns (after_new (reducer_input_of n ys ns)).rec ys
+pub stored-new : (n : ℕ) (ns : List ℕ) (ys : List Float) → n ≤ most → Names n ns → length ys ≡ 2 * (n * n) → T (all_finite ys) → StoredRun n ns (made (reducer_input_of n ys ns)) ys
 stored-new n ns ys h m e f = record {
   state = start n (entry_at n ys);
   small = h;
@@ -147,7 +142,7 @@ pub record Fit (r : KronReducer) (ys : List Float) : Type 0 where
   pub below : Small (active_numbers r)
 
 none-sound : T (sound no_reducer)
-none-sound = sound-record_of 0 [] [] (omega arith) (unfold rising in tt) (unfold all_below in tt) refl (unfold repeats in refl)
+none-sound = sound-record_of 0 [] [] (omega arith) (unfold rising in tt) tt refl (unfold repeats in refl)
 
 pub fit_none : (ys : List Float) → Fit no_reducer ys
 fit_none ys = record { size = omega arith; is-sound = none-sound; few = omega arith; entries = omega arith; below = λ i. lit≤ tt }
@@ -173,21 +168,19 @@ fit-stored n ns r ys h =
 -- ---- a drop that is refused: 11, 12 or 20, since the record is sound and the entries are finite
 
 abbrev pub DropTold : End → Type 0
-DropTold Kept = Unit {0}
-DropTold (RefusedDrop f k) = (f ≡ not_active) ⊎ ((f ≡ small_entry) ⊎ (f ≡ computed_not_finite))
-DropTold (BadLine p) = Unit {0}
+DropTold (Ok u) = Unit {0}
+DropTold (Err (RefusedDrop f k)) = (number f ≡ not_active) ⊎ ((number f ≡ small_entry) ⊎ (number f ≡ computed_not_finite))
+DropTold (Err (BadLine p)) = Unit {0}
 
-number_or : Outcome → ℕ
-number_or Done = 0
-number_or (Refused f) = f
-
-told-number : (x f : ℕ) → Refused f ≡ outcome x → FromState x → (f ≡ not_active) ⊎ ((f ≡ small_entry) ⊎ (f ≡ computed_not_finite))
-unfolding outcome number_or
-told-number zero f e c = absurd (let z : ◌≡◌ {A = ℕ} 0 1 = cc in omega arith)
+told-number : (x : ℕ) (f : Refusal) → Err f ≡ outcome x → FromState x → (number f ≡ not_active) ⊎ ((number f ≡ small_entry) ⊎ (number f ≡ computed_not_finite))
+unfolding answered
+told-number zero f e c = cc
 told-number (suc x) f e (inl z) = absurd (omega arith)
-told-number (suc x) f e (inr c) = let same : f ≡ suc x = ap number_or e in rw same c
+told-number (suc x) f e (inr (inl z)) = inl (ap answer_number (e ∙ ap outcome z))
+told-number (suc x) f e (inr (inr (inl z))) = inr (inl (ap answer_number (e ∙ ap outcome z)))
+told-number (suc x) f e (inr (inr (inr z))) = inr (inr (ap answer_number (e ∙ ap outcome z)))
 
-drop-told : (n : ℕ) (ns : List ℕ) (r : KronReducer) (ys : List Float) (k f : ℕ) → StoredRun n ns r ys → (after_bus r ys k).out.answer ≡ Refused f → DropTold (RefusedDrop f k)
+drop-told : (n : ℕ) (ns : List ℕ) (r : KronReducer) (ys : List Float) (k : ℕ) (f : Refusal) → StoredRun n ns r ys → (after_bus r ys k).out.answer ≡ Err f → DropTold (Err (RefusedDrop f k))
 unfolding after_bus
 drop-told n ns r ys k f h e =
     let s = h.state in
@@ -202,7 +195,7 @@ pub record FitRun (R : Run) : Type 0 where
   pub fit : Fit R.reading.rec R.numbers
   pub told : DropTold R.reading.end
 
-none-run : (p : ℕ) (ys : List Float) → FitRun (ended (BadLine p) no_reducer ys)
+none-run : (p : ℕ) (ys : List Float) → FitRun (ended (Err (BadLine p)) no_reducer ys)
 none-run p ys = record { fit = fit_none ys; told = tt }
 
 -- what follows the lines that are read
@@ -219,29 +212,29 @@ unfolding drops
 drops-fit n ns p r ys [] h = finish-fit n ns p r ys [] h
 drops-fit n ns p r ys (l ∷ ls) h = number (drop_of l) (λ r' ys' h'. drops-fit n ns (p + 1) r' ys' ls h')
   where
-    ending : (o : Outcome) (k : ℕ) (r' : KronReducer) (ys' : List Float) → (after_bus r ys k).out.answer ≡ o → StoredRun n ns r' ys'
+    ending : (o : Result (Unit {0}) Refusal) (k : ℕ) (r' : KronReducer) (ys' : List Float) → (after_bus r ys k).out.answer ≡ o → StoredRun n ns r' ys'
         → ((r'' : KronReducer) (ys'' : List Float) → StoredRun n ns r'' ys'' → FitRun (drops finish (p + 1) r'' ys'' ls))
         → FitRun (on_outcome o k r' ys' (λ r'' ys''. drops finish (p + 1) r'' ys'' ls))
-    ending Done k r' ys' e h' f = f r' ys' h'
-    ending (Refused x) k r' ys' e h' f = record { fit = fit-stored n ns r' ys' h'; told = drop-told n ns r ys k x h e }
+    ending (Ok u) k r' ys' e h' f = f r' ys' h'
+    ending (Err x) k r' ys' e h' f = record { fit = fit-stored n ns r' ys' h'; told = drop-told n ns r ys k x h e }
 
-    number : (w : Number) → ((r'' : KronReducer) (ys'' : List Float) → StoredRun n ns r'' ys'' → FitRun (drops finish (p + 1) r'' ys'' ls))
+    number : (w : Option ℕ) → ((r'' : KronReducer) (ys'' : List Float) → StoredRun n ns r'' ys'' → FitRun (drops finish (p + 1) r'' ys'' ls))
         → FitRun (on_number w (λ k. after_drop k (after_bus r ys k) (λ r' ys'. drops finish (p + 1) r' ys' ls)) (finish p r ys (l ∷ ls)))
-    number (Is k) f =
+    number (Some k) f =
         ending (after_bus r ys k).out.answer k (after_bus r ys k).out.rec (after_bus r ys k).slice refl (stored-bus n ns r ys k h) f
-    number Not f = finish-fit n ns p r ys (l ∷ ls) h
+    number None f = finish-fit n ns p r ys (l ∷ ls) h
 
 pub entries_fit : (n : ℕ) (ns : List ℕ) (k p : ℕ) (ys : List Float) (ls : List Bytes) → n ≤ most → Names n ns → length ys + 2 * k ≡ 2 * (n * n) → T (all_finite ys)
     → FitRun (entries (drops finish) n ns k p ys ls)
 unfolding entries
-entries_fit n ns zero p ys ls h m e g = drops-fit n ns p (after_new (reducer_input_of n ys ns)).rec ys ls (stored-new n ns ys h m (omega arith) g)
+entries_fit n ns zero p ys ls h m e g = drops-fit n ns p (made (reducer_input_of n ys ns)) ys ls (stored-new n ns ys h m (omega arith) g)
 entries_fit n ns (suc k) p ys [] h m e g = none-run p ys
 entries_fit n ns (suc k) p ys (l ∷ ls) h m e g = found (entry_of l) refl (λ zs f i. entries_fit n ns k (p + 1) zs ls h m f i)
   where
-    found : (w : Entry) → entry_of l ≡ w → ((zs : List Float) → length zs + 2 * k ≡ 2 * (n * n) → T (all_finite zs) → FitRun (entries (drops finish) n ns k (p + 1) zs ls))
-        → FitRun (on_entry w (λ a b. entries (drops finish) n ns k (p + 1) (ys ++ (of_word a ∷ of_word b ∷ [])) ls) (ended (BadLine p) no_reducer ys))
-    found (Words a b) q f = f (ys ++ (of_word a ∷ of_word b ∷ [])) (omega (arith, length-append ys (of_word a ∷ of_word b ∷ []))) (finite-more ys l a b g q)
-    found NoEntry q f = none-run p ys
+    found : (w : Option (ℕ × ℕ)) → entry_of l ≡ w → ((zs : List Float) → length zs + 2 * k ≡ 2 * (n * n) → T (all_finite zs) → FitRun (entries (drops finish) n ns k (p + 1) zs ls))
+        → FitRun (on_entry w (λ a b. entries (drops finish) n ns k (p + 1) (ys ++ (of_word a ∷ of_word b ∷ [])) ls) (ended (Err (BadLine p)) no_reducer ys))
+    found (Some (a, b)) q f = f (ys ++ (of_word a ∷ of_word b ∷ [])) (omega (arith, length-append ys (of_word a ∷ of_word b ∷ []))) (finite-more ys l a b g q)
+    found None q f = none-run p ys
 
 pub named-fit : (n k j p : ℕ) (ns : List ℕ) (ls : List Bytes) → n ≤ most → Names j ns → j + k ≡ n → FitRun (named (drops finish) n k p ns ls)
 unfolding named
@@ -254,10 +247,10 @@ named-fit n (suc k) j p ns (l ∷ ls) h m e = number (number_of l) refl (λ ms g
     fresh-one b l true q f = none-run p []
     fresh-one b l false q f = f (ns ++ (b ∷ [])) (names_more j ns b m l q)
 
-    number : (w : Number) → number_of l ≡ w → ((ms : List ℕ) → Names (j + 1) ms → FitRun (named (drops finish) n k (p + 1) ms ls))
+    number : (w : Option ℕ) → number_of l ≡ w → ((ms : List ℕ) → Names (j + 1) ms → FitRun (named (drops finish) n k (p + 1) ms ls))
         → FitRun (on_number w (λ b. cond (mem b ns) (bad_at p) (named (drops finish) n k (p + 1) (ns ++ (b ∷ [])) ls)) (bad_at p))
-    number (Is b) q f = fresh-one b (decimal-below l b q) (mem b ns) refl f
-    number Not q f = none-run p []
+    number (Some b) q f = fresh-one b (decimal-below l b q) (mem b ns) refl f
+    number None q f = none-run p []
 
 pub run-fit : (input : Bytes) → FitRun (run_of input)
 unfolding run_of first
@@ -267,14 +260,14 @@ run-fit input = go (lines input)
     size n true f ls = named-fit n n 0 2 [] ls (f tt) names-none (omega arith)
     size n false f ls = none-run 1 []
 
-    number : (w : Number) (ls : List Bytes) → FitRun (on_number w (λ n. cond (leb n most) (named (drops finish) n n 2 [] ls) (bad_at 1)) (bad_at 1))
-    number (Is n) ls = size n (leb n most) (leb→le n most) ls
-    number Not ls = none-run 1 []
+    number : (w : Option ℕ) (ls : List Bytes) → FitRun (on_number w (λ n. cond (leb n most) (named (drops finish) n n 2 [] ls) (bad_at 1)) (bad_at 1))
+    number (Some n) ls = size n (leb n most) (leb→le n most) ls
+    number None ls = none-run 1 []
 
     go : (ls : List Bytes) → FitRun (first (drops finish) ls)
     go [] = none-run 1 []
     go (l ∷ ls) = number (buses_of l) ls
 
 -- a drop is refused by 11, 12 or 20 alone: the record's refusals, and 19, never come
-pub drops-told : (input : Bytes) (f k : ℕ) → (run_of input).reading.end ≡ RefusedDrop f k → (f ≡ not_active) ⊎ ((f ≡ small_entry) ⊎ (f ≡ computed_not_finite))
+pub drops-told : (input : Bytes) (f : Refusal) (k : ℕ) → (run_of input).reading.end ≡ Err (RefusedDrop f k) → (number f ≡ not_active) ⊎ ((number f ≡ small_entry) ⊎ (number f ≡ computed_not_finite))
 drops-told input f k e = subst DropTold e (run-fit input).told

@@ -1,25 +1,21 @@
 -- The program reads no further than its buffer: what it prints for an input is what it prints for the first so many bytes of it.
 use Rattle.prelude.proofs.Prelude.{◌≡◌, refl, sym, ap, ◌∙◌, subst, Bool, true, false, cond, List, [], ◌∷◌, ◌++◌, ℕ, zero, suc, ◌+◌, ◌-◌, ◌*◌, ◌≤◌, ◌<◌, arith, T, eqb, length, take, drop, Float, le_trans, mul-le-mul, eq-eqb, ne_eqb, leb, lit≤, leb→le, length-append, length-take, length-drop, length-take-le, is_true}
+use Rattle.std.specs.Prelude.{Option, Some, None, Result, Ok, Err}
+use Rattle.reduce_text.specs.declared.read.Trouble.TheVariants.{BadLine}
 use native.Mathlib.Decide.{dec_lt, ℕ_discrete}
 use lib.Seq.{take-nil}
 use Rattle.lists.proofs.Order.{length-up_to}
 use Rattle.binary64.specs.Values.{all_finite}
 use Rattle.complex.proofs.Finite.{none}
-use Rattle.refusals.specs.declared.Outcome.{Outcome}
-use Rattle.refusals.specs.declared.Outcome.TheVariants.{Done, Refused}
-use Rattle.refusals.specs.Refusals.{outcome}
+use Rattle.refusals.specs.declared.Refusal.{Refusal}
+use Rattle.refusals.specs.Refusals.{outcome, answered}
 use Rattle.kron_reduction.specs.declared.KronReducer.{KronReducer}
 use Rattle.lists.specs.Buses.{mem, ◌is_one_of◌, others, place, rows_in}
 use Rattle.kron_reduction.specs.Kron.{State, accepts, removal_refusal, eliminate, carried_out, stopped_by}
-use Rattle.kron_reduction.specs.Reducer.{reducer_input_of, removals_refusal, after_new, after_bus, ReducerState, stored}
+use Rattle.kron_reduction.specs.Reducer.{reducer_input_of, removals_refusal, made, after_bus, ReducerState, stored}
 use Rattle.lists.proofs.Buses.{others-one, place-lt}
 use Rattle.kron_reduction.proofs.States.{Regular, accepted-active, eliminate-active}
 use Rattle.kron_reduction.proofs.Reducer.{refusal-stored}
-use Rattle.text_numbers.specs.declared.Number.{Number}
-use Rattle.text_numbers.specs.declared.Number.TheVariants.{Is, Not}
-use Rattle.reduce_text.specs.declared.text.Entry.{Entry}
-use Rattle.reduce_text.specs.declared.text.Entry.TheVariants.{Words, NoEntry}
-use Rattle.reduce_text.specs.declared.read.End.TheVariants.{BadLine}
 use Rattle.text_numbers.specs.Bytes.{Bytes, ascii}
 use Rattle.text_numbers.proofs.WordSizes.{decimal-below}
 use Rattle.reduce_text.specs.Lines.{lines, span, buses_of, number_of, drop_of, entry_of}
@@ -34,10 +30,10 @@ use Rattle.reduce_text.proofs.Fit.{Names, names-none, names_more, finite-more, S
 
 -- ---- a drop that is carried out: one bus fewer is left
 
-outcome-done : (f : ℕ) → outcome f ≡ Done → f ≡ 0
-unfolding outcome
+outcome-done : (f : ℕ) → outcome f ≡ Ok tt → f ≡ 0
+unfolding answered
 outcome-done zero e = refl
-outcome-done (suc f) e = absurd (let z : ◌≡◌ {A = ℕ} 0 1 = cc in omega arith)
+outcome-done (suc f) e = cc
 
 none-refused : (x : ℕ) → cond (eqb x 0) 0 x ≡ 0 → T (eqb x 0)
 none-refused x e = go (ℕ_discrete x 0)
@@ -62,7 +58,7 @@ length-less i s n g m =
     omega
     (arith, ap length (others-one i xs g.rises m), length-append (take p xs) (drop (suc p) xs), length-take-le p xs (omega arith), length-drop (suc p) xs)
 
-module _ (n : ℕ) (ns : List ℕ) (r : KronReducer) (ys : List Float) (k : ℕ) (h : StoredRun n ns r ys) (e : (after_bus r ys k).out.answer ≡ Done) where
+module _ (n : ℕ) (ns : List ℕ) (r : KronReducer) (ys : List Float) (k : ℕ) (h : StoredRun n ns r ys) (e : (after_bus r ys k).out.answer ≡ Ok tt) where
   no-refusal : removals_refusal r ys (k ∷ []) ≡ 0
   unfolding after_bus
   no-refusal = outcome-done (removals_refusal r ys (k ∷ [])) e
@@ -108,21 +104,21 @@ module _ (n : ℕ) (ns : List ℕ) (p : ℕ) (r : KronReducer) (ys : List Float)
       ls' : List Bytes
       ls' = lines (take (m - suc (span d)) (behind d))
 
-      done : (k : ℕ) → drop_of (first_line d) ≡ Is k → (o : Outcome) → (after_bus r ys k).out.answer ≡ o
+      done : (k : ℕ) → drop_of (first_line d) ≡ Some k → (o : Result (Unit {0}) Refusal) → (after_bus r ys k).out.answer ≡ o
           → on_outcome o k (after_bus r ys k).out.rec (after_bus r ys k).slice (λ r' ys'. drops finish (p + 1) r' ys' (lines (behind d)))
           ≡ on_outcome o k (after_bus r ys k).out.rec (after_bus r ys k).slice (λ r' ys'. drops finish (p + 1) r' ys' (lines (take (m - suc (span d)) (behind d))))
-      done k e Done a =
+      done k e (Ok u) a =
           let fewer : (after_bus r ys k).out.rec.n_buses < r.n_buses = bus-fewer n ns r ys k h a in
           let size : length (first_line d) ≤ 15 = number_size (ascii "drop ") (first_line d) k 10 e (le_trans (number-below (ascii "drop ") (first_line d) k e) (lit≤ tt)) (lit≤ tt) in
           rest (after_bus r ys k).out.rec (after_bus r ys k).slice (behind d) (m - suc (span d)) (stored-bus n ns r ys k h) fewer
           (omega (arith, length-take (span d) d, span-le d, size, fewer, room))
-      done k e (Refused f) a = refl
+      done k e (Err f) a = refl
 
-      number : (w : Number) → drop_of (first_line d) ≡ w
+      number : (w : Option ℕ) → drop_of (first_line d) ≡ w
           → on_number (drop_of (first_line d)) (λ k. after_drop k (after_bus r ys k) (λ r' ys'. drops finish (p + 1) r' ys' (lines (behind d)))) (finish p r ys (first_line d ∷ lines (behind d)))
           ≡ on_number (drop_of (first_line d)) (λ k. after_drop k (after_bus r ys k) (λ r' ys'. drops finish (p + 1) r' ys' (lines (take (m - suc (span d)) (behind d))))) (finish p r ys (first_line d ∷ lines (take (m - suc (span d)) (behind d))))
-      number (Is k) e = rw e (done k e (after_bus r ys k).out.answer refl)
-      number Not e = rw e
+      number (Some k) e = rw e (done k e (after_bus r ys k).out.answer refl)
+      number None e = rw e
 
   -- a line that the cut may go through
   long : (d : Bytes) (m : ℕ) → 34 ≤ span d → enough r.n_buses m → Same p r ys d m
@@ -160,14 +156,14 @@ module _ (n : ℕ) (ns : List ℕ) (k p : ℕ) (ys : List Float)
       ∙ found (entry_of (first_line d)) refl
       ∙ sym (ap (entries (drops finish) n ns (suc k) p ys) (cut-same m d nonempty (omega arith)))
     where
-      found : (w : Entry) → entry_of (first_line d) ≡ w
-          → on_entry (entry_of (first_line d)) (λ a b. entries (drops finish) n ns k (p + 1) (ys ++ (of_word a ∷ of_word b ∷ [])) (lines (behind d))) (ended (BadLine p) no_reducer ys)
-          ≡ on_entry (entry_of (first_line d)) (λ a b. entries (drops finish) n ns k (p + 1) (ys ++ (of_word a ∷ of_word b ∷ [])) (lines (take (m - suc (span d)) (behind d)))) (ended (BadLine p) no_reducer ys)
-      found (Words a b) f =
+      found : (w : Option (ℕ × ℕ)) → entry_of (first_line d) ≡ w
+          → on_entry (entry_of (first_line d)) (λ a b. entries (drops finish) n ns k (p + 1) (ys ++ (of_word a ∷ of_word b ∷ [])) (lines (behind d))) (ended (Err (BadLine p)) no_reducer ys)
+          ≡ on_entry (entry_of (first_line d)) (λ a b. entries (drops finish) n ns k (p + 1) (ys ++ (of_word a ∷ of_word b ∷ [])) (lines (take (m - suc (span d)) (behind d)))) (ended (Err (BadLine p)) no_reducer ys)
+      found (Some (a, b)) f =
           rw f
           (rest (ys ++ (of_word a ∷ of_word b ∷ [])) (behind d) (m - suc (span d)) (omega (arith, length-append ys (of_word a ∷ of_word b ∷ []))) (finite-more ys (first_line d) a b fine f)
           (omega (arith, entry-33 (first_line d) a b f, length-take (span d) d, span-le d, room)))
-      found NoEntry f = rw f
+      found None f = rw f
 
   entry-long : (d : Bytes) (m : ℕ) → 34 ≤ span d → 34 ≤ m → SameEntries n ns (suc k) p ys d m
   unfolding entries
@@ -185,15 +181,15 @@ module _ (n : ℕ) (ns : List ℕ) (k p : ℕ) (ys : List Float)
       go (yes l) = entry-short (b ∷ bs) m (omega arith) l e room
       go (no l) = entry-long (b ∷ bs) m (omega arith) (omega arith)
 
-made-buses : (n : ℕ) (ns : List ℕ) (ys : List Float) → n ≤ most → Names n ns → length ys ≡ 2 * (n * n) → T (all_finite ys) → (after_new (reducer_input_of n ys ns)).rec.n_buses ≡ n
+made-buses : (n : ℕ) (ns : List ℕ) (ys : List Float) → n ≤ most → Names n ns → length ys ≡ 2 * (n * n) → T (all_finite ys) → (made (reducer_input_of n ys ns)).n_buses ≡ n
 unfolding stored
 made-buses n ns ys h g e f = ap (λ (x : ReducerState). x.rec.n_buses) (fresh n ns ys h g e f) ∙ length-up_to n
 
 pub entries-cut : (n : ℕ) (ns : List ℕ) (k p : ℕ) (ys : List Float) (d : Bytes) (m : ℕ) → n ≤ most → Names n ns → length ys + 2 * k ≡ 2 * (n * n) → T (all_finite ys) → 34 * k + 16 * n + 34 ≤ m → SameEntries n ns k p ys d m
 unfolding entries
 entries-cut n ns zero p ys d m h g e fine room =
-    let b : (after_new (reducer_input_of n ys ns)).rec.n_buses ≡ n = made-buses n ns ys h g (omega arith) fine in
-    drops-cut n n ns p (after_new (reducer_input_of n ys ns)).rec ys d m (stored-new n ns ys h g (omega arith) fine) (omega arith) (omega arith)
+    let b : (made (reducer_input_of n ys ns)).n_buses ≡ n = made-buses n ns ys h g (omega arith) fine in
+    drops-cut n n ns p (made (reducer_input_of n ys ns)) ys d m (stored-new n ns ys h g (omega arith) fine) (omega arith) (omega arith)
 entries-cut n ns (suc k) p ys d m h g e fine room =
     one_entry n ns k p ys fine (λ zs d' m' e' fine' room'. entries-cut n ns k (p + 1) zs d' m' h g e' fine' room') d m e room
 
@@ -215,7 +211,7 @@ module _ (n k j p : ℕ) (ns : List ℕ) (g : Names j ns)
       ∙ number (number_of (first_line d)) refl
       ∙ sym (ap (named (drops finish) n (suc k) p ns) (cut-same m d nonempty (omega arith)))
     where
-      one : (b : ℕ) → number_of (first_line d) ≡ Is b → (t : Bool) → mem b ns ≡ t
+      one : (b : ℕ) → number_of (first_line d) ≡ Some b → (t : Bool) → mem b ns ≡ t
           → cond t (bad_at p) (named (drops finish) n k (p + 1) (ns ++ (b ∷ [])) (lines (behind d)))
           ≡ cond t (bad_at p) (named (drops finish) n k (p + 1) (ns ++ (b ∷ [])) (lines (take (m - suc (span d)) (behind d))))
       one b e true q = refl
@@ -223,11 +219,11 @@ module _ (n k j p : ℕ) (ns : List ℕ) (g : Names j ns)
           rest (ns ++ (b ∷ [])) (behind d) (m - suc (span d)) (names_more j ns b g (decimal-below (first_line d) b e) q)
           (omega (arith, word_size (first_line d) b e, length-take (span d) d, span-le d, room))
 
-      number : (w : Number) → number_of (first_line d) ≡ w
+      number : (w : Option ℕ) → number_of (first_line d) ≡ w
           → on_number (number_of (first_line d)) (λ b. cond (mem b ns) (bad_at p) (named (drops finish) n k (p + 1) (ns ++ (b ∷ [])) (lines (behind d)))) (bad_at p)
           ≡ on_number (number_of (first_line d)) (λ b. cond (mem b ns) (bad_at p) (named (drops finish) n k (p + 1) (ns ++ (b ∷ [])) (lines (take (m - suc (span d)) (behind d))))) (bad_at p)
-      number (Is b) e = rw e (one b e (mem b ns) refl)
-      number Not e = rw e
+      number (Some b) e = rw e (one b e (mem b ns) refl)
+      number None e = rw e
 
   name-long : (d : Bytes) (m : ℕ) → 34 ≤ span d → 34 ≤ m → SameNames n (suc k) p ns d m
   unfolding named
@@ -261,7 +257,7 @@ first_short d nonempty l =
     ∙ number (buses_of (first_line d)) refl
     ∙ sym (ap (first (drops finish)) (cut-same input_length d nonempty (omega arith)))
   where
-    size : (n : ℕ) → buses_of (first_line d) ≡ Is n → (b : Bool) → (T b → n ≤ most)
+    size : (n : ℕ) → buses_of (first_line d) ≡ Some n → (b : Bool) → (T b → n ≤ most)
         → cond b (named (drops finish) n n 2 [] (lines (behind d))) (bad_at 1) ≡ cond b (named (drops finish) n n 2 [] (lines (take (input_length - suc (span d)) (behind d)))) (bad_at 1)
     size n e true f =
         let few : n ≤ most = f tt in
@@ -270,11 +266,11 @@ first_short d nonempty l =
         named-cut n n 0 2 [] (behind d) (input_length - suc (span d)) few names-none (omega arith) (omega (arith, length-take (span d) d, span-le d, len, sq, few))
     size n e false f = refl
 
-    number : (w : Number) → buses_of (first_line d) ≡ w
+    number : (w : Option ℕ) → buses_of (first_line d) ≡ w
         → on_number (buses_of (first_line d)) (λ n. cond (leb n most) (named (drops finish) n n 2 [] (lines (behind d))) (bad_at 1)) (bad_at 1)
         ≡ on_number (buses_of (first_line d)) (λ n. cond (leb n most) (named (drops finish) n n 2 [] (lines (take (input_length - suc (span d)) (behind d)))) (bad_at 1)) (bad_at 1)
-    number (Is n) e = rw e (size n e (leb n most) (leb→le n most))
-    number Not e = rw e
+    number (Some n) e = rw e (size n e (leb n most) (leb→le n most))
+    number None e = rw e
 
 first-long : (d : Bytes) → 34 ≤ span d → run_of d ≡ run_of (take input_length d)
 unfolding run_of first input_length most

@@ -1,5 +1,5 @@
 -- Laws of printing: how long the lines are, and one line more.
-use Rattle.prelude.proofs.Prelude.{◌≡◌, refl, sym, ap, ◌∙◌, List, ◌++◌, ℕ, zero, suc, ◌+◌, ◌-◌, ◌*◌, ◌≤◌, ◌<◌, add-one, arith, length, get_or, take, replicate, Float, ap₂, ⊎_elim, le_of_eq, le_trans, eq-or-lt_of_le, length-map, length-append, List·getD-append, length-take-le}
+use Rattle.prelude.proofs.Prelude.{◌≡◌, refl, ap, ◌∙◌, List, ◌++◌, ℕ, zero, suc, ◌+◌, ◌-◌, ◌*◌, ◌≤◌, ◌<◌, add-one, arith, length, get_or, take, replicate, Float, ap₂, ⊎_elim, le_of_eq, le_trans, eq-or-lt_of_le, length-map, length-append, length-take-le, take_at}
 use native.Mathlib.Nat.{le_of_suc-le-suc}
 use Rattle.complex.specs.{Complex, entry}
 use Rattle.kron_reduction.specs.declared.KronReducer.{KronReducer}
@@ -52,18 +52,15 @@ length-kept r ys =
     let b = bus_lines n (active_numbers r) in
     omega (arith, length-append (a ++ b) (entry_lines (n * n) ys), length-append a b, length-entry-lines (n * n) ys)
 
--- what stands behind the first n buses does not print
-pub bus-lines-front : (ks zs : List ℕ) (n : ℕ) → n ≤ length ks → bus_lines n (ks ++ zs) ≡ bus_lines n ks
-unfolding bus_lines
-bus-lines-front ks zs zero h = refl
-bus-lines-front ks zs (suc n) h =
-    ap₂ (λ (a : Bytes) (k : ℕ). a ++ number_line (ascii "bus ") k) (bus-lines-front ks zs n (omega arith)) (List·getD-append ks zs 0 n h)
-
-pub kept-lines : (r : KronReducer) → r.n_buses ≤ length r.active_buses → bus_lines r.n_buses (padded (active_numbers r)) ≡ bus_lines r.n_buses (active_numbers r)
-kept-lines r h =
+-- the list of the active buses' numbers begins with them
+pub kept-lines : (r : KronReducer) (list : List ℕ) → list ≡ padded (active_numbers r) → r.n_buses ≤ length r.active_buses
+    → bus_lines (length (take r.n_buses list)) (take r.n_buses list) ≡ bus_lines r.n_buses (active_numbers r)
+kept-lines r list e h =
     let n = r.n_buses in
-    bus-lines-front (active_numbers r) (replicate (limit - length (active_numbers r)) 0) n
-    (le_of_eq (sym (length-map (take n r.active_buses) (λ (i : ℕ). get_or r.numbers i 0) ∙ length-take-le n r.active_buses h)))
+    let ks = active_numbers r in
+    let many : length ks ≡ n = length-map (take n r.active_buses) (λ (i : ℕ). get_or r.numbers i 0) ∙ length-take-le n r.active_buses h in
+    let front : take n list ≡ ks = ap (take n) e ∙ take_at ks (replicate (limit - length ks) 0) n many in
+    ap₂ bus_lines (ap length front ∙ many) front
 
 -- ---- one line more
 

@@ -1,30 +1,27 @@
 -- Laws of reading: what the line at an index does to a run.
 use Rattle.prelude.proofs.Prelude.{◌≡◌, refl, sym, ap, ◌∙◌, true, false, cond, List, [], ◌∷◌, ◌++◌, ℕ, suc, ◌+◌, ◌-◌, ◌*◌, ◌≤◌, ◌<◌, add-one, arith, mul-le-mul, length, take, drop, Float, sub-zero, leb, le-leb, lt-leb, lt-ltb, le-ltb, set, length-drop, drop_of_length-le, length-take, length-set, take-append-drop, drop-drop, length-take-le, take-append_seam}
+use Rattle.std.specs.Prelude.{Option, Some, None, Result, Ok, Err, ok_or, IsErrAnd}
+use Rattle.reduce_text.specs.declared.read.Trouble.{Trouble}
+use Rattle.reduce_text.specs.declared.read.Trouble.TheVariants.{RefusedDrop, BadLine}
 use native.Mathlib.Decide.{dec_lt, ℕ_discrete}
 use lib.Seq.{take-suc-set, drop-set-lt, append_snoc, drop-append_seam}
 use Rattle.complex.specs.{Complex, put}
-use Rattle.refusals.specs.declared.Outcome.{Outcome}
-use Rattle.refusals.specs.declared.Outcome.TheVariants.{Done, Refused}
-use Rattle.lists.specs.Buses.{mem}
+use Rattle.refusals.specs.declared.Refusal.{Refusal}
+use Rattle.lists.specs.Buses.{mem, up_to}
+use Rattle.std.specs.Result.{result_unwrap_or}
+use Rattle.refusals.specs.Refusals.{answered}
+use Rattle.prelude.proofs.Prelude.{zero, eqb}
+use lib.Dec.{eqb-suc-zero}
 use Rattle.kron_reduction.specs.declared.KronReducer.{KronReducer}
 use Rattle.kron_reduction.specs.declared.AfterRemoval.{AfterRemoval}
-use Rattle.kron_reduction.specs.Reducer.{reducer_input_of, after_new, after_bus}
-use Rattle.text_numbers.specs.declared.Number.{Number}
-use Rattle.text_numbers.specs.declared.Number.TheVariants.{Is, Not}
-use Rattle.reduce_text.specs.declared.text.Entry.TheVariants.{Words, NoEntry}
-use Rattle.reduce_text.specs.declared.read.End.{End}
-use Rattle.reduce_text.specs.declared.read.End.TheVariants.{RefusedDrop, BadLine}
+use Rattle.kron_reduction.specs.Reducer.{ReducerInput, reducer_input_of, making_refusal, record_of, after_new, made, after_bus}
 use Rattle.reduce_text.specs.declared.read.Reading.{Reading}
-use Rattle.reduce_text.specs.declared.read.Next.TheVariants.{Bad}
 use Rattle.reduce_text.specs.declared.read.Start.{Start}
-use Rattle.reduce_text.specs.declared.read.Stop.{Stop}
-use Rattle.reduce_text.specs.declared.read.Stop.TheVariants.{Rest, Refusal}
 use Rattle.text_numbers.specs.Bytes.{Bytes}
 use Rattle.text_numbers.specs.Words.{decimal_of, spare}
-use Rattle.text_numbers.proofs.WordSizes.{not_is}
-use Rattle.reduce_text.specs.Lines.{lines, span, line_at, buses_of, number_of, drop_of, entry_of}
-use Rattle.reduce_text.specs.Reading.{most, Run, ended, no_reducer, Onward, on_number, on_outcome, of_word, after_drop, drops, finish, entries, bad_at, named, first}
-use Rattle.reduce_text.specs.Inner.Steps.{no_start, behind, Begun, on_stop, end_of, Ended, RanIn}
+use Rattle.reduce_text.specs.Lines.{lines, span, line_at, starts_with, number_after, buses_of, number_of, drop_of, entry_of}
+use Rattle.reduce_text.specs.Reading.{most, Run, End, ended, no_reducer, Onward, on_outcome, of_word, after_drop, drops, finish, entries, bad_at, named, first}
+use Rattle.reduce_text.specs.Inner.Steps.{behind, Begun, on_answer, end_of, Ended, RanIn}
 use Rattle.reduce_text.proofs.LineLaws.{lines-first, span-le, span-behind, entry_length}
 
 -- a number of buses, and its square
@@ -59,68 +56,118 @@ pub lines-over : (s : Bytes) (at : ℕ) → length s ≤ at → lines (drop at s
 unfolding lines
 lines-over s at h = ap lines (drop_of_length-le s h)
 
--- a line as a part of the text
-pub part-is : (s : Bytes) (at end : ℕ) → end ≡ at + span (drop at s) → take (end - at) (drop at s) ≡ line_at s at
+pub no-number : number_of [] ≡ None
+unfolding decimal_of spare
+no-number = refl
+
+pub no-entry : entry_of [] ≡ None
+unfolding entry_of
+no-entry = refl
+
+pub no-drop : drop_of [] ≡ None
+unfolding number_after starts_with
+no-drop = refl
+
+pub no-buses : buses_of [] ≡ None
+unfolding number_after starts_with
+no-buses = refl
+
+-- a `?` on an answer that is none tells the trouble
+pub told-none : {A B : Type 0} (r : Result A Trouble) (o : Option B) (x y : Trouble) → o ≡ None → Err x ≡ ok_or o y → IsErrAnd r (λ t. t ≡ x) → r ≡ Err y
+told-none (Ok a) o x y e f g = absurd g
+told-none (Err z) o x y e f g = let h = rw e at f in cc
+
+-- a `?` on an answer hands its trouble on
+pub err-is : {A : Type 0} (r : Result A Trouble) (x : Trouble) → IsErrAnd r (λ t. t ≡ x) → r ≡ Err x
+err-is (Ok a) x h = absurd h
+err-is (Err z) x h = rw h refl
+
+-- the reducer that is made, or the one of no bus
+pub made-or : (M : ReducerInput) → result_unwrap_or (after_new M) no_reducer ≡ made M
+unfolding after_new made answered
+made-or M = go (making_refusal M)
+  where
+    go : (f : ℕ) → result_unwrap_or (answered (record_of M.size M.numbers (up_to M.size)) f) no_reducer
+        ≡ cond (eqb f 0) (record_of M.size M.numbers (up_to M.size)) (record_of 0 [] [])
+    go zero = refl
+    go (suc f) = rw (eqb-suc-zero f) refl
+
+-- ---- a line that is there
+
+-- the line behind the text has no byte
+pub line-over : (s : Bytes) (at : ℕ) → length s ≤ at → line_at s at ≡ []
+unfolding line_at span
+line-over s at h = ap (λ (d : Bytes). take (span d) d) (drop_of_length-le s h)
+
+pub length-line : (s : Bytes) (at : ℕ) → length (line_at s at) ≡ span (drop at s)
 unfolding line_at
-part-is s at end e = ap (λ (k : ℕ). take k (drop at s)) (let f : end - at ≡ span (drop at s) = omega arith in f)
+length-line s at = length-take-le (span (drop at s)) (drop at s) (span-le (drop at s))
 
-pub entry-over : (s : Bytes) (at : ℕ) → length s ≤ at → entry_of (line_at s at) ≡ NoEntry
-unfolding entry_of line_at span
-entry-over s at h = ap (λ (d : Bytes). entry_of (take (span d) d)) (drop_of_length-le s h)
+-- where the next line starts, from the line's length
+pub next_is : (s : Bytes) (at : ℕ) → at + (length (line_at s at) + 1) ≡ next s at
+next_is s at = omega (arith, length-line s at)
 
-pub number-over : (s : Bytes) (at : ℕ) → length s ≤ at → number_of (line_at s at) ≡ Not
-unfolding decimal_of spare line_at span
-number-over s at h = ap (λ (d : Bytes). number_of (take (span d) d)) (drop_of_length-le s h)
+-- a line that says something is in the text, and so is its end
+module _ {A : Type 0} (f : Bytes → Option A) (none : f [] ≡ None) (s : Bytes) (at : ℕ) (x : A) (e : f (line_at s at) ≡ Some x) where
+  pub line-inside : at < length s
+  line-inside = go (dec_lt at (length s))
+    where
+      go : Dec (at < length s) → at < length s
+      go (yes h) = h
+      go (no n) = let z = ap f (line-over s at (omega arith)) in cc
+
+  pub line-ends : next s at ≤ length s + 1
+  line-ends = omega (arith, line-inside, span-behind s at)
 
 -- ---- drops
 
 module _ (rest : Onward) (s : Bytes) (at p : ℕ) (r : KronReducer) (ys : List Float) where
-  pub drops-end : length s ≤ at → drops rest p r ys (behind s at) ≡ rest p r ys (behind s at)
+  -- a line that is no drop, or none
+  pub drops-stop : drop_of (line_at s at) ≡ None → drops rest p r ys (behind s at) ≡ rest p r ys (behind s at)
   unfolding drops
-  drops-end h = ap (drops rest p r ys) (lines-over s at h) ∙ sym (ap (rest p r ys) (lines-over s at h))
+  drops-stop e = go (dec_lt at (length s))
+    where
+      go : Dec (at < length s) → drops rest p r ys (behind s at) ≡ rest p r ys (behind s at)
+      go (yes h) = ap (drops rest p r ys) (lines_at s at h) ∙ rw e (sym (ap (rest p r ys) (lines_at s at h)))
+      go (no h) = ap (drops rest p r ys) (lines-over s at (omega arith)) ∙ sym (ap (rest p r ys) (lines-over s at (omega arith)))
 
   module _ (h : at < length s) where
-    pub drops-bad : drop_of (line_at s at) ≡ Not → drops rest p r ys (behind s at) ≡ rest p r ys (behind s at)
-    unfolding drops
-    drops-bad e =
-        ap (drops rest p r ys) (lines_at s at h) ∙ rw e (sym (ap (rest p r ys) (lines_at s at h)))
-
-    drops-bus : (k : ℕ) → drop_of (line_at s at) ≡ Is k
+    drops-bus : (k : ℕ) → drop_of (line_at s at) ≡ Some k
         → drops rest p r ys (behind s at) ≡ after_drop k (after_bus r ys k) (λ r' ys'. drops rest (p + 1) r' ys' (behind s (next s at)))
     unfolding drops
     drops-bus k e =
         ap (drops rest p r ys) (lines_at s at h) ∙ rw e
 
     -- what the removal answered and left
-    module _ (k : ℕ) (e : drop_of (line_at s at) ≡ Is k) (o : AfterRemoval) (ys' : List Float) (eo : o ≡ (after_bus r ys k).out) (ey : ys' ≡ (after_bus r ys k).slice) where
+    module _ (k : ℕ) (e : drop_of (line_at s at) ≡ Some k) (o : AfterRemoval) (ys' : List Float) (eo : o ≡ (after_bus r ys k).out) (ey : ys' ≡ (after_bus r ys k).slice) where
       taken-bus : drops rest p r ys (behind s at) ≡ on_outcome o.answer k o.rec ys' (λ r' ys''. drops rest (p + 1) r' ys'' (behind s (next s at)))
       taken-bus =
           drops-bus k e
           ∙ ap (λ (t : AfterRemoval). on_outcome t.answer k t.rec (after_bus r ys k).slice (λ r' ys''. drops rest (p + 1) r' ys'' (behind s (next s at)))) (sym eo)
           ∙ ap (λ (zs : List Float). on_outcome o.answer k o.rec zs (λ r' ys''. drops rest (p + 1) r' ys'' (behind s (next s at)))) (sym ey)
 
-      pub drops-refused : (f : ℕ) → o.answer ≡ Refused f → drops rest p r ys (behind s at) ≡ ended (RefusedDrop f k) o.rec ys'
+      pub drops-refused : (f : Refusal) → o.answer ≡ Err f → drops rest p r ys (behind s at) ≡ ended (Err (RefusedDrop f k)) o.rec ys'
       drops-refused f d =
-          taken-bus ∙ ap (λ (a : Outcome). on_outcome a k o.rec ys' (λ r' ys''. drops rest (p + 1) r' ys'' (behind s (next s at)))) d
+          taken-bus ∙ ap (λ (a : Result (Unit {0}) Refusal). on_outcome a k o.rec ys' (λ r' ys''. drops rest (p + 1) r' ys'' (behind s (next s at)))) d
 
-      pub drops-done : o.answer ≡ Done → drops rest p r ys (behind s at) ≡ drops rest (p + 1) o.rec ys' (behind s (next s at))
+      pub drops-done : o.answer ≡ Ok tt → drops rest p r ys (behind s at) ≡ drops rest (p + 1) o.rec ys' (behind s (next s at))
       drops-done d =
-          taken-bus ∙ ap (λ (a : Outcome). on_outcome a k o.rec ys' (λ r' ys''. drops rest (p + 1) r' ys'' (behind s (next s at)))) d
+          taken-bus ∙ ap (λ (a : Result (Unit {0}) Refusal). on_outcome a k o.rec ys' (λ r' ys''. drops rest (p + 1) r' ys'' (behind s (next s at)))) d
 
 -- where the drops stopped the run ends
-pub stopped : (s : Bytes) (o : Stop) (r : KronReducer) (ys : List Float)
-    → on_stop o (λ at p. finish p r ys (behind s at)) (λ f k. ended (RefusedDrop f k) r ys) ≡ ended (end_of (length s) o) r ys
+pub stopped : (s : Bytes) (o : Result (ℕ × ℕ) Trouble) (r : KronReducer) (ys : List Float)
+    → on_answer o (λ q. finish q.1 r ys (behind s q.0)) r ys ≡ ended (end_of (length s) o) r ys
 unfolding finish
-stopped s (Rest at p) r ys = go (dec_lt at (length s))
+stopped s (Ok q) r ys = go (dec_lt q.0 (length s))
   where
-    go : Dec (at < length s) → finish p r ys (behind s at) ≡ ended (end_of (length s) (Rest at p)) r ys
-    go (yes h) = ap (finish p r ys) (lines_at s at h) ∙ simp (lt-ltb at (length s) h)
-    go (no h) = ap (finish p r ys) (lines-over s at (omega arith)) ∙ simp (le-ltb at (length s) (omega arith))
-stopped s (Refusal f k) r ys = refl
+    go : Dec (q.0 < length s) → finish q.1 r ys (behind s q.0) ≡ ended (end_of (length s) (Ok q)) r ys
+    go (yes h) = ap (finish q.1 r ys) (lines_at s q.0 h) ∙ simp (lt-ltb q.0 (length s) h)
+    go (no h) = ap (finish q.1 r ys) (lines-over s q.0 (omega arith)) ∙ simp (le-ltb q.0 (length s) (omega arith))
+stopped s (Err t) r ys = refl
 
 -- ---- numbers
 
-pub named-bad : (go : Onward) (s : Bytes) (at n k p : ℕ) (ns : List ℕ) → number_of (line_at s at) ≡ Not → named go n (suc k) p ns (behind s at) ≡ bad_at p
+pub named-bad : (go : Onward) (s : Bytes) (at n k p : ℕ) (ns : List ℕ) → number_of (line_at s at) ≡ None → named go n (suc k) p ns (behind s at) ≡ bad_at p
 unfolding named
 named-bad go s at n k p ns e = cases (dec_lt at (length s))
   where
@@ -129,13 +176,9 @@ named-bad go s at n k p ns e = cases (dec_lt at (length s))
         ap (named go n (suc k) p ns) (lines_at s at h) ∙ rw e
     cases (no h) = ap (named go n (suc k) p ns) (lines-over s at (omega arith))
 
-module _ (s : Bytes) (at b : ℕ) (e : number_of (line_at s at) ≡ Is b) where
-  pub number_at : at < length s
-  number_at = go (dec_lt at (length s))
-    where
-      go : Dec (at < length s) → at < length s
-      go (yes h) = h
-      go (no n) = absurd (not_is (sym (number-over s at (omega arith)) ∙ e))
+module _ (s : Bytes) (at b : ℕ) (e : number_of (line_at s at) ≡ Some b) where
+  number_at : at < length s
+  number_at = line-inside number_of no-number s at b e
 
   named-number : (go : Onward) (n k p : ℕ) (ns : List ℕ)
       → named go n (suc k) p ns (behind s at) ≡ cond (mem b ns) (bad_at p) (named go n k (p + 1) (ns ++ (b ∷ [])) (behind s (next s at)))
@@ -155,34 +198,23 @@ named_none go n p ns ls = refl
 
 -- ---- entries
 
--- no entry is two words
-not-words : {a b : ℕ} → NoEntry ≡ Words a b → ⊥
-not-words e = let z : ◌≡◌ {A = ℕ} 0 1 = cc in omega arith
-
-pub entry-33 : (l : Bytes) (a b : ℕ) → entry_of l ≡ Words a b → length l ≡ 33
+pub entry-33 : (l : Bytes) (a b : ℕ) → entry_of l ≡ Some (a, b) → length l ≡ 33
 entry-33 l a b e = go (ℕ_discrete (length l) 33)
   where
     go : Dec (length l ≡ 33) → length l ≡ 33
     go (yes p) = p
-    go (no n) = absurd (not-words (sym (entry_length l n) ∙ e))
+    go (no n) = let z = sym (entry_length l n) ∙ e in cc
 
-entry-inside : (s : Bytes) (at a b : ℕ) → entry_of (line_at s at) ≡ Words a b → at < length s
-entry-inside s at a b e = go (dec_lt at (length s))
-  where
-    go : Dec (at < length s) → at < length s
-    go (yes h) = h
-    go (no n) = absurd (not-words (sym (entry-over s at (omega arith)) ∙ e))
-
-pub entries-bad : (go : Onward) (ns : List ℕ) (s : Bytes) (at n k p : ℕ) (ys : List Float) → entry_of (line_at s at) ≡ NoEntry → entries go n ns (suc k) p ys (behind s at) ≡ ended (BadLine p) no_reducer ys
+pub entries-bad : (go : Onward) (ns : List ℕ) (s : Bytes) (at n k p : ℕ) (ys : List Float) → entry_of (line_at s at) ≡ None → entries go n ns (suc k) p ys (behind s at) ≡ ended (Err (BadLine p)) no_reducer ys
 unfolding entries
 entries-bad go ns s at n k p ys e = cases (dec_lt at (length s))
   where
-    cases : Dec (at < length s) → entries go n ns (suc k) p ys (behind s at) ≡ ended (BadLine p) no_reducer ys
+    cases : Dec (at < length s) → entries go n ns (suc k) p ys (behind s at) ≡ ended (Err (BadLine p)) no_reducer ys
     cases (yes h) =
         ap (entries go n ns (suc k) p ys) (lines_at s at h) ∙ rw e
     cases (no h) = ap (entries go n ns (suc k) p ys) (lines-over s at (omega arith))
 
-module _ (s : Bytes) (at a b : ℕ) (e : entry_of (line_at s at) ≡ Words a b) where
+module _ (s : Bytes) (at a b : ℕ) (e : entry_of (line_at s at) ≡ Some (a, b)) where
   entry-span : span (drop at s) ≡ 33
   unfolding line_at
   entry-span =
@@ -190,14 +222,14 @@ module _ (s : Bytes) (at a b : ℕ) (e : entry_of (line_at s at) ≡ Words a b) 
       omega (arith, entry-33 (take (span d) d) a b e, length-take (span d) d, span-le d)
 
   pub entry-fits : at + 34 ≤ length s + 1
-  entry-fits = omega (arith, entry-span, span-behind s at, entry-inside s at a b e)
+  entry-fits = omega (arith, entry-span, span-behind s at, line-inside entry_of no-entry s at (a, b) e)
 
   pub entries-more : (go : Onward) (ns : List ℕ) (n k p : ℕ) (ys : List Float)
       → entries go n ns (suc k) p ys (behind s at) ≡ entries go n ns k (p + 1) (ys ++ (of_word a ∷ of_word b ∷ [])) (behind s (at + 34))
   unfolding entries
   entries-more go ns n k p ys =
       let f : next s at ≡ at + 34 = omega (arith, entry-span) in
-      ap (entries go n ns (suc k) p ys) (lines_at s at (entry-inside s at a b e))
+      ap (entries go n ns (suc k) p ys) (lines_at s at (line-inside entry_of no-entry s at (a, b) e))
       ∙ rw e
       (ap (λ (j : ℕ). entries go n ns k (p + 1) (ys ++ (of_word a ∷ of_word b ∷ [])) (behind s j)) f)
 
@@ -231,38 +263,40 @@ at_front k xs zs h e =
     sym (take-append-drop k xs)
     ∙ ap (λ (l : List Float). take k xs ++ l) (e ∙ ap (λ (j : ℕ). drop j zs) (sym (length-take-le k xs h)))
 
-pub entries_none : (go : Onward) (ns : List ℕ) (n p : ℕ) (ys : List Float) (ls : List Bytes) → entries go n ns 0 p ys ls ≡ go p (after_new (reducer_input_of n ys ns)).rec ys ls
+pub entries_none : (go : Onward) (ns : List ℕ) (n p : ℕ) (ys : List Float) (ls : List Bytes) → entries go n ns 0 p ys ls ≡ go p (made (reducer_input_of n ys ns)) ys ls
 unfolding entries
 entries_none go ns n p ys ls = refl
 
 -- ---- the first line
 
 -- no reducer is made of the run
-pub unbegun : {R : Onward → Run} {before : List Float} {input : Bytes} {o : Start} (p : ℕ) → o ≡ no_start (Bad p) → ((go : Onward) → R go ≡ bad_at p)
-    → Begun R before input o before
-unbegun p e f = rw e (record { ys = []; leaves = refl; few = omega arith; full = tt; goes = f })
+pub unbegun : {R : Onward → Run} {before : List Float} {input : Bytes} (t : Trouble) → ((go : Onward) → R go ≡ ended (Err t) no_reducer [])
+    → Begun R before input (Err t) before
+unbegun t f = record { ys = []; leaves = refl; fits = tt; goes = f }
 
-pub begun-as : {R R' : Onward → Run} {before left : List Float} {input : Bytes} {o : Start} → ((go : Onward) → R go ≡ R' go) → Begun R' before input o left → Begun R before input o left
-begun-as f w = record { ys = w.ys; leaves = w.leaves; few = w.few; full = w.full; goes = λ go. f go ∙ w.goes go }
+pub begun-as : {R R' : Onward → Run} {before left : List Float} {input : Bytes} {o : Result Start Trouble} → ((go : Onward) → R go ≡ R' go) → Begun R' before input o left → Begun R before input o left
+begun-as f w = record { ys = w.ys; leaves = w.leaves; fits = w.fits; goes = λ go. f go ∙ w.goes go }
 
-pub first-none : (s : Bytes) → length s ≡ 0 → (go : Onward) → first go (lines s) ≡ bad_at 1
-unfolding first lines
-first-none [] e go = refl
-first-none (b ∷ bs) e go = absurd (omega arith)
-
-module _ (s : Bytes) (h : 0 < length s) (go : Onward) where
-  first-number : (w : Number) → buses_of (line_at s 0) ≡ w → first go (lines s) ≡ on_number w (λ n. cond (leb n most) (named go n n 2 [] (behind s (next s 0))) (bad_at 1)) (bad_at 1)
+module _ (s : Bytes) (go : Onward) where
+  -- the first line says no number, or there is none
+  pub first-bad : buses_of (line_at s 0) ≡ None → first go (lines s) ≡ bad_at 1
   unfolding first
-  first-number w e = ap (first go) (lines_at s 0 h) ∙ rw e
+  first-bad e = cases (dec_lt 0 (length s))
+    where
+      cases : Dec (0 < length s) → first go (lines s) ≡ bad_at 1
+      cases (yes h) = ap (first go) (lines_at s 0 h) ∙ rw e
+      cases (no h) = ap (first go) (lines-over s 0 (omega arith))
 
-  pub first-bad : buses_of (line_at s 0) ≡ Not → first go (lines s) ≡ bad_at 1
-  first-bad e = first-number Not e
+  module _ (n : ℕ) (e : buses_of (line_at s 0) ≡ Some n) (h : 0 < length s) where
+    first-number : first go (lines s) ≡ cond (leb n most) (named go n n 2 [] (behind s (next s 0))) (bad_at 1)
+    unfolding first
+    first-number = ap (first go) (lines_at s 0 h) ∙ rw e
 
-  pub first-over : (n : ℕ) → buses_of (line_at s 0) ≡ Is n → most < n → first go (lines s) ≡ bad_at 1
-  first-over n e m = first-number (Is n) e ∙ simp (lt-leb n most m)
+    pub first-over : most < n → first go (lines s) ≡ bad_at 1
+    first-over m = first-number ∙ simp (lt-leb n most m)
 
-  pub first-go : (n : ℕ) → buses_of (line_at s 0) ≡ Is n → n ≤ most → first go (lines s) ≡ named go n n 2 [] (behind s (next s 0))
-  first-go n e m = first-number (Is n) e ∙ simp (le-leb n most m)
+    pub first-go : n ≤ most → first go (lines s) ≡ named go n n 2 [] (behind s (next s 0))
+    first-go m = first-number ∙ simp (le-leb n most m)
 
 -- ---- the end
 

@@ -1,39 +1,38 @@
 -- Laws of the whole program: slices of a wrong length, and what reading, clearing and printing come to.
-use Rattle.prelude.proofs.Prelude.{◌≡◌, ap, ◌∙◌, List, ◌++◌, ℕ, ◌+◌, ◌-◌, ◌≤◌, arith, length, drop, replicate, Float, zero-add, le_trans, length-append, eq-eqb, ne_eqb}
+use Rattle.prelude.proofs.Prelude.{◌⊎◌, inl, inr, ◌≡◌, ap, ◌∙◌, List, ◌++◌, ℕ, ◌+◌, ◌-◌, ◌≤◌, arith, length, drop, replicate, Float, zero-add, le_trans, length-append, eq-eqb, ne_eqb}
+use Rattle.std.specs.Prelude.{Ok, Err}
 use Rattle.complex.specs.{zeros}
-use Rattle.refusals.specs.Refusals.{wrong_length}
+use Rattle.refusals.specs.Refusals.{answered}
 use Rattle.lists.proofs.Fronts.{drop-replicate}
-use Rattle.reduce_text.specs.declared.Answer.TheVariants.{Written, Refused}
+use Rattle.std.specs.Prelude.{Ok, Err}
+use Rattle.refusals.specs.declared.Refusal.TheVariants.{WrongLength}
 use Rattle.reduce_text.specs.declared.read.Reading.{Reading}
 use Rattle.text_numbers.specs.Bytes.{Bytes}
 use Rattle.text_numbers.specs.Inner.Writing.{written}
 use Rattle.reduce_text.specs.Reading.{run_of}
 use Rattle.reduce_text.specs.Inner.Steps.{RanIn}
 use Rattle.reduce_text.specs.Printing.{Whole, text_of, text}
-use Rattle.reduce_text.specs.Reduce.{printed, matrix_length, output_length, reduce_refusal, reduce_answer, AfterReduce, after_reduce}
+use Rattle.reduce_text.specs.Reduce.{printed, matrix_length, output_length, reduce_refusal, AfterReduce, after_reduce}
 use Rattle.reduce_text.proofs.Fit.{most-limit, run-fit}
 use Rattle.reduce_text.proofs.Room.{text-front, text-room}
 
 abbrev untouched : Bytes → List Float → AfterReduce
-untouched out ys = record { answer = Refused wrong_length; output = out; matrix = ys }
+untouched out ys = record { answer = Err WrongLength; output = out; matrix = ys }
 
 module _ (input out : Bytes) (ys : List Float) where
-  pub after-output : (length out ≡ output_length → ⊥) → after_reduce input out ys ≡ untouched out ys
-  unfolding after_reduce reduce_refusal reduce_answer
-  after-output n = simp (ne_eqb _ _ n)
-
-  pub after-matrix : length out ≡ output_length → (length ys ≡ matrix_length → ⊥) → after_reduce input out ys ≡ untouched out ys
-  unfolding after_reduce reduce_refusal reduce_answer
-  after-matrix e n = simp (eq-eqb _ _ e, ne_eqb _ _ n)
+  pub after-wrong : (length out ≡ output_length → ⊥) ⊎ ((length out ≡ output_length) × (length ys ≡ matrix_length → ⊥)) → after_reduce input out ys ≡ untouched out ys
+  unfolding after_reduce reduce_refusal answered
+  after-wrong (inl n) = simp (ne_eqb _ _ n)
+  after-wrong (inr w) = simp (eq-eqb _ _ w.0, ne_eqb _ _ w.1)
 
   pub after_both : length out ≡ output_length → length ys ≡ matrix_length
       → after_reduce input out ys
       ≡ record {
-        answer = Written (length (printed input));
+        answer = Ok (length (printed input));
         output = printed input ++ replicate (output_length - length (printed input)) 0;
         matrix = zeros matrix_length;
       }
-  unfolding after_reduce reduce_refusal reduce_answer
+  unfolding after_reduce reduce_refusal answered
   after_both e f = simp (eq-eqb _ _ e, eq-eqb _ _ f)
 
 -- ---- what was read, in the slice that it was read into

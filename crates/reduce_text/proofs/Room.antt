@@ -1,15 +1,16 @@
 -- The text of every run fits the output: how long numbers, bus lines and the whole can get.
 use Rattle.prelude.proofs.Prelude.{◌≡◌, refl, ap, Bool, true, false, cond, List, ◌++◌, ℕ, zero, suc, ◌*◌, ◌≤◌, ◌<◌, arith, ltb, length, get_or, Float, ◌/◌, ◌^◌, ap₂, mul-le-mul, le_trans, lit≤, length-append}
+use Rattle.std.specs.Prelude.{Ok, Err}
+use Rattle.reduce_text.specs.declared.read.Trouble.TheVariants.{RefusedDrop, BadLine}
 use native.Mathlib.Nat.{pow-succ'}
 use native.Mathlib.Decide.{dec_lt}
 use Rattle.complex.proofs.Entries.{entry-append-left}
 use Rattle.kron_reduction.specs.declared.KronReducer.{KronReducer}
 use Rattle.kron_reduction.specs.Reading.{active_numbers}
-use Rattle.reduce_text.specs.declared.read.End.{End}
-use Rattle.reduce_text.specs.declared.read.End.TheVariants.{Kept, RefusedDrop, BadLine}
+use Rattle.refusals.specs.Refusals.{number}
 use Rattle.text_numbers.specs.Bytes.{Bytes, ascii}
 use Rattle.text_numbers.specs.Words.{places, decimal}
-use Rattle.reduce_text.specs.Reading.{most, Run}
+use Rattle.reduce_text.specs.Reading.{most, End, Run}
 use Rattle.reduce_text.specs.Printing.{number_line, bus_lines, entry_line, entry_lines, kept_text, bad_text, text_of, text}
 use Rattle.reduce_text.specs.Reduce.{output_length}
 use Rattle.text_numbers.proofs.WordLaws.{places-stop, places-more, length-decimal}
@@ -67,12 +68,12 @@ entry-lines-front (suc k) ys zs h =
 
 pub text-front : (e : End) (r : KronReducer) (ys zs : List Float) → 2 * (r.n_buses * r.n_buses) ≤ length ys → text_of e r (ys ++ zs) ≡ text_of e r ys
 unfolding text_of kept_text
-text-front Kept r ys zs h =
+text-front (Ok u) r ys zs h =
     ap
     (λ (b : Bytes). number_line (ascii "kept ") r.n_buses ++ bus_lines r.n_buses (active_numbers r) ++ b)
     (entry-lines-front (r.n_buses * r.n_buses) ys zs h)
-text-front (RefusedDrop f k) r ys zs h = refl
-text-front (BadLine p) r ys zs h = refl
+text-front (Err (RefusedDrop f k)) r ys zs h = refl
+text-front (Err (BadLine p)) r ys zs h = refl
 
 kept-room : (r : KronReducer) (ys : List Float) → Fit r ys → length (kept_text r ys) ≤ output_length
 unfolding most output_length
@@ -85,9 +86,9 @@ kept-room r ys f =
 
 text-of-room : (e : End) (r : KronReducer) (ys : List Float) → Fit r ys → length (text_of e r ys) ≤ output_length
 unfolding text_of output_length most bad_text
-text-of-room Kept r ys f = kept-room r ys f
-text-of-room (RefusedDrop x k) r ys f = omega (arith, length-refused x k, decimal-twenty x, decimal-twenty k)
-text-of-room (BadLine p) r ys f = omega (arith, length-number-line (ascii "bad line ") p, decimal-twenty p)
+text-of-room (Ok u) r ys f = kept-room r ys f
+text-of-room (Err (RefusedDrop x k)) r ys f = omega (arith, length-refused (number x) k, decimal-twenty (number x), decimal-twenty k)
+text-of-room (Err (BadLine p)) r ys f = omega (arith, length-number-line (ascii "bad line ") p, decimal-twenty p)
 
 pub text-room : (R : Run) → FitRun R → length (text R) ≤ output_length
 unfolding text

@@ -1,18 +1,18 @@
 -- Printing: the lines that a run's end is told in.
-use Rattle.std.specs.Prelude.{ℕ, zero, suc, ◌*◌, ◌≤◌, List, [], ◌∷◌, ◌++◌, T, length, get_or, Float}
+use Rattle.std.specs.Prelude.{ℕ, zero, suc, ◌*◌, ◌≤◌, List, [], ◌∷◌, ◌++◌, T, length, get_or, Ok, Err, Float}
 use Rattle.std.specs.Float.{binary64}
 use Rattle.std.specs.Float.Ieee.{to_bits}
 use Rattle.complex.specs.declared.Complex.{Complex}
 use Rattle.complex.specs.Entries.{entry}
-use Rattle.refusals.specs.Refusals.{limit}
+use Rattle.refusals.specs.Refusals.{limit, number}
 use Rattle.kron_reduction.specs.declared.KronReducer.{KronReducer}
 use Rattle.kron_reduction.specs.Reducer.{sound}
 use Rattle.kron_reduction.specs.Reading.{active_numbers}
-use Rattle.reduce_text.specs.declared.read.End.{End}
-use Rattle.reduce_text.specs.declared.read.End.TheVariants.{Kept, RefusedDrop, BadLine}
+use Rattle.reduce_text.specs.declared.read.Trouble.{Trouble}
+use Rattle.reduce_text.specs.declared.read.Trouble.TheVariants.{RefusedDrop, BadLine}
 use Rattle.text_numbers.specs.Bytes.{Bytes, ascii, line_feed, space}
 use Rattle.text_numbers.specs.Words.{decimal, hex}
-use Rattle.reduce_text.specs.Reading.{Run}
+use Rattle.reduce_text.specs.Reading.{Run, End}
 
 -- the bits of an f64, of a NaN 7ff8000000000000
 abbrev pub to_word : Float → ℕ
@@ -48,10 +48,13 @@ refused_text f k = ascii "refused " ++ decimal f ++ number_line (space ∷ []) k
 unfoldable pub bad_text : ℕ → Bytes
 bad_text p = number_line (ascii "bad line ") p
 
+abbrev pub trouble_text : Trouble → Bytes
+trouble_text (RefusedDrop f k) = refused_text (number f) k
+trouble_text (BadLine p) = bad_text p
+
 unfoldable pub text_of : End → KronReducer → List Float → Bytes
-text_of Kept r ys = kept_text r ys
-text_of (RefusedDrop f k) r ys = refused_text f k
-text_of (BadLine p) r ys = bad_text p
+text_of (Ok u) r ys = kept_text r ys
+text_of (Err t) r ys = trouble_text t
 
 -- a sound record, and the entries between its buses are there
 abbrev pub Whole : KronReducer → List Float → Type 0

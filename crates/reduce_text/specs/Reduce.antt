@@ -1,9 +1,8 @@
 -- The program as a whole: from the bytes that it reads to the bytes that it writes, and what its slices hold.
-use Rattle.std.specs.Prelude.{ℕ, zero, suc, ◌+◌, ◌-◌, ◌*◌, not, ◌&&◌, cond, List, ◌++◌, eqb, length, replicate, Float}
+use Rattle.std.specs.Prelude.{ℕ, ◌+◌, ◌-◌, ◌*◌, not, ◌&&◌, cond, List, ◌++◌, eqb, length, replicate, Result, Float}
 use Rattle.complex.specs.Matrices.{zeros}
-use Rattle.refusals.specs.Refusals.{wrong_length, refuse}
-use Rattle.reduce_text.specs.declared.Answer.{Answer}
-use Rattle.reduce_text.specs.declared.Answer.TheVariants.{Written, Refused}
+use Rattle.refusals.specs.declared.Refusal.{Refusal}
+use Rattle.refusals.specs.Refusals.{wrong_length, refuse, answered}
 use Rattle.text_numbers.specs.Bytes.{Bytes}
 use Rattle.reduce_text.specs.Reading.{most, run_of}
 use Rattle.reduce_text.specs.Printing.{text}
@@ -32,28 +31,19 @@ input_length = 9 + 11 * most + 34 * (most * most) + 16 * most + 34
 unfoldable pub reduce_refusal : ℕ → ℕ → ℕ
 reduce_refusal out ys = refuse (not (eqb out output_length && eqb ys matrix_length)) wrong_length 0
 
--- the answer of a call with this refusal: how many bytes were written where there is none
-unfoldable pub reduce_answer : ℕ → ℕ → Answer
-reduce_answer zero n = Written n
-reduce_answer (suc k) n = Refused (suc k)
-
--- the number of an answer: its refusal, 0 where there is none
-abbrev pub reduce_number : Answer → ℕ
-reduce_number (Written n) = 0
-reduce_number (Refused k) = k
-
 pub record AfterReduce : Type 0 where
-  pub answer : Answer
+  pub answer : Result ℕ Refusal
   pub output : Bytes
   pub matrix : List Float
 
--- The bytes written stand at the output's front, 0 behind them. The matrix is a work slice, +0 afterwards. Where the call is refused, both
--- are as they were.
+-- The answer is how many bytes are written. They stand at the output's front, 0 behind them. The matrix is a work slice, +0 afterwards.
+-- Where the call is refused, both are as they were.
 unfoldable pub after_reduce : Bytes → Bytes → List Float → AfterReduce
+unfolding answered
 after_reduce input out ys =
     let f = reduce_refusal (length out) (length ys) in
     record {
-      answer = reduce_answer f (length (printed input));
+      answer = answered (length (printed input)) f;
       output = cond (eqb f 0) (printed input ++ replicate (output_length - length (printed input)) 0) out;
       matrix = cond (eqb f 0) (zeros matrix_length) ys;
     }

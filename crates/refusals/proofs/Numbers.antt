@@ -1,8 +1,11 @@
 -- Refusals by numbers that are not finite: what a call tells, and that it finds the numbers finite where it refuses none.
-use Rattle.prelude.proofs.Prelude.{◌≡◌, true, false, not, List, ℕ, T, Float, ne_eqb}
+use Rattle.prelude.proofs.Prelude.{◌≡◌, refl, sym, true, false, not, List, ℕ, T, Float}
+use Rattle.std.proofs.Common.{Ok, Err}
 use Rattle.binary64.specs.Values.{all_finite}
-use Rattle.refusals.specs.Refusals.{given_not_finite, computed_not_finite, then_given, then_computed}
-use Rattle.refusals.proofs.Answering.{passed, then-none, held}
+use Rattle.refusals.specs.declared.Refusal.{Refusal}
+use Rattle.refusals.specs.declared.Refusal.TheVariants.{GivenNotFinite, ComputedNotFinite}
+use Rattle.refusals.specs.Refusals.{answered, then_given, then_computed}
+use Rattle.refusals.proofs.Answering.{answered-number, before, after, passed, then-none, held}
 
 -- ---- not refused
 
@@ -14,29 +17,31 @@ pub computed-none : (told : ℕ) (computed : List Float) → then_computed told 
 unfolding then_computed
 computed-none told computed h = let (z, e) = then-none told _ h in (z, held (all_finite computed) (passed (not (all_finite computed)) 19 0 e).0)
 
--- ---- what is told: the number r of the tests before, where it is not 0; else by the numbers
+-- ---- what is told: the refusal of the tests before, whose number is told, else by the numbers
 
-module _ (r told : ℕ) (numbers : List Float) (e : r ≡ told) where
-  pub given-before : (r ≡ 0 → ⊥) → r ≡ then_given told numbers
+module _ {A B : Type 0} (v : A) (w : B) (told : ℕ) (numbers : List Float) where
+  pub given-before : (r : Refusal) → Err r ≡ answered w told → Err r ≡ answered v (then_given told numbers)
   unfolding then_given
-  given-before h = rw (← e, ne_eqb r 0 h)
+  given-before r e = before v w told _ r e
 
-  pub given-not : r ≡ 0 → all_finite numbers ≡ false → given_not_finite ≡ then_given told numbers
+  pub given-not : (x : B) → Ok x ≡ answered w told → all_finite numbers ≡ false → Err GivenNotFinite ≡ answered v (then_given told numbers)
   unfolding then_given
-  given-not z h = rw (← e, z, h)
+  given-not x e h = after v w told _ x _ e (rw h (sym (answered-number v GivenNotFinite)))
 
-  pub given-all : r ≡ 0 → all_finite numbers ≡ true → 0 ≡ then_given told numbers
-  unfolding then_given
-  given-all z h = rw (← e, z, h)
+  pub given-all : (x : B) → Ok x ≡ answered w told → all_finite numbers ≡ true → Ok v ≡ answered v (then_given told numbers)
+  unfolding then_given answered
+  given-all x e h = after v w told _ x _ e (rw h refl)
 
-  pub computed-before : (r ≡ 0 → ⊥) → r ≡ then_computed told numbers
+  pub computed-before : (r : Refusal) → Err r ≡ answered w told → Err r ≡ answered v (then_computed told numbers)
   unfolding then_computed
-  computed-before h = rw (← e, ne_eqb r 0 h)
+  computed-before r e = before v w told _ r e
 
-  pub computed-not : r ≡ 0 → all_finite numbers ≡ false → computed_not_finite ≡ then_computed told numbers
+  pub computed-not : (x : B) → Ok x ≡ answered w told → all_finite numbers ≡ false → Err ComputedNotFinite ≡ answered v (then_computed told numbers)
   unfolding then_computed
-  computed-not z h = rw (← e, z, h)
+  computed-not x e h = after v w told _ x _ e (rw h (sym (answered-number v ComputedNotFinite)))
 
-  pub computed-all : r ≡ 0 → all_finite numbers ≡ true → 0 ≡ then_computed told numbers
-  unfolding then_computed
-  computed-all z h = rw (← e, z, h)
+  pub computed-all : (x : B) → Ok x ≡ answered w told → all_finite numbers ≡ true → Ok v ≡ answered v (then_computed told numbers)
+  unfolding then_computed answered
+  computed-all x e h = after v w told _ x _ e (rw h refl)
+
+pub ruleset numbers = (given-before, given-not, given-all, computed-before, computed-not, computed-all)

@@ -1,6 +1,7 @@
 -- Chains of refusals: the first test that holds gives the number. `search refusing` proves what a refusal function returns, whatever tests came
 -- before; `search products` that a product of lengths within the limit fits.
 use Rattle.prelude.proofs.Prelude.{◌≡◌, sym, ◌∙◌, Bool, true, false, not, ◌&&◌, ◌||◌, cond, ℕ, ◌+◌, ◌*◌, ◌≤◌, arith, rules, T, mul-le-mul, mul-le-mul_left, leb, leb→le, lt-ltb, le-ltb, eq-eqb, ne_eqb}
+use Rattle.refusals.proofs.Answering.{here, past, ended}
 use mir.Syntax.{w64}
 use mir.Val.{Fits}
 
@@ -47,7 +48,7 @@ pub not-failed : (t : Bool) → t ≡ false → not t ≡ true
 not-failed t h = rw h
 
 pub ruleset refusing =
-    (refused, passed, answered-yes, answered-no, or-first, or-second, or-neither, and_both, and_first, and_second, not-held, not-failed, lt-ltb, le-ltb, eq-eqb, ne_eqb)
+    (here, past, ended, refused, passed, answered-yes, answered-no, or-first, or-second, or-neither, and_both, and_first, and_second, not-held, not-failed, lt-ltb, le-ltb, eq-eqb, ne_eqb)
 
 -- ---- products of lengths
 

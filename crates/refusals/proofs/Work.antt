@@ -8,14 +8,15 @@
 --     unlost-meets      the same where the work without a limit does not meet 20
 --     larger-work       the first of allowances, without a limit included
 --     allowed-met       an allowance is the number that stands for it
+--     told-meets        what is met has a refusal's number
 use Rattle.prelude.proofs.Prelude.{◌≡◌, refl, sym, ap, ◌∙◌, Bool, true, false, ◌&&◌, not, cond, List, [], ◌∷◌, ◌++◌, ℕ, zero, suc, ◌+◌, ◌-◌, ◌≤◌, arith, T, eqb, Float, sub-zero, add-zero, ne_eqb, finite}
 use lib.Dec.{eqb-suc-zero}
 use Rattle.binary64.specs.Values.{all_finite}
 use Rattle.refusals.specs.declared.Allowance.{Allowance}
 use Rattle.refusals.specs.declared.Allowance.TheVariants.{Unlimited, Rows}
-use Rattle.refusals.specs.Refusals.{then_computed}
+use Rattle.refusals.specs.Refusals.{then_computed, answered}
 use Rattle.refusals.specs.Work.{Step, computes, reduces, entry_too_small, pivot_too_small, computing, numbers_in, reductions, meets, granted, work_refusal, then_work, ◌no_more_than◌, allowed_rows}
-use Rattle.refusals.proofs.Answering.{then-none}
+use Rattle.refusals.proofs.Answering.{then-none, Told, told-then}
 
 -- ---- what is met
 
@@ -315,3 +316,22 @@ work-numbers told xs = ap (λ (k : ℕ). cond (eqb told 0) k told) (numbers-met 
     turned : (b : Bool) → ◌≡◌ {A = ℕ} (cond b 0 20) (cond (not b) 20 0)
     turned true = refl
     turned false = refl
+
+-- ---- what is met is told by a refusal
+
+pub told-meets : (m : ℕ) (es : List Step) → Told (meets m es)
+unfolding meets answered
+told-meets m [] = refl
+told-meets m (computes x ∷ es) = go (finite x) (told-meets m es)
+  where
+    go : (b : Bool) → Told (meets m es) → Told (cond b (meets m es) 20)
+    go true t = t
+    go false t = refl
+told-meets zero (reduces ∷ es) = refl
+told-meets (suc m) (reduces ∷ es) = told-meets m es
+told-meets m (entry_too_small ∷ es) = refl
+told-meets m (pivot_too_small ∷ es) = refl
+
+pub told-work : (told : ℕ) (allowance : Allowance) (es : List Step) → Told told → Told (then_work told allowance es)
+unfolding then_work work_refusal
+told-work told allowance es t = told-then told _ t (told-meets (granted allowance es) es)

@@ -1,10 +1,11 @@
 -- The refusals by number, and the answers that carry them. 0 is no refusal.
-use Rattle.std.specs.Prelude.{ℕ, zero, suc, Bool, not, cond, List, eqb, Float}
+use Rattle.std.specs.Prelude.{ℕ, zero, suc, Bool, not, cond, List, eqb, Float, Result, Ok, Err}
 use Rattle.binary64.specs.Values.{all_finite}
-use Rattle.refusals.specs.declared.Outcome.{Outcome}
-use Rattle.refusals.specs.declared.Outcome.TheVariants.{Done, Refused}
-use Rattle.refusals.specs.declared.Counted.{Counted}
-use Rattle.refusals.specs.declared.Counted.TheVariants as counts
+use Rattle.refusals.specs.declared.Refusal.{Refusal}
+use Rattle.refusals.specs.declared.Refusal.TheVariants.{TooMany, WrongLength, ListsDiffer, NoBus, EmptySystem}
+use Rattle.refusals.specs.declared.Refusal.TheVariants.{NoSuchEnd, NoSuchBus, BusTwice}
+use Rattle.refusals.specs.declared.Refusal.TheVariants.{BadRecord, NotActive, SmallEntry, Singular, BeyondAllowance, GivenNotFinite}
+use Rattle.refusals.specs.declared.Refusal.TheVariants.{ComputedNotFinite}
 
 -- the library's limit on buses, branches and lists
 abbrev pub limit : ℕ
@@ -90,22 +91,52 @@ unfoldable pub then_computed : ℕ → List Float → ℕ
 unfolding all_finite
 then_computed told computed = cond (eqb told 0) (refuse (not (all_finite computed)) computed_not_finite 0) told
 
--- the answer of a call with this refusal
-unfoldable pub outcome : ℕ → Outcome
-outcome zero = Done
-outcome (suc k) = Refused (suc k)
+-- the number of a refusal
+abbrev pub number : Refusal → ℕ
+number TooMany = too_many
+number WrongLength = wrong_length
+number ListsDiffer = lists_differ
+number NoBus = no_bus
+number EmptySystem = empty_system
+number NoSuchEnd = no_such_end
+number NoSuchBus = no_such_bus
+number BusTwice = bus_twice
+number BadRecord = bad_record
+number NotActive = not_active
+number SmallEntry = small_entry
+number Singular = singular
+number BeyondAllowance = beyond_allowance
+number GivenNotFinite = given_not_finite
+number ComputedNotFinite = computed_not_finite
+
+-- The refusal with this number. That a call tells no other number is a law of its crate: `Told` in proofs/Answering.antt.
+abbrev pub refusal : ℕ → Refusal
+refusal k =
+    cond (eqb k too_many) TooMany
+    (cond (eqb k wrong_length) WrongLength
+    (cond (eqb k lists_differ) ListsDiffer
+    (cond (eqb k no_bus) NoBus
+    (cond (eqb k empty_system) EmptySystem
+    (cond (eqb k no_such_end) NoSuchEnd
+    (cond (eqb k no_such_bus) NoSuchBus
+    (cond (eqb k bus_twice) BusTwice
+    (cond (eqb k bad_record) BadRecord
+    (cond (eqb k not_active) NotActive
+    (cond (eqb k small_entry) SmallEntry
+    (cond (eqb k singular) Singular
+    (cond (eqb k beyond_allowance) BeyondAllowance
+    (cond (eqb k given_not_finite) GivenNotFinite ComputedNotFinite)))))))))))))
+
+-- the answer of a call that gives v, with this refusal
+unfoldable pub answered : {A : Type 0} → A → ℕ → Result A Refusal
+answered v zero = Ok v
+answered v (suc k) = Err (refusal (suc k))
+
+-- the answer of a call that gives no value
+abbrev pub outcome : ℕ → Result (Unit {0}) Refusal
+outcome f = answered tt f
 
 -- the number of an answer
-unfoldable pub number : Outcome → ℕ
-number Done = 0
-number (Refused k) = k
-
--- the answer of a call that reduces this many rows, with this refusal
-unfoldable pub counted : ℕ → ℕ → Counted
-counted rows zero = counts.Reduced rows
-counted rows (suc k) = counts.Refused (suc k)
-
--- the number of such an answer
-unfoldable pub counted_number : Counted → ℕ
-counted_number (counts.Reduced rows) = 0
-counted_number (counts.Refused k) = k
+abbrev pub number_of : {A : Type 0} → Result A Refusal → ℕ
+number_of (Ok v) = 0
+number_of (Err r) = number r

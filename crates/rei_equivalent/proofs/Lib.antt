@@ -3,3 +3,4 @@ pub mod ReiCases
 pub mod TieLaws
 pub mod ReiNumbers
 pub mod ReiFinite
+pub mod Numbered

@@ -1,57 +1,62 @@
 -- What `compute` answers and leaves where it is refused, and where it is not; and what no refusal tells of the lengths.
-use Rattle.prelude.proofs.Prelude.{◌≡◌, refl, sym, ◌∙◌, Bool, true, false, not, ◌&&◌, List, ◌++◌, ℕ, zero, suc, ◌*◌, ◌≤◌, ◌<◌, arith, eqb, Float, true≢false}
+use Rattle.prelude.proofs.Prelude.{◌≡◌, refl, sym, ◌∙◌, true, false, not, ◌&&◌, List, ◌++◌, ℕ, zero, suc, ◌*◌, ◌≤◌, ◌<◌, arith, eqb, Float, true≢false}
 use Rattle.binary64.specs.Values.{all_finite}
 use Rattle.complex.specs.{one}
-use Rattle.refusals.specs.Refusals.{limit}
+use Rattle.refusals.specs.Refusals.{limit, outcome, answered}
 use Rattle.lists.specs.Limits.{over}
-use Rattle.refusals.proofs.Answering.{passed, accepting, held-refused}
+use Rattle.std.proofs.Common.{Ok, Err}
+use Rattle.refusals.specs.declared.Refusal.{Refusal}
+use Rattle.refusals.specs.declared.Refusal.TheVariants.{GivenNotFinite, ComputedNotFinite}
+use Rattle.refusals.proofs.Answering.{passed, accepting, accepted, held-refused}
 use Rattle.refusals.proofs.Numbers.{given-before, given-not, given-all, computed-before, computed-not, computed-all}
 use Rattle.lists.proofs.Within.{size-within}
-use Rattle.rei_equivalent.specs.declared.ReiEquivalent.{ReiEquivalent}
-use Rattle.rei_equivalent.specs.declared.ReiAnswer.TheVariants.{Done, Refused}
 use Rattle.rei_equivalent.specs.Inner.Writing.{TiesWritten}
-use Rattle.rei_equivalent.specs.Rei.{ReiInput, AfterRei, total, spokes_of, rei_buses, rei_size, ties_of, tie_room, sized, rei_length_refusal, rei_shape_refusal, of_rei, rei_refusal, equivalent_of, rei_answer, unused}
-
-answer-refused : (r f : ℕ) (e : ReiEquivalent) → r ≡ f → (r ≡ 0 → ⊥) → Refused r ≡ rei_answer f e
-unfolding rei_answer
-answer-refused zero f e p h = absurd (h refl)
-answer-refused (suc r) f e p h = rw (← p)
+use Rattle.rei_equivalent.specs.Rei.{ReiInput, AfterRei, total, spokes_of, rei_buses, rei_size, ties_of, tie_room, sized, rei_length_refusal, rei_shape_refusal, of_rei, rei_refusal, equivalent_of, unused}
 
 -- ---- what is told: by the lengths, by the numbers given, by the numbers computed
 
-module _ (g : ReiInput) (r : ℕ) (e : r ≡ rei_shape_refusal g) where
-  pub shape-refused : (r ≡ 0 → ⊥) → r ≡ rei_refusal g
+module _ {A : Type 0} (g : ReiInput) (v : A) where
+  pub shape-refused : (r : Refusal) → Err r ≡ outcome (rei_shape_refusal g) → Err r ≡ answered v (rei_refusal g)
   unfolding rei_refusal
-  shape-refused h = computed-before r _ _ (given-before r (rei_shape_refusal g) _ e h) h
+  shape-refused r e = computed-before v v _ _ r (given-before v (tt {0}) (rei_shape_refusal g) _ r e)
 
-  module _ (z : r ≡ 0) (given : Bool) (f : given ≡ all_finite (g.entries ++ (g.p ++ g.q))) where
-    pub given-refused : given ≡ false → 19 ≡ rei_refusal g
+  module _ (e : Ok (tt {0}) ≡ outcome (rei_shape_refusal g)) where
+    pub given-refused : all_finite (g.entries ++ (g.p ++ g.q)) ≡ false → Err GivenNotFinite ≡ answered v (rei_refusal g)
     unfolding rei_refusal
-    given-refused h = computed-before 19 _ _ (given-not r (rei_shape_refusal g) _ e z (sym f ∙ h)) (λ w. absurd (let q : ◌≡◌ {A = ℕ} 19 0 = w in omega arith))
+    given-refused h = computed-before v v _ _ GivenNotFinite (given-not v (tt {0}) (rei_shape_refusal g) _ tt e h)
 
-    module _ (t : given ≡ true) (computed : Bool) (f' : computed ≡ all_finite (of_rei (rei_size g) g.entries g.p g.q)) where
-      pub computed-refused : computed ≡ false → 20 ≡ rei_refusal g
+    module _ (t : all_finite (g.entries ++ (g.p ++ g.q)) ≡ true) where
+      pub computed-refused : all_finite (of_rei (rei_size g) g.entries g.p g.q) ≡ false → Err ComputedNotFinite ≡ answered v (rei_refusal g)
       unfolding rei_refusal
-      computed-refused h = computed-not 0 _ _ (given-all r (rei_shape_refusal g) _ e z (sym f ∙ t)) refl (sym f' ∙ h)
+      computed-refused h = computed-not v v _ _ v (given-all v (tt {0}) (rei_shape_refusal g) _ tt e t) h
 
-      pub none-refused : computed ≡ true → rei_refusal g ≡ 0
+      pub none-refused : all_finite (of_rei (rei_size g) g.entries g.p g.q) ≡ true → Ok v ≡ answered v (rei_refusal g)
       unfolding rei_refusal
-      none-refused h = sym (computed-all 0 _ _ (given-all r (rei_shape_refusal g) _ e z (sym f ∙ t)) refl (sym f' ∙ h))
+      none-refused h = computed-all v v _ _ v (given-all v (tt {0}) (rei_shape_refusal g) _ tt e t) h
 
 -- ---- what follows
 
-pub after-refused : (g : ReiInput) (r : ℕ) → r ≡ rei_refusal g → (r ≡ 0 → ⊥) → AfterRei g (Refused r) g.spoke_buses g.spokes g.tie_buses g.ties
-after-refused g r e h = search (answer-refused, held-refused)
+pub after-refused : (g : ReiInput) (r : Refusal) → Err r ≡ answered (equivalent_of g) (rei_refusal g) → AfterRei g (Err r) g.spoke_buses g.spokes g.tie_buses g.ties
+after-refused g r e =
+    let v = equivalent_of g in
+    record {
+      answer = e;
+      spoke_buses_are = held-refused v _ _ _ r e;
+      spokes_are = held-refused v _ _ _ r e;
+      tie_buses_are = held-refused v _ _ _ r e;
+      ties_are = held-refused v _ _ _ r e;
+    }
 
 pub after-done : (g : ReiInput) (p q : Float) (count : ℕ) (buses : List ℕ) (spokes : List Float) (ends : List ℕ) (ties : List Float)
-    → rei_refusal g ≡ 0 → p ≡ total g.p → q ≡ total g.q → buses ≡ rei_buses g → spokes ≡ spokes_of g
+    → Ok (equivalent_of g) ≡ answered (equivalent_of g) (rei_refusal g) → p ≡ total g.p → q ≡ total g.q → buses ≡ rei_buses g → spokes ≡ spokes_of g
     → TiesWritten (rei_size g) g.entries buses count ends ties
-    → AfterRei g (Done (record { rei_bus_id = g.bus_id; rei_voltage_pu = one; rei_p_mw = p; rei_q_mvar = q; n_ties = count })) buses spokes ends ties
-unfolding rei_answer equivalent_of ties_of unused
-after-done g p q count buses spokes ends ties z x y b s w =
+    → AfterRei g (Ok (record { rei_bus_id = g.bus_id; rei_voltage_pu = one; rei_p_mw = p; rei_q_mvar = q; n_ties = count })) buses spokes ends ties
+unfolding equivalent_of ties_of unused
+after-done g p q count buses spokes ends ties e x y b s w =
     let v : TiesWritten (rei_size g) g.entries (rei_buses g) count ends ties = rw b at w in
+    let z = (accepted (equivalent_of g) (equivalent_of g) (rei_refusal g) (equivalent_of g) e).0 in
     record {
-      answer = rw (z, x, y, v.counted);
+      answer = rw (x, y, v.counted) e;
       spoke_buses_are = rw z b;
       spokes_are = rw z s;
       tie_buses_are = rw z v.ends_are;

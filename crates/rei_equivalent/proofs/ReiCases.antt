@@ -7,8 +7,9 @@ use Rattle.binary64.specs.Values.{all_finite}
 use Rattle.binary64.specs.Root.{root, root_of, radicand, half, whole_root, moved_back}
 use Rattle.refusals.specs.Refusals.{limit, then_given, then_computed}
 use Rattle.rei_equivalent.specs.Rei.{ReiInput, total, partial_sums, spoke, of_spoke, spoke_parts, of_spokes, is_tie, row_ties, upper_ties, all_ties, tie_ends, tie_parts, tie_room, rei_buses, rei_size, spokes_of, ties_of, sized, rei_length_refusal, rei_shape_refusal, of_rei, rei_refusal, equivalent_of, AfterRei}
-use Rattle.rei_equivalent.specs.declared.ReiAnswer.{ReiAnswer}
-use Rattle.rei_equivalent.specs.declared.ReiAnswer.TheVariants.{Done}
+use Rattle.std.proofs.Common.{Result, Ok}
+use Rattle.refusals.specs.declared.Refusal.{Refusal}
+use Rattle.rei_equivalent.specs.declared.ReiEquivalent.{ReiEquivalent}
 use Rattle.rei_equivalent.proofs.ReiFinite.{rei-finite}
 use Rattle.dc_flow.proofs.DcCases.{zero', one', minus_one, two, minus-two, largest}
 
@@ -61,7 +62,7 @@ premises : (rei_shape_refusal study ≡ 0) × T (all_finite (study.entries ++ (s
 unfolding study matrix rei_refusal rei_shape_refusal rei_length_refusal sized rei_size rei_buses tie_room then_given then_computed of_rei partial_sums of_spokes of_spoke magnitude root root_of radicand half whole_root moved_back sqmag entry_at entry up_to plus0 small_magnitude lt add mul div of_int sum round units odd size span climb count_trailing_zeros of_bits of_fields
 premises = (refl, tt, tt)
 
-by-law : (r : ReiAnswer) (buses ends : List ℕ) (spokes ties : List Float) → AfterRei study r buses spokes ends ties → r ≡ Done (equivalent_of study)
+by-law : (r : Result ReiEquivalent Refusal) (buses ends : List ℕ) (spokes ties : List Float) → AfterRei study r buses spokes ends ties → r ≡ Ok (equivalent_of study)
 by-law r buses ends spokes ties after =
     let (shape, given, computed) = premises in
     (rei-finite.accepted study r buses spokes ends ties after shape given computed).0

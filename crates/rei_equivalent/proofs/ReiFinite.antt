@@ -1,6 +1,6 @@
 -- What an accepted call of `compute` answers and writes is finite: sums and spokes are computed, ties are given entries with their signs turned.
 -- And nothing finite is refused.
-use Rattle.prelude.proofs.Prelude.{◌≡◌, refl, sym, subst, Bool, true, false, cond, List, [], ◌∷◌, ◌++◌, ℕ, zero, suc, ◌+◌, ◌*◌, ◌<◌, arith, T, ltb, ltb→lt, length, get_or, Float, nan, inf, fin, neg, of_bits, lt, and_l, and_r, finite, is_true}
+use Rattle.prelude.proofs.Prelude.{◌≡◌, refl, sym, subst, Bool, true, false, cond, List, [], ◌∷◌, ◌++◌, ℕ, zero, suc, ◌+◌, ◌*◌, ◌<◌, arith, T, ltb, ltb→lt, length, get_or, Float, nan, inf, fin, neg, of_bits, lt, and_l, and_r, finite}
 use Rattle.binary64.specs.Values.{all_finite}
 use Rattle.complex.specs.{Complex, Matrix, plus0, one, small_magnitude, magnitude, cneg, entry, entry_at, zeros, ◌⊘◌}
 use Rattle.complex.specs.Leaves.{of_magnitude}
@@ -9,11 +9,13 @@ use Rattle.complex.proofs.Sticky.{Finite}
 use Rattle.complex.proofs.Matrices.{entry-within}
 use Rattle.lists.specs.Buses.{up_to, all_below}
 use Rattle.lists.proofs.Buses.{all-below-up_to}
-use Rattle.refusals.proofs.Numbers.{given-none, computed-none, given-all, computed-all}
+use Rattle.std.proofs.Common.{Result, Ok}
+use Rattle.refusals.specs.declared.Refusal.{Refusal}
+use Rattle.refusals.specs.Refusals.{refusal, number_of, answered}
+use Rattle.refusals.proofs.Numbers.{given-none, computed-none}
+use Rattle.dc_flow.proofs.Accepted.{given-met, computed-met, numbered}
 use Rattle.rei_equivalent.specs.declared.ReiEquivalent.{ReiEquivalent}
-use Rattle.rei_equivalent.specs.declared.ReiAnswer.{ReiAnswer}
-use Rattle.rei_equivalent.specs.declared.ReiAnswer.TheVariants.{Done}
-use Rattle.rei_equivalent.specs.Rei.{ReiInput, ReiFinite, Tie, total, partial_sums, spoke, of_spoke, spoke_parts, of_spokes, is_tie, row_ties, upper_ties, tie_parts, all_ties, ties_of, spokes_of, unused, rei_buses, rei_size, rei_shape_refusal, of_rei, rei_refusal, equivalent_of, rei_answer, rei_number, numbers_of}
+use Rattle.rei_equivalent.specs.Rei.{ReiInput, ReiFinite, Tie, total, partial_sums, spoke, of_spoke, spoke_parts, of_spokes, is_tie, row_ties, upper_ties, tie_parts, all_ties, ties_of, spokes_of, unused, rei_buses, rei_size, rei_shape_refusal, of_rei, rei_refusal, equivalent_of, numbers_of}
 use Rattle.rei_equivalent.proofs.ReiNumbers.{plus0-finite, sum_tells}
 use Rattle.rei_equivalent.proofs.ReiAnswers.{rei-accepted}
 
@@ -43,7 +45,6 @@ neg-finite (inf s) h = h
 neg-finite (fin s m e) h = tt
 
 head-below : (n i : ℕ) (is : List ℕ) → T (all_below n (i ∷ is)) → (i < n) × T (all_below n is)
-unfolding all_below
 head-below n i is h = (ltb→lt i n (and_l (ltb i n) (all_below n is) h), and_r (ltb i n) (all_below n is) h)
 
 parts_join : (ts us : List Tie) → T (all_finite (tie_parts ts)) → T (all_finite (tie_parts us)) → T (all_finite (tie_parts (ts ++ us)))
@@ -87,10 +88,10 @@ zeros-finite (suc k) = all_more plus0 _ plus0-finite (zeros-finite k)
 
 -- ---- the call
 
-accepted : (f : ℕ) (e : ReiEquivalent) → rei_number (rei_answer f e) ≡ 0 → f ≡ 0
-unfolding rei_answer
+accepted : (f : ℕ) (e : ReiEquivalent) → number_of (answered e f) ≡ 0 → f ≡ 0
+unfolding answered
 accepted zero e h = refl
-accepted (suc f) e h = h
+accepted (suc f) e h = absurd (numbered (refusal (suc f)) h)
 
 one-finite : T (finite one)
 unfolding one of_bits
@@ -107,8 +108,8 @@ module _ (g : ReiInput) (z : rei_refusal g ≡ 0) where
       let after = all_right (partial_sums plus0 g.p) _ told.1 in
       (subst T (sym (sum_tells g.p)) (all_left (partial_sums plus0 g.p) _ told.1), subst T (sym (sum_tells g.q)) (all_left (partial_sums plus0 g.q) _ after))
 
-  answer-finite : T (all_finite (numbers_of (rei_answer (rei_refusal g) (equivalent_of g))))
-  unfolding numbers_of rei_answer equivalent_of
+  answer-finite : T (all_finite (numbers_of (answered (equivalent_of g) (rei_refusal g))))
+  unfolding numbers_of answered equivalent_of
   answer-finite = rw z (all_more one _ one-finite (all_more (total g.p) _ sums.0 (all_more (total g.q) [] sums.1 none)))
 
   spokes-are : T (all_finite (spokes_of g))
@@ -127,24 +128,22 @@ module _ (g : ReiInput) (z : rei_refusal g ≡ 0) where
 not-refused : (g : ReiInput) → rei_shape_refusal g ≡ 0 → T (all_finite (g.entries ++ (g.p ++ g.q))) → T (all_finite (of_rei (rei_size g) g.entries g.p g.q)) → rei_refusal g ≡ 0
 unfolding rei_refusal
 not-refused g shape given computed =
-    let numbers = g.entries ++ (g.p ++ g.q) in
-    let told = given-all 0 (rei_shape_refusal g) numbers (sym shape) refl (is_true (all_finite numbers) given) in
-    sym (computed-all 0 _ (of_rei (rei_size g) g.entries g.p g.q) told refl (is_true (all_finite (of_rei (rei_size g) g.entries g.p g.q)) computed))
+    computed-met _ (of_rei (rei_size g) g.entries g.p g.q) (given-met _ (g.entries ++ (g.p ++ g.q)) shape given) computed
 
-answered : (f : ℕ) (e : ReiEquivalent) (r : ReiAnswer) → f ≡ 0 → r ≡ rei_answer f e → r ≡ Done e
-unfolding rei_answer
-answered f e r z a = rw z at a
+done : (f : ℕ) (e : ReiEquivalent) (r : Result ReiEquivalent Refusal) → f ≡ 0 → r ≡ answered e f → r ≡ Ok e
+unfolding answered
+done f e r z a = rw z at a
 
 pub rei-finite : ReiFinite
 rei-finite =
     record {
       outputs-finite = λ g r buses spokes ends ties after h.
-          let z = accepted (rei_refusal g) (equivalent_of g) (subst (λ (a : ReiAnswer). rei_number a ≡ 0) after.answer h) in (
-            subst (λ (a : ReiAnswer). T (all_finite (numbers_of a))) (sym after.answer) (answer-finite g z),
+          let z = accepted (rei_refusal g) (equivalent_of g) (subst (λ (a : Result ReiEquivalent Refusal). number_of a ≡ 0) after.answer h) in (
+            subst (λ (a : Result ReiEquivalent Refusal). T (all_finite (numbers_of a))) (sym after.answer) (answer-finite g z),
             subst (λ (xs : List Float). T (all_finite xs)) (sym (rw z at after.spokes_are)) (spokes-are g z),
             subst (λ (xs : List Float). T (all_finite xs)) (sym (rw z at after.ties_are)) (ties-are g z),
           );
       accepted = λ g r buses spokes ends ties after shape given computed.
           let z = not-refused g shape given computed in
-          (answered (rei_refusal g) (equivalent_of g) r z after.answer, rw z at after.spoke_buses_are, rw z at after.spokes_are, rw z at after.tie_buses_are, rw z at after.ties_are);
+          (done (rei_refusal g) (equivalent_of g) r z after.answer, rw z at after.spoke_buses_are, rw z at after.spokes_are, rw z at after.tie_buses_are, rw z at after.ties_are);
     }

@@ -1,6 +1,7 @@
 -- The REI equivalent: a fictitious bus, a spoke from it to each bus, and the ties that the buses keep between them.
 -- The buses are the generators, then the loads; row i of the matrix is that of bus i of these. Their numbers are passed through.
-use Rattle.std.specs.Prelude.{ℕ, zero, suc, ◌+◌, ◌*◌, ◌-◌, ◌≡◌, Bool, not, ◌&&◌, ◌||◌, cond, T, eqb, pos, length, get_or, replicate, Float}
+use Rattle.std.specs.Prelude.{ℕ, ◌+◌, ◌*◌, ◌-◌, ◌≡◌, Bool, not, ◌&&◌, ◌||◌, cond, T, eqb, pos}
+use Rattle.std.specs.Prelude.{length, get_or, replicate, Float, Result, Ok, Err}
 use mathlib.Core.List.{List, [], ◌∷◌, ◌++◌, foldl}
 use Rattle.std.specs.Float.{binary64}
 use Rattle.std.specs.Float.Ieee.{of_int, lt}
@@ -12,10 +13,9 @@ use Rattle.complex.specs.Leaves.{of_magnitude}
 use Rattle.complex.specs.Matrices.{Matrix, entry_at, zeros}
 use Rattle.lists.specs.Buses.{up_to}
 use Rattle.binary64.specs.Values.{all_finite}
-use Rattle.refusals.specs.Refusals.{too_many, wrong_length, lists_differ, no_bus, refuse, then_given, then_computed}
+use Rattle.refusals.specs.declared.Refusal.{Refusal}
+use Rattle.refusals.specs.Refusals.{too_many, wrong_length, lists_differ, no_bus, refuse, then_given, then_computed, answered, number_of}
 use Rattle.rei_equivalent.specs.declared.ReiEquivalent.{ReiEquivalent}
-use Rattle.rei_equivalent.specs.declared.ReiAnswer.{ReiAnswer}
-use Rattle.rei_equivalent.specs.declared.ReiAnswer.TheVariants.{Done, Refused}
 use Rattle.lists.specs.Limits.{over}
 
 -- ---- injections
@@ -165,16 +165,6 @@ equivalent_of g =
       n_ties = length (ties_of g);
     }
 
--- the answer of a call with this refusal: the equivalent where there is none
-unfoldable pub rei_answer : ℕ → ReiEquivalent → ReiAnswer
-rei_answer zero e = Done e
-rei_answer (suc f) e = Refused (suc f)
-
--- the number of an answer: its refusal, 0 where there is none
-abbrev pub rei_number : ReiAnswer → ℕ
-rei_number (Done e) = 0
-rei_number (Refused k) = k
-
 -- what an output slice holds at exit: as it was where the call is refused
 abbrev pub unless_refused : {A : Type 0} → ReiInput → A → A → A
 unless_refused g new held = cond (eqb (rei_refusal g) 0) new held
@@ -184,29 +174,32 @@ unfoldable pub unused : ReiInput → ℕ
 unused g = tie_room (rei_size g) - 2 * length (ties_of g)
 
 -- what `compute` answers and what its output slices hold at exit
-pub record AfterRei (g : ReiInput) (r : ReiAnswer) (spoke_buses : List ℕ) (spokes : List Float) (tie_buses : List ℕ) (ties : List Float)
+pub record AfterRei (g : ReiInput) (r : Result ReiEquivalent Refusal) (spoke_buses : List ℕ) (spokes : List Float)
+    (tie_buses : List ℕ) (ties : List Float)
     : Type 0 where
-  pub answer : r ≡ rei_answer (rei_refusal g) (equivalent_of g)
+  pub answer : r ≡ answered (equivalent_of g) (rei_refusal g)
   pub spoke_buses_are : spoke_buses ≡ unless_refused g (rei_buses g) g.spoke_buses
   pub spokes_are : spokes ≡ unless_refused g (spokes_of g) g.spokes
   pub tie_buses_are : tie_buses ≡ unless_refused g (tie_ends (ties_of g) ++ replicate (unused g) 0) g.tie_buses
   pub ties_are : ties ≡ unless_refused g (tie_parts (ties_of g) ++ zeros (unused g)) g.ties
 
 -- the numbers in an answer
-unfoldable pub numbers_of : ReiAnswer → List Float
-numbers_of (Done e) = e.rei_voltage_pu ∷ e.rei_p_mw ∷ e.rei_q_mvar ∷ []
-numbers_of (Refused k) = []
+unfoldable pub numbers_of : Result ReiEquivalent Refusal → List Float
+numbers_of (Ok e) = e.rei_voltage_pu ∷ e.rei_p_mw ∷ e.rei_q_mvar ∷ []
+numbers_of (Err k) = []
 
 -- what an accepted call answers and writes is finite, and nothing finite is refused
 pub record ReiFinite : Type 0 where
-  pub outputs-finite : (g : ReiInput) (r : ReiAnswer) (spoke_buses : List ℕ) (spokes : List Float) (tie_buses : List ℕ) (ties : List Float)
-      → AfterRei g r spoke_buses spokes tie_buses ties → rei_number r ≡ 0
+  pub outputs-finite : (g : ReiInput) (r : Result ReiEquivalent Refusal) (spoke_buses : List ℕ) (spokes : List Float)
+      (tie_buses : List ℕ) (ties : List Float)
+      → AfterRei g r spoke_buses spokes tie_buses ties → number_of r ≡ 0
       → T (all_finite (numbers_of r)) × T (all_finite spokes) × T (all_finite ties)
   -- a call with right lengths whose numbers, given and computed, are finite is accepted
-  pub accepted : (g : ReiInput) (r : ReiAnswer) (spoke_buses : List ℕ) (spokes : List Float) (tie_buses : List ℕ) (ties : List Float)
+  pub accepted : (g : ReiInput) (r : Result ReiEquivalent Refusal) (spoke_buses : List ℕ) (spokes : List Float)
+      (tie_buses : List ℕ) (ties : List Float)
       → AfterRei g r spoke_buses spokes tie_buses ties
       → rei_shape_refusal g ≡ 0
       → T (all_finite (g.entries ++ (g.p ++ g.q)))
       → T (all_finite (of_rei (rei_size g) g.entries g.p g.q))
-      → (r ≡ Done (equivalent_of g)) × (spoke_buses ≡ rei_buses g) × (spokes ≡ spokes_of g)
+      → (r ≡ Ok (equivalent_of g)) × (spoke_buses ≡ rei_buses g) × (spokes ≡ spokes_of g)
       × (tie_buses ≡ tie_ends (ties_of g) ++ replicate (unused g) 0) × (ties ≡ tie_parts (ties_of g) ++ zeros (unused g))

@@ -6,13 +6,11 @@ ghost use Rattle.rei_equivalent.specs.Rei as spec;
 pub fn sum(xs: &[f64]) -> f64
     ensures { result ≡ spec.total xs.now }
 {
-    let mut s = 0.0;
-    let mut i = 0;
-    while i < xs.len() {
-        s = s + xs[i];
-        i += 1;
+    let mut sum = 0.0;
+    for x in xs {
+        sum += *x;
     }
-    s
+    sum
 }
 
 // The first list and then the second.
@@ -21,19 +19,6 @@ pub fn join_lists(first: &[usize], second: &[usize], out: &mut [usize])
     ensures { out.new ≡ first.now ++ second.now }
 {
     let k = first.len();
-    let e = out.len();
-    copy(first, &mut out[0..k]);
-    copy(second, &mut out[k..e]);
-}
-
-// The list, into a slice of its length.
-fn copy(from: &[usize], to: &mut [usize])
-    requires { length to.old ≡ length from.now }
-    ensures { to.new ≡ from.now }
-{
-    let mut i = 0;
-    while i < from.len() {
-        to[i] = from[i];
-        i += 1;
-    }
+    out[..k].copy_from_slice(first);
+    out[k..].copy_from_slice(second);
 }

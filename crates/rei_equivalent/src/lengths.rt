@@ -4,63 +4,52 @@ ghost use Rattle.refusals.specs.Refusals as refusals;
 ghost use Rattle.rei_equivalent.specs.Rei as spec;
 
 use lists::checks::over;
-use refusals::{LISTS_DIFFER, NO_BUS, TOO_MANY, WRONG_LENGTH};
+use refusals::Refusal;
 
-// The refusal by the lengths of what `compute` is given, 0 where there is none; n is the number of buses.
-pub fn refusal(
-    n: usize,
-    p: usize,
-    q: usize,
-    y: usize,
-    spoke_buses: usize,
-    spokes: usize,
-    tie_buses: usize,
-    ties: usize,
-) -> u32
-    ensures { result ≡ spec.rei_length_refusal n p q (spec.sized n y spoke_buses spokes tie_buses ties) }
-{
-    if over(n, p, q, 0) {
-        return TOO_MANY;
-    }
-    if !exact(n, y, spoke_buses, spokes, tie_buses, ties) {
-        return WRONG_LENGTH;
-    }
-    if p != n {
-        return LISTS_DIFFER;
-    }
-    if q != n {
-        return LISTS_DIFFER;
-    }
-    if n == 0 {
-        return NO_BUS;
-    }
-    0
+// The lengths of what `compute` is given, beside the number of buses.
+#[derive(Clone, Copy)]
+pub struct Lengths {
+    pub p: usize,
+    pub q: usize,
+    pub y: usize,
+    pub spoke_buses: usize,
+    pub spokes: usize,
+    pub tie_buses: usize,
+    pub ties: usize,
 }
 
-// Whether the matrix and the output slices are of their exact lengths.
-fn exact(
-    n: usize,
-    y: usize,
-    spoke_buses: usize,
-    spokes: usize,
-    tie_buses: usize,
-    ties: usize,
-) -> bool
-    requires { n ≤ refusals.limit }
-    ensures { result ≡ spec.sized n y spoke_buses spokes tie_buses ties }
-{
-    let square = n * n;
-    if y != 2 * square {
-        return false;
+impl Lengths {
+    // The refusal by the lengths; n is the number of buses.
+    pub fn check(self, n: usize) -> Result<(), Refusal>
+        ensures { result
+            ≡ refusals.outcome (spec.rei_length_refusal n self.p self.q
+            (spec.sized n self.y self.spoke_buses self.spokes self.tie_buses self.ties)) }
+    {
+        if over(n, self.p, self.q, 0) {
+            return Err(Refusal::TooMany);
+        }
+        if !self.exact(n) {
+            return Err(Refusal::WrongLength);
+        }
+        if self.p != n || self.q != n {
+            return Err(Refusal::ListsDiffer);
+        }
+        if n == 0 {
+            return Err(Refusal::NoBus);
+        }
+        Ok(())
     }
-    if spoke_buses != n {
-        return false;
+
+    // Whether the matrix and the output slices are of their exact lengths.
+    fn exact(self, n: usize) -> bool
+        requires { n ≤ refusals.limit }
+        ensures { result ≡ spec.sized n self.y self.spoke_buses self.spokes self.tie_buses self.ties }
+    {
+        let square = n * n;
+        self.y == 2 * square
+            && self.spoke_buses == n
+            && self.spokes == 2 * n
+            && self.tie_buses == square - n
+            && self.ties == square - n
     }
-    if spokes != 2 * n {
-        return false;
-    }
-    if tie_buses != square - n {
-        return false;
-    }
-    ties == square - n
 }

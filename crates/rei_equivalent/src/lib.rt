@@ -1,18 +1,17 @@
 // The REI equivalent of a set of generator and load buses.
 #![tactic(auto)]
 
-ghost use Rattle.std.specs.Prelude.{◌≡◌};
 ghost use Rattle.rei_equivalent.specs.Rei as spec;
 
 use crate::inputs::{join_lists, sum};
-use crate::lengths::refusal;
+use crate::lengths::Lengths;
+use crate::matrix::SubMatrix;
 use crate::numbers::{computed_finite, given_finite};
-use crate::spokes::spoke_all;
-use crate::ties::tie_all;
-use refusals::{COMPUTED_NOT_FINITE, GIVEN_NOT_FINITE};
+use refusals::Refusal;
 
 mod inputs;
 mod lengths;
+mod matrix;
 mod numbers;
 mod spokes;
 mod ties;
@@ -25,23 +24,6 @@ pub struct ReiEquivalent {
     pub rei_p_mw: f64,
     pub rei_q_mvar: f64,
     pub n_ties: usize,
-}
-
-// The equivalent, or the refusal's number.
-#[derive(Clone, Copy)]
-pub enum ReiAnswer {
-    Done(ReiEquivalent),
-    Refused(u32),
-}
-
-// The refusal's number, 0 where there is none.
-pub fn number_of(answer: ReiAnswer) -> u32
-    ensures { result ≡ spec.rei_number answer }
-{
-    match answer {
-        ReiAnswer::Done(_) => 0,
-        ReiAnswer::Refused(k) => k,
-    }
 }
 
 // The REI equivalent of the buses, generators first: injections in MW and MVAr, admittances in per unit, real then imaginary.
@@ -57,7 +39,7 @@ pub fn compute(
     spokes: &mut [f64],
     tie_buses: &mut [usize],
     ties: &mut [f64],
-) -> ReiAnswer
+) -> Result<ReiEquivalent, Refusal>
     ensures { spec.AfterRei
         (record {
           generators = generator_buses.now;
@@ -74,31 +56,29 @@ pub fn compute(
         result spoke_buses.new spokes.new tie_buses.new ties.new }
 {
     let n = generator_buses.len() + load_buses.len();
-    let f = refusal(
-        n,
-        p_inj.len(),
-        q_inj.len(),
-        y_sub.len(),
-        spoke_buses.len(),
-        spokes.len(),
-        tie_buses.len(),
-        ties.len(),
-    );
-    if f != 0 {
-        return ReiAnswer::Refused(f);
-    }
+    let lengths = Lengths {
+        p: p_inj.len(),
+        q: q_inj.len(),
+        y: y_sub.len(),
+        spoke_buses: spoke_buses.len(),
+        spokes: spokes.len(),
+        tie_buses: tie_buses.len(),
+        ties: ties.len(),
+    };
+    lengths.check(n)?;
     if !given_finite(y_sub, p_inj, q_inj) {
-        return ReiAnswer::Refused(GIVEN_NOT_FINITE);
+        return Err(Refusal::GivenNotFinite);
     }
     let p = sum(p_inj);
     let q = sum(q_inj);
-    if !computed_finite(p, q, n, y_sub) {
-        return ReiAnswer::Refused(COMPUTED_NOT_FINITE);
+    let y = SubMatrix { n: n, y: y_sub };
+    if !computed_finite(p, q, y) {
+        return Err(Refusal::ComputedNotFinite);
     }
     join_lists(generator_buses, load_buses, spoke_buses);
-    spoke_all(n, y_sub, spokes);
-    let count = tie_all(n, y_sub, spoke_buses, tie_buses, ties);
-    ReiAnswer::Done(ReiEquivalent {
+    y.spoke_all(spokes);
+    let count = y.tie_all(spoke_buses, tie_buses, ties);
+    Ok(ReiEquivalent {
         rei_bus_id: next_bus_id,
         rei_voltage_pu: 1.0,
         rei_p_mw: p,

@@ -1,85 +1,73 @@
-// The ties that the buses keep between them; admittances in per unit.
+// The ties that the buses keep between them; admittances in per unit. The two slices and the count of ties stay parameters: as fields of
+// one struct, each slice would stand behind two references in every clause.
 ghost use Rattle.std.specs.Prelude.{◌≡◌, cond, ◌<◌, ◌≤◌, ◌*◌, ◌+◌, ◌-◌, length, set, drop};
 ghost use Rattle.complex.specs.Entries as entries;
+ghost use Rattle.complex.specs.Matrices as matrices;
 ghost use Rattle.lists.specs.Buses.{up_to};
 ghost use Rattle.complex.specs.Arithmetic as arithmetic;
-ghost use Rattle.refusals.specs.Refusals as refusals;
 ghost use Rattle.rei_equivalent.specs.Rei as spec;
 ghost use Rattle.rei_equivalent.specs.Inner.Writing as writing;
 
+use crate::matrix::SubMatrix;
 use complex::Complex;
 use complex::constants::TIE_THRESHOLD;
-use complex::entry::{get, put};
+use complex::entry::put;
 use complex::raw::{abs, cneg};
 use complex::slices::clear;
-use lists::checks::no_buses;
 
-// All ties, and zeros behind them; answers how many there are.
-pub fn tie_all(n: usize, y: &[f64], buses: &[usize], ends: &mut [usize], ties: &mut [f64]) -> usize
-    requires sizes { (n ≤ refusals.limit)
-        × (length y.now ≡ 2 * (n * n))
-        × (length buses.now ≡ n) }
-    requires room { (length ends.old ≡ spec.tie_room n)
-        × (length ties.old ≡ spec.tie_room n) }
-    ensures { writing.TiesWritten n y.now buses.now result ends.new ties.new }
-{
-    let count = tie_rows(n, y, buses, ends, ties);
-    let a = 2 * count;
-    let e = ends.len();
-    no_buses(&mut ends[a..e]);
-    clear(&mut ties[a..e]);
-    count
-}
-
-// Row after row, from the front; answers how many there are.
-fn tie_rows(n: usize, y: &[f64], buses: &[usize], ends: &mut [usize], ties: &mut [f64]) -> usize
-    requires sizes { (n ≤ refusals.limit)
-        × (length y.now ≡ 2 * (n * n))
-        × (length buses.now ≡ n) }
-    requires room { (length ends.old ≡ spec.tie_room n)
-        × (length ties.old ≡ spec.tie_room n) }
-    ensures { writing.RowWritten (spec.all_ties n y.now buses.now) 0
-        ends.old ties.old result ends.new ties.new }
-{
-    let w = 2 * n;
-    let mut count = 0;
-    let mut i = 0;
-    let mut a = 0;
-    while i < n {
-        let e = a + w;
-        count = tie_row(i, n, &y[a..e], buses, ends, ties, count);
-        a = e;
-        i += 1;
+impl SubMatrix<'_> {
+    // All ties, and zeros behind them; answers how many there are.
+    pub fn tie_all(self, buses: &[usize], ends: &mut [usize], ties: &mut [f64]) -> usize
+        requires buses { length buses.now ≡ self.n }
+        requires room { (length ends.old ≡ spec.tie_room self.n)
+            × (length ties.old ≡ spec.tie_room self.n) }
+        ensures { writing.TiesWritten self.entry.n self.entry.y.now buses.now result ends.new ties.new }
+    {
+        let count = self.tie_rows(buses, ends, ties);
+        let behind = 2 * count;
+        ends[behind..].fill(0);
+        clear(&mut ties[behind..]);
+        count
     }
-    count
-}
 
-// Those of row i, written from place `from` on; answers the place behind them.
-fn tie_row(
-    i: usize,
-    n: usize,
-    row: &[f64],
-    buses: &[usize],
-    ends: &mut [usize],
-    ties: &mut [f64],
-    from: usize,
-) -> usize
-    requires row { (i < n)
-        × (length row.now ≡ 2 * n)
-        × (length buses.now ≡ n) }
-    requires room { (2 * (from + (n - (i + 1))) ≤ length ends.old)
-        × (length ties.old ≡ length ends.old) }
-    ensures { writing.RowWritten (spec.row_ties buses.now (entries.entry row.now) i (drop (i + 1) (up_to n))) from
-        ends.old ties.old result ends.new ties.new }
-{
-    let bus = buses[i];
-    let mut count = from;
-    let mut j = i + 1;
-    while j < n {
-        count = tie_one(bus, buses[j], get(row, j), ends, ties, count);
-        j += 1;
+    // Row after row, from the front; answers how many there are.
+    fn tie_rows(self, buses: &[usize], ends: &mut [usize], ties: &mut [f64]) -> usize
+        requires buses { length buses.now ≡ self.n }
+        requires room { (length ends.old ≡ spec.tie_room self.n)
+            × (length ties.old ≡ spec.tie_room self.n) }
+        ensures { writing.RowWritten (spec.all_ties self.entry.n self.entry.y.now buses.now) 0
+            ends.old ties.old result ends.new ties.new }
+    {
+        let mut count = 0;
+        for i in 0..self.n {
+            count = self.tie_row(i, buses, ends, ties, count);
+        }
+        count
     }
-    count
+
+    // Those of row i, written from place `from` on; answers the place behind them.
+    fn tie_row(
+        self,
+        i: usize,
+        buses: &[usize],
+        ends: &mut [usize],
+        ties: &mut [f64],
+        from: usize,
+    ) -> usize
+        requires row { (i < self.n)
+            × (length buses.now ≡ self.n) }
+        requires room { (2 * (from + (self.n - (i + 1))) ≤ length ends.old)
+            × (length ties.old ≡ length ends.old) }
+        ensures { writing.RowWritten
+            (spec.row_ties buses.now (matrices.entry_at self.entry.n self.entry.y.now i) i (drop (i + 1) (up_to self.entry.n)))
+            from ends.old ties.old result ends.new ties.new }
+    {
+        let mut count = from;
+        for j in i + 1..self.n {
+            count = tie_one(buses[i], buses[j], self.entry(i, j), ends, ties, count);
+        }
+        count
+    }
 }
 
 // A tie at place `count` where the entry makes one; answers the place behind it.
@@ -110,8 +98,5 @@ fn tie_one(
 fn is_tie(y: Complex) -> bool
     ensures { result ≡ spec.is_tie y }
 {
-    if abs(y.re) > TIE_THRESHOLD {
-        return true;
-    }
-    abs(y.im) > TIE_THRESHOLD
+    abs(y.re) > TIE_THRESHOLD || abs(y.im) > TIE_THRESHOLD
 }

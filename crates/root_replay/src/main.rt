@@ -2,11 +2,14 @@
 // as two words of 16 hexadecimal digits, and 7ff8000000000000 for a NaN (oracle/roots says how they were made). Prints how many agree.
 #![tactic(auto)]
 
-ghost use Rattle.std.specs.Prelude.{◌+◌, ◌≤◌, ◌<◌, length, IfOk};
+ghost use Rattle.std.specs.Prelude.{◌≡◌, ◌≤◌, ◌<◌, length, IfOk};
 
+use binary64::sqrt;
+use binary64::words::{of_word, to_word};
 use std::io;
 use std::io::Read;
 
+// Two words of 16 digits, a space between them and a line feed behind them.
 const LINE: usize = 34;
 
 // The most bytes that are read.
@@ -15,56 +18,22 @@ const SPACE: usize = 65536;
 fn digit(c: u8) -> u64
     ensures { result < 16 }
 {
-    let n = c as u64;
+    let n = u64::from(c);
     if n < 97 { n % 16 } else { (n + 9) % 16 }
 }
 
-// The word of 16 digits at an index.
-fn word(s: &[u8], at: usize) -> u64
-    requires { at + 16 ≤ length s.now }
+// The last 16 of the hexadecimal digits as a word.
+fn word(digits: &[u8]) -> u64 {
+    digits
+        .iter()
+        .fold(0, |w, c| w % 0x1000_0000_0000_0000 * 16 + digit(*c))
+}
+
+// Whether the root on a line is ours.
+fn agrees(line: &[u8]) -> bool
+    requires { length line.now ≡ LINE }
 {
-    let mut w: u64 = 0;
-    let mut i: usize = 0;
-    while i < 16 {
-        w = w % 0x1000_0000_0000_0000 * 16 + digit(s[at + i]);
-        i += 1;
-    }
-    w
-}
-
-fn value(n: u64) -> f64 {
-    if n % 0x8000_0000_0000_0000 > 0x7ff0_0000_0000_0000 {
-        return 0.0 / 0.0;
-    }
-    f64::from_bits(n)
-}
-
-fn pattern(x: f64) -> u64 {
-    if x != x {
-        return 0x7ff8_0000_0000_0000;
-    }
-    f64::to_bits(x)
-}
-
-#[derive(Clone, Copy)]
-struct Agreed {
-    agree: u64,
-    lines: u64,
-}
-
-fn tally(s: &[u8]) -> Agreed {
-    let mut agree: u64 = 0;
-    let mut lines: u64 = 0;
-    let mut at: usize = 0;
-    while LINE <= s.len() - at {
-        let r = binary64::sqrt(value(word(s, at)));
-        if pattern(r) == word(s, at + 17) {
-            agree += 1;
-        }
-        lines += 1;
-        at += LINE;
-    }
-    Agreed { agree, lines }
+    to_word(sqrt(of_word(word(&line[..16])))) == word(&line[17..33])
 }
 
 // Until the buffer is full or the input ends: how many bytes stand at the buffer's front.
@@ -83,8 +52,11 @@ fn read_full<R: Read>(from: &mut R, buffer: &mut [u8]) -> io::Result<usize>
 }
 
 fn main(rt: HostRuntime) -> io::Result<()> {
+    // fixed memory: all lines that are read have room in it
     let mut space = [0; SPACE];
     let n = read_full(&mut rt.stdin(), &mut space)?;
-    let t = tally(&space[..n]);
-    println!(rt; "roots: {} of {} agree", t.agree, t.lines)
+    let lines = space[..n].chunks_exact(LINE);
+    let count = lines.len();
+    let agree = lines.filter(|line| agrees(line)).count();
+    println!(rt; "roots: {agree} of {count} agree")
 }

@@ -1,9 +1,8 @@
 -- Refusals told from the input: what an accepted call has.
-use Rattle.prelude.proofs.Prelude.{◌≡◌, not, ◌&&◌, ◌||◌, List, ◌++◌, ℕ, ◌+◌, ◌*◌, ◌≤◌, arith, T, eqb, ltb, length, Float, ltb-false, and_i, and_l, and_r}
+use Rattle.prelude.proofs.Prelude.{◌≡◌, not, ◌&&◌, ◌||◌, List, ◌++◌, ℕ, ◌+◌, ◌*◌, ◌≤◌, arith, T, eqb, ltb, length, Float, ltb-false}
 use native.Mathlib.Nat.{mul-add}
 use Rattle.binary64.specs.Values.{all_finite}
-use Rattle.complex.proofs.Finite.{all_join, all_left, all_right}
-use Rattle.complex.proofs.Sticky.{same_test}
+use Rattle.complex.proofs.Finite.{all_left, all_right}
 use Rattle.refusals.specs.Refusals.{limit}
 use Rattle.refusals.proofs.Answering.{passed, accepting}
 use Rattle.refusals.proofs.Numbers.{given-none}
@@ -43,11 +42,6 @@ inverse-shaped n mat inverse work e =
     search (accepting, ltb-false)
 
 -- ---- and its numbers are finite
-
-pub both-given : (xs ys : List Float) → all_finite (xs ++ ys) ≡ (all_finite xs && all_finite ys)
-both-given xs ys =
-    same_test _ _ (λ (h : T (all_finite (xs ++ ys))). and_i (all_finite xs) (all_finite ys) (all_left xs ys h) (all_right xs ys h))
-    (λ (h : T (all_finite xs && all_finite ys)). all_join xs ys (and_l (all_finite xs) (all_finite ys) h) (and_r (all_finite xs) (all_finite ys) h))
 
 pub record SolveGiven (n : ℕ) (a b : List Float) (x work : ℕ) : Type 0 where
   pub shape : SolveAccepted n (length a) (length b) x work

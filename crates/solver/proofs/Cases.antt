@@ -1,16 +1,15 @@
 -- Small systems computed from the definitions that the contracts cite: equal and incomparable pivots, a singular one, allowances around the count,
 -- numbers that are not finite, inverses, wrong lengths, and calls that meet the premises of the theorems.
 use Rattle.prelude.proofs.Prelude.{◌≡◌, refl, sym, ap, ◌∙◌, true, false, not, true≢false, List, [], ◌∷◌, ◌++◌, ℕ, ◌-◌, ◌*◌, ◌≤◌, arith, lit≤, T, eqb, length, replicate, Float, nan, inf, binary64, lt, add, sub, mul, div, of_bits}
+use Rattle.std.proofs.Common.{Result, Ok, Err}
 use Rattle.binary64.specs.Values.{all_finite}
 use Rattle.complex.specs.{Matrix, plus0, one, division_limit, csub, cmul, sqmag, cdiv, complex_inv, abs, entry, entry_at, row, rows, grid, zeros}
 use Rattle.lists.specs.Buses.{up_to}
 use Rattle.refusals.specs.declared.Allowance.{Allowance}
 use Rattle.refusals.specs.declared.Allowance.TheVariants.{Unlimited, Rows}
-use Rattle.refusals.specs.declared.Outcome.{Outcome}
-use Rattle.refusals.specs.declared.Outcome.TheVariants as outcomes
-use Rattle.refusals.specs.declared.Counted.{Counted}
-use Rattle.refusals.specs.declared.Counted.TheVariants.{Reduced, Refused}
-use Rattle.refusals.specs.Refusals.{then_given, outcome, counted, counted_number, wrong_length, empty_system, given_not_finite, singular, beyond_allowance, computed_not_finite}
+use Rattle.refusals.specs.declared.Refusal.{Refusal}
+use Rattle.refusals.specs.declared.Refusal.TheVariants.{WrongLength, EmptySystem, Singular, BeyondAllowance, GivenNotFinite, ComputedNotFinite}
+use Rattle.refusals.specs.Refusals.{then_given, answered, number_of, computed_not_finite}
 use Rattle.refusals.specs.Work.{computing, numbers_in, reductions, meets, granted, work_refusal, then_work, ◌no_more_than◌}
 use Rattle.solver.specs.GaussJordan.{stays, held_after, pivot_row, swapped, scaled, reduced, pivoted, cleared, gauss_jordan_from, gauss_jordan, pairs_in, pairs_from, pairs, augmented, solution, singular_system}
 use Rattle.solver.specs.Solving.{operations, is_singular, skipped, unit_column}
@@ -46,17 +45,17 @@ half = of_bits binary64 0x3fe0000000000000
 
 -- to open this is to open all that the cases compute with
 opened : Unit {0}
-unfolding all_finite then_given computing reductions meets granted work_refusal then_work counted of_search of_scaling of_reducing steps_of_row steps_of_rows steps_from steps_of_run steps_of_solve steps_of_inverse plus0 one division_limit csub cmul sqmag cdiv complex_inv abs entry up_to entry_at row rows grid zeros outcome stays held_after pivot_row swapped scaled reduced pivoted cleared gauss_jordan_from gauss_jordan pairs_in pairs_from pairs augmented solution singular_system skipped unit_column solve_shape_refusal solve_refusal inverse_shape_refusal inverse_refusal after_solve after_inverse after_elimination lt add sub mul div of_bits
+unfolding all_finite then_given computing reductions meets granted work_refusal then_work answered of_search of_scaling of_reducing steps_of_row steps_of_rows steps_from steps_of_run steps_of_solve steps_of_inverse plus0 one division_limit csub cmul sqmag cdiv complex_inv abs entry up_to entry_at row rows grid zeros stays held_after pivot_row swapped scaled reduced pivoted cleared gauss_jordan_from gauss_jordan pairs_in pairs_from pairs augmented solution singular_system skipped unit_column solve_shape_refusal solve_refusal inverse_shape_refusal inverse_refusal after_solve after_inverse after_elimination lt add sub mul div of_bits
 opened = tt
 
 -- 1, 1 / 1, 4 with right side 0, 1: the first column's pivots are equal, and the upper row is taken. The lower one would give the first answer as bfd5555555555554.
 abbrev tie : List Float
 tie = p1 ∷ o ∷ p1 ∷ o ∷ p1 ∷ o ∷ p4 ∷ o ∷ []
 
-abbrev tied : Allowance → AfterElimination Counted
+abbrev tied : Allowance → AfterElimination (Result ℕ Refusal)
 tied allowance = after_solve 2 tie (o ∷ o ∷ p1 ∷ o ∷ []) allowance (replicate 4 m1) (replicate 12 m1)
 
-upper-row : tied Unlimited ≡ record { answer = Reduced 2; output = of_bits binary64 0xbfd5555555555555 ∷ o ∷ of_bits binary64 0x3fd5555555555555 ∷ o ∷ []; work = zeros 12 }
+upper-row : tied Unlimited ≡ record { answer = Ok 2; output = of_bits binary64 0xbfd5555555555555 ∷ o ∷ of_bits binary64 0x3fd5555555555555 ∷ o ∷ []; work = zeros 12 }
 unfolding opened
 upper-row = refl
 
@@ -65,7 +64,7 @@ exact : tied (Rows 2) ≡ tied Unlimited
 unfolding opened
 exact = refl
 
-one-too-few : tied (Rows 1) ≡ record { answer = Refused beyond_allowance; output = replicate 4 m1; work = zeros 12 }
+one-too-few : tied (Rows 1) ≡ record { answer = Err BeyondAllowance; output = replicate 4 m1; work = zeros 12 }
 unfolding opened
 one-too-few = refl
 
@@ -77,33 +76,33 @@ nan-held : pivot_row operations 2 (entry_at 2 lost) 0 ≡ 0
 unfolding opened
 nan-held = refl
 
-nan-given : after_solve 2 lost (p1 ∷ o ∷ p1 ∷ o ∷ []) (Rows 1) (replicate 4 m1) (replicate 12 m1) ≡ record { answer = Refused given_not_finite; output = replicate 4 m1; work = replicate 12 m1 }
+nan-given : after_solve 2 lost (p1 ∷ o ∷ p1 ∷ o ∷ []) (Rows 1) (replicate 4 m1) (replicate 12 m1) ≡ record { answer = Err GivenNotFinite; output = replicate 4 m1; work = replicate 12 m1 }
 unfolding opened
 nan-given = refl
 
-infinite-right : (after_solve 2 tie (o ∷ o ∷ p1 ∷ inf true ∷ []) (Rows 1) (replicate 4 m1) (replicate 12 m1)).answer ≡ Refused given_not_finite
+infinite-right : (after_solve 2 tie (o ∷ o ∷ p1 ∷ inf true ∷ []) (Rows 1) (replicate 4 m1) (replicate 12 m1)).answer ≡ Err GivenNotFinite
 unfolding opened
 infinite-right = refl
 
-nan-without-room : (after_solve 2 lost (p1 ∷ o ∷ p1 ∷ o ∷ []) (Rows 1) (replicate 4 m1) (replicate 11 m1)).answer ≡ Refused wrong_length
+nan-without-room : (after_solve 2 lost (p1 ∷ o ∷ p1 ∷ o ∷ []) (Rows 1) (replicate 4 m1) (replicate 11 m1)).answer ≡ Err WrongLength
 unfolding opened
 nan-without-room = refl
 
-nan-without-side : (after_solve 2 lost (p1 ∷ o ∷ p1 ∷ []) (Rows 1) (replicate 4 m1) (replicate 12 m1)).answer ≡ Refused empty_system
+nan-without-side : (after_solve 2 lost (p1 ∷ o ∷ p1 ∷ []) (Rows 1) (replicate 4 m1) (replicate 12 m1)).answer ≡ Err EmptySystem
 unfolding opened
 nan-without-side = refl
 
 -- 2, 0 / 0, 4: every factor is skipped, and an allowance of 0 is enough
 none-reduced : after_solve 2 (p2 ∷ o ∷ o ∷ o ∷ o ∷ o ∷ p4 ∷ o ∷ []) (p1 ∷ o ∷ p2 ∷ o ∷ []) (Rows 0) (replicate 4 m1) (replicate 12 m1)
-    ≡ record { answer = Reduced 0; output = half ∷ o ∷ half ∷ o ∷ []; work = zeros 12 }
+    ≡ record { answer = Ok 0; output = half ∷ o ∷ half ∷ o ∷ []; work = zeros 12 }
 unfolding opened
 none-reduced = refl
 
 -- 1, 1 / 1, 1 is singular: the output is as it was, the work slice is cleared
-abbrev flat : Allowance → AfterElimination Counted
+abbrev flat : Allowance → AfterElimination (Result ℕ Refusal)
 flat allowance = after_solve 2 (p1 ∷ o ∷ p1 ∷ o ∷ p1 ∷ o ∷ p1 ∷ o ∷ []) (p2 ∷ o ∷ o ∷ o ∷ []) allowance (replicate 4 m1) (m1 ∷ o ∷ o ∷ o ∷ o ∷ o ∷ o ∷ o ∷ o ∷ o ∷ o ∷ p1 ∷ [])
 
-singular-pair : flat Unlimited ≡ record { answer = Refused singular; output = replicate 4 m1; work = zeros 12 }
+singular-pair : flat Unlimited ≡ record { answer = Err Singular; output = replicate 4 m1; work = zeros 12 }
 unfolding opened
 singular-pair = refl
 
@@ -112,19 +111,19 @@ pivot-first : flat (Rows 1) ≡ flat Unlimited
 unfolding opened
 pivot-first = refl
 
-reduction-first : flat (Rows 0) ≡ record { answer = Refused beyond_allowance; output = replicate 4 m1; work = zeros 12 }
+reduction-first : flat (Rows 0) ≡ record { answer = Err BeyondAllowance; output = replicate 4 m1; work = zeros 12 }
 unfolding opened
 reduction-first = refl
 
 -- -1, 4 / 1, 0 with right side 2, -1: of the equal pivots the upper row is taken, and both rows are reduced. The lower one's zero would be skipped.
-abbrev skew : Allowance → AfterElimination Counted
+abbrev skew : Allowance → AfterElimination (Result ℕ Refusal)
 skew allowance = after_solve 2 (m1 ∷ o ∷ p4 ∷ o ∷ p1 ∷ o ∷ o ∷ o ∷ []) (p2 ∷ o ∷ m1 ∷ o ∷ []) allowance (replicate 4 m1) (replicate 12 m1)
 
-two-reduced : (skew (Rows 2)).answer ≡ Reduced 2
+two-reduced : (skew (Rows 2)).answer ≡ Ok 2
 unfolding opened
 two-reduced = refl
 
-second-exceeds : (skew (Rows 1)).answer ≡ Refused beyond_allowance
+second-exceeds : (skew (Rows 1)).answer ≡ Err BeyondAllowance
 unfolding opened
 second-exceeds = refl
 
@@ -136,14 +135,14 @@ faint = of_bits binary64 0x20ca2fe76a3f9475
 abbrev p7 : Float
 p7 = of_bits binary64 0x401c000000000000
 
-abbrev slight : Allowance → AfterElimination Counted
+abbrev slight : Allowance → AfterElimination (Result ℕ Refusal)
 slight allowance = after_solve 2 (p7 ∷ o ∷ faint ∷ o ∷ p7 ∷ o ∷ o ∷ o ∷ []) (p4 ∷ o ∷ faint ∷ o ∷ []) allowance (replicate 4 m1) (replicate 12 m1)
 
-slight-pivot : (slight (Rows 1)).answer ≡ Refused singular
+slight-pivot : (slight (Rows 1)).answer ≡ Err Singular
 unfolding opened
 slight-pivot = refl
 
-slight-exceeds : (slight (Rows 0)).answer ≡ Refused beyond_allowance
+slight-exceeds : (slight (Rows 0)).answer ≡ Err BeyondAllowance
 unfolding opened
 slight-exceeds = refl
 
@@ -167,14 +166,14 @@ most = of_bits binary64 0x7fefffffffffffff
 
 -- 2^-400, 0 / 0, 0 is singular in its second column. With right side 2^700, 0 the first row, scaled by 2^400, overflows before: 20, and the work slice
 -- is cleared; with 1, 0 it does not.
-abbrev steep : Float → AfterElimination Counted
+abbrev steep : Float → AfterElimination (Result ℕ Refusal)
 steep x = after_solve 2 (tiny ∷ o ∷ o ∷ o ∷ o ∷ o ∷ o ∷ o ∷ []) (x ∷ o ∷ o ∷ o ∷ []) Unlimited (replicate 4 m1) (replicate 12 m1)
 
-overflow-first : steep p700 ≡ record { answer = Refused computed_not_finite; output = replicate 4 m1; work = zeros 12 }
+overflow-first : steep p700 ≡ record { answer = Err ComputedNotFinite; output = replicate 4 m1; work = zeros 12 }
 unfolding opened
 overflow-first = refl
 
-pivot-too-small-first : (steep p1).answer ≡ Refused singular
+pivot-too-small-first : (steep p1).answer ≡ Err Singular
 unfolding opened
 pivot-too-small-first = refl
 
@@ -185,24 +184,24 @@ unfolding opened
 not-by-counts = (refl, refl, refl)
 
 -- 1, 2^600 / 2^500, 1: the second column's weights overflow. The row reduction before is 18 where it is not allowed.
-abbrev broad : Allowance → AfterElimination Counted
+abbrev broad : Allowance → AfterElimination (Result ℕ Refusal)
 broad allowance = after_solve 2 (p1 ∷ o ∷ p600 ∷ o ∷ p500 ∷ o ∷ p1 ∷ o ∷ []) (p1 ∷ o ∷ p1 ∷ o ∷ []) allowance (replicate 4 m1) (replicate 12 m1)
 
-reduction-before : (broad (Rows 0)).answer ≡ Refused beyond_allowance
+reduction-before : (broad (Rows 0)).answer ≡ Err BeyondAllowance
 unfolding opened
 reduction-before = refl
 
-weight-after : broad (Rows 1) ≡ record { answer = Refused computed_not_finite; output = replicate 4 m1; work = zeros 12 }
+weight-after : broad (Rows 1) ≡ record { answer = Err ComputedNotFinite; output = replicate 4 m1; work = zeros 12 }
 unfolding opened
 weight-after = refl
 
 -- t, 3 / t, 0 with right side the largest number, 2^-400, t = 1e-150: with the upper row taken the right side, scaled by 1e150, overflows
-taken-overflows : (after_solve 2 (faint ∷ o ∷ p3 ∷ o ∷ faint ∷ o ∷ o ∷ o ∷ []) (most ∷ o ∷ tiny ∷ o ∷ []) Unlimited (replicate 4 m1) (replicate 12 m1)).answer ≡ Refused computed_not_finite
+taken-overflows : (after_solve 2 (faint ∷ o ∷ p3 ∷ o ∷ faint ∷ o ∷ o ∷ o ∷ []) (most ∷ o ∷ tiny ∷ o ∷ []) Unlimited (replicate 4 m1) (replicate 12 m1)).answer ≡ Err ComputedNotFinite
 unfolding opened
 taken-overflows = refl
 
 -- (t, 4), (largest, 1) / (t, 4), (largest, 3) with right side 0, 5: with the upper row taken nothing does
-taken-finite : (after_solve 2 (faint ∷ p4 ∷ most ∷ p1 ∷ faint ∷ p4 ∷ most ∷ p3 ∷ []) (o ∷ o ∷ p5 ∷ o ∷ []) Unlimited (replicate 4 m1) (replicate 12 m1)).answer ≡ Reduced 2
+taken-finite : (after_solve 2 (faint ∷ p4 ∷ most ∷ p1 ∷ faint ∷ p4 ∷ most ∷ p3 ∷ []) (o ∷ o ∷ p5 ∷ o ∷ []) Unlimited (replicate 4 m1) (replicate 12 m1)).answer ≡ Ok 2
 unfolding opened
 taken-finite = refl
 
@@ -218,7 +217,7 @@ share = of_bits binary64 0x6514e5e0a72f0539
 abbrev left_over : List Float
 left_over = p49 ∷ o ∷ p600 ∷ o ∷ p1 ∷ o ∷ share ∷ faint ∷ []
 
-abbrev kept : Allowance → AfterElimination Counted
+abbrev kept : Allowance → AfterElimination (Result ℕ Refusal)
 kept allowance = after_solve 2 left_over (replicate 4 o) allowance (replicate 4 m1) (replicate 12 m1)
 
 its-share : share ≡ mul binary64 p600 (div binary64 p1 p49)
@@ -226,11 +225,11 @@ unfolding opened
 its-share = refl
 
 -- both row reductions come before: the second begins, and then meets 20
-first-exceeds : ((kept (Rows 0)).answer ≡ Refused beyond_allowance) × ((kept (Rows 1)).answer ≡ Refused beyond_allowance)
+first-exceeds : ((kept (Rows 0)).answer ≡ Err BeyondAllowance) × ((kept (Rows 1)).answer ≡ Err BeyondAllowance)
 unfolding opened
 first-exceeds = (refl, refl)
 
-left-overflows : kept Unlimited ≡ record { answer = Refused computed_not_finite; output = replicate 4 m1; work = zeros 12 }
+left-overflows : kept Unlimited ≡ record { answer = Err ComputedNotFinite; output = replicate 4 m1; work = zeros 12 }
 unfolding opened
 left-overflows = refl
 
@@ -248,54 +247,53 @@ left_alone = (refl, refl)
 -- ---- inverses
 
 -- the inverse of one number, by its bits
-abbrev inverted : Float → AfterElimination Outcome
+abbrev inverted : Float → AfterElimination (Result (Unit {0}) Refusal)
 inverted x = after_inverse 1 (x ∷ o ∷ []) (m1 ∷ m1 ∷ []) (replicate 4 m1)
 
-inverse-2 : inverted p2 ≡ record { answer = outcomes.Done; output = half ∷ o ∷ []; work = zeros 4 }
+inverse-2 : inverted p2 ≡ record { answer = Ok tt; output = half ∷ o ∷ []; work = zeros 4 }
 unfolding opened
 inverse-2 = refl
 
 -- the square of 2^512 overflows, that of 2^511 does not
-square-overflows : inverted (of_bits binary64 0x5ff0000000000000) ≡ record { answer = outcomes.Refused computed_not_finite; output = m1 ∷ m1 ∷ []; work = zeros 4 }
+square-overflows : inverted (of_bits binary64 0x5ff0000000000000) ≡ record { answer = Err ComputedNotFinite; output = m1 ∷ m1 ∷ []; work = zeros 4 }
 unfolding opened
 square-overflows = refl
 
-square-finite : (inverted (of_bits binary64 0x5fe0000000000000)).answer ≡ outcomes.Done
+square-finite : (inverted (of_bits binary64 0x5fe0000000000000)).answer ≡ Ok tt
 unfolding opened
 square-finite = refl
 
 -- that of 2^-499 is too small, that of 2^-498 is not
-square-too-small : (inverted (of_bits binary64 0x20c0000000000000)).answer ≡ outcomes.Refused singular
+square-too-small : (inverted (of_bits binary64 0x20c0000000000000)).answer ≡ Err Singular
 unfolding opened
 square-too-small = refl
 
-square-large-enough : (inverted (of_bits binary64 0x20d0000000000000)).answer ≡ outcomes.Done
+square-large-enough : (inverted (of_bits binary64 0x20d0000000000000)).answer ≡ Ok tt
 unfolding opened
 square-large-enough = refl
 
-inverse-of-infinity : inverted (inf false) ≡ record { answer = outcomes.Refused given_not_finite; output = m1 ∷ m1 ∷ []; work = replicate 4 m1 }
+inverse-of-infinity : inverted (inf false) ≡ record { answer = Err GivenNotFinite; output = m1 ∷ m1 ∷ []; work = replicate 4 m1 }
 unfolding opened
 inverse-of-infinity = refl
 
 -- a wrong length is told before an empty system, and both leave everything; the allowance is not looked at
-wrong-length : after_inverse 0 (p1 ∷ []) (p2 ∷ []) (m1 ∷ []) ≡ record { answer = outcomes.Refused wrong_length; output = p2 ∷ []; work = m1 ∷ [] }
+wrong-length : after_inverse 0 (p1 ∷ []) (p2 ∷ []) (m1 ∷ []) ≡ record { answer = Err WrongLength; output = p2 ∷ []; work = m1 ∷ [] }
 unfolding opened
 wrong-length = refl
 
-no-system : after_solve 0 [] (p1 ∷ []) (Rows 0) [] [] ≡ record { answer = Refused empty_system; output = []; work = [] }
+no-system : after_solve 0 [] (p1 ∷ []) (Rows 0) [] [] ≡ record { answer = Err EmptySystem; output = []; work = [] }
 unfolding opened
 no-system = refl
 
 -- ---- the theorems on allowances at the edges of their premises
 
-not_beyond : (a : Counted) → eqb (counted_number a) beyond_allowance ≡ false → a ≡ Refused beyond_allowance → ⊥
-unfolding counted_number
-not_beyond a t e = true≢false (sym (ap (λ (x : Counted). eqb (counted_number x) beyond_allowance) e) ∙ t)
+not_beyond : (a : Result ℕ Refusal) → eqb (number_of a) 18 ≡ false → a ≡ Err BeyondAllowance → ⊥
+not_beyond a t e = true≢false (sym (ap (λ (x : Result ℕ Refusal). eqb (number_of x) 18) e) ∙ t)
 
 -- what is carried out, what 13 ends and what the input refuses is the same with more allowed
-others : (eqb (counted_number (tied (Rows 2)).answer) beyond_allowance ≡ false) × (eqb (counted_number (flat (Rows 1)).answer) beyond_allowance ≡ false)
-    × (eqb (counted_number (after_solve 0 [] (p1 ∷ []) (Rows 0) [] []).answer) beyond_allowance ≡ false)
-unfolding opened counted_number
+others : (eqb (number_of (tied (Rows 2)).answer) 18 ≡ false) × (eqb (number_of (flat (Rows 1)).answer) 18 ≡ false)
+    × (eqb (number_of (after_solve 0 [] (p1 ∷ []) (Rows 0) [] []).answer) 18 ≡ false)
+unfolding opened
 others = (refl, refl, refl)
 
 still-done : tied Unlimited ≡ tied (Rows 2)
@@ -311,7 +309,7 @@ unfolding ◌no_more_than◌
 still-refused = solve-allowances.larger 0 [] _ (Rows 0) (Rows 1) [] [] (omega arith) (not_beyond _ others.2)
 
 -- the bound is reached, and enough
-bound-reached : (tied Unlimited).answer ≡ Reduced (2 * (2 - 1))
+bound-reached : (tied Unlimited).answer ≡ Ok (2 * (2 - 1))
 unfolding opened
 bound-reached = refl
 
@@ -343,10 +341,10 @@ tied-enough : Rows (reductions (steps_of_solve 2 (entry_at 2 tie) (entry side)))
 unfolding opened ◌no_more_than◌
 tied-enough = lit≤ tt
 
-accepts-tied : (tied (Rows 2)).answer ≡ Reduced (reductions (steps_of_solve 2 (entry_at 2 tie) (entry side)))
+accepts-tied : (tied (Rows 2)).answer ≡ Ok (reductions (steps_of_solve 2 (entry_at 2 tie) (entry side)))
 unfolding ◌no_more_than◌
 accepts-tied =
-    ap (λ (l : AfterElimination Counted). l.answer)
+    ap (λ (l : AfterElimination (Result ℕ Refusal)). l.answer)
     (accepted-answers.accepted-solve 2 tie side (Rows 2) (replicate 4 m1) (replicate 12 m1)
     (search (tied-shaped, tt)) (search (tied-given, tt)) (search (tied-computed, tt)) (search (tied-regular, tt)) (search (tied-enough, lit≤, tt)))
 
@@ -369,7 +367,7 @@ two-regular : T (not (is_singular 1 (entry_at 1 pair)))
 unfolding opened
 two-regular = tt
 
-accepts-2 : (inverted p2).answer ≡ outcomes.Done
+accepts-2 : (inverted p2).answer ≡ Ok tt
 accepts-2 =
-    ap (λ (l : AfterElimination Outcome). l.answer)
+    ap (λ (l : AfterElimination (Result (Unit {0}) Refusal)). l.answer)
     (accepted-answers.accepted-inverse 1 pair (m1 ∷ m1 ∷ []) (replicate 4 m1) (search (two_shaped, tt)) (search (two-given, tt)) (search (two-computed, tt)) (search (two-regular, tt)))

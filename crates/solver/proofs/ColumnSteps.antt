@@ -1,5 +1,8 @@
 -- One column's step: the pivot row in place, its pivot weighed, its row scaled, and the others reduced. And the run over the columns.
 use Rattle.prelude.proofs.Prelude.{◌≡◌, refl, sym, ap, ◌∙◌, subst, Bool, true, false, cond, List, [], ◌∷◌, ◌++◌, ℕ, suc, ◌+◌, ◌-◌, ◌*◌, ◌≤◌, ◌<◌, arith, T, eqb, is_true, length, Float, lt, finite, add-one, sub-zero, eqb-true}
+use Rattle.std.proofs.Common.{Result, Ok, Err, is_ok}
+use Rattle.refusals.specs.declared.Refusal.{Refusal}
+use Rattle.refusals.specs.declared.Refusal.TheVariants.{Singular, ComputedNotFinite}
 use Rattle.binary64.specs.Values.{all_finite}
 use Rattle.complex.specs.{Complex, division_limit, cmul, sqmag, complex_inv, unit, of_sqmag, of_quotient, Matrix, entry_at}
 use Rattle.complex.proofs.Finite.{all_join, all_left, all_right}
@@ -9,12 +12,10 @@ use Rattle.complex.proofs.Matrices.{grid-ext}
 use Rattle.lists.specs.Buses.{up_to}
 use Rattle.refusals.specs.Work.{Step, pivot_too_small, computing, meets}
 use Rattle.refusals.proofs.Work.{meets-numbers, count-numbers}
-use Rattle.solver.specs.declared.elimination.Eliminated.{Eliminated}
-use Rattle.solver.specs.declared.elimination.Eliminated.TheVariants.{Done, Small, NotFinite}
 use Rattle.solver.specs.GaussJordan.{pivot_row, swapped, scaled, pivoted, cleared, gauss_jordan_from, gauss_jordan}
 use Rattle.solver.specs.Solving.{operations}
 use Rattle.solver.specs.Steps.{workings, of_search, of_scaling, steps_of_rows, steps_from, steps_of_run}
-use Rattle.solver.specs.Inner.Work.{with_row, is_done, number_of, Told, steps_of_clearing, steps_of_column, ColumnDone, Ran, Met}
+use Rattle.solver.specs.Inner.Work.{with_row, Told, steps_of_clearing, steps_of_column, ColumnDone, Ran, Met}
 use Rattle.solver.proofs.GaussJordan.{Same, cleared-same, run-first, run-stops, run-goes-on, run_ends}
 use Rattle.solver.proofs.StepsSame.{others_same, clearing-same, steps-from-same, column-first}
 use Rattle.solver.proofs.FiniteWork.{small-finite, search-tells, swapped-finite, finite-swapped, scaling-tells, scaling-kept}
@@ -76,7 +77,7 @@ weights-first m n w c A here wide f = meets-numbers m (weights n c A) es ∙ pic
 -- ---- the pivot's row scaled and the others reduced
 
 module _ (n w c allowed : ℕ) (before : List Float) where
-  pub clearing-not-finite : all_finite (of_quotient unit (entry_at w before c c)) ≡ false → Told allowed (steps_of_clearing n w c (entry_at w before)) before before NotFinite
+  pub clearing-not-finite : all_finite (of_quotient unit (entry_at w before c c)) ≡ false → Told allowed (steps_of_clearing n w c (entry_at w before)) before before (Err ComputedNotFinite)
   unfolding steps_of_clearing
   clearing-not-finite t = told-not-finite allowed (scaling w c (entry_at w before)) _ before (front-lost (of_quotient unit (entry_at w before c c)) (of_scaling operations workings (entry_at w before) c (up_to w)) t)
 
@@ -92,7 +93,7 @@ module _ (n w c allowed : ℕ) (before : List Float) where
         pick true t = ap (λ (k : ℕ). cmul (entry_at w before k q) (complex_inv (entry_at w before c c))) (eqb-true i c t)
         pick false t = refl
 
-    pub clearing-told : (after : List Float) (r : Eliminated) → Told allowed (steps_of_rows operations workings (entry_at w now) c (up_to n) (up_to w)) now after r
+    pub clearing-told : (after : List Float) (r : Result ℕ Refusal) → Told allowed (steps_of_rows operations workings (entry_at w now) c (up_to n) (up_to w)) now after r
         → Told allowed (steps_of_clearing n w c (entry_at w before)) before after r
     unfolding steps_of_clearing
     clearing-told after r others =
@@ -124,12 +125,12 @@ module _ (n w c allowed : ℕ) (wide : n ≤ w) (here : c < n) (before swap : Li
       search-tells n w c (entry_at w before) here wide f
       (small-finite (pivoted operations n c (entry_at w before) c c) t)
 
-  pub column-small : true ≡ operations.small (pivoted operations n c (entry_at w before) c c) → ColumnDone n w c allowed Small before swap
-  unfolding steps_of_column number_of meets is_done
+  pub column-small : true ≡ operations.small (pivoted operations n c (entry_at w before) c c) → ColumnDone n w c allowed (Err Singular) before swap
+  unfolding steps_of_column meets
   column-small t =
       let ws = weights n c (entry_at w before) in
       record {
-        told = told_same allowed (computing ws ++ (pivot_too_small ∷ [])) before swap _ Small
+        told = told_same allowed (computing ws ++ (pivot_too_small ∷ [])) before swap _ (Err Singular)
             (ap (λ (b : Bool). computing ws ++ cond b (pivot_too_small ∷ []) (steps_of_clearing n w c (pivoted operations n c (entry_at w before)))) t)
             (record {
               finite = λ h. let a = from-swap h in (a, meets-numbers allowed ws (pivot_too_small ∷ []) ∙ ap (λ (b : Bool). cond b 13 20) (is_true (all_finite ws) (weighed-finite a (sym t))));
@@ -141,10 +142,10 @@ module _ (n w c allowed : ℕ) (wide : n ≤ w) (here : c < n) (before swap : Li
       }
 
   -- the column is cleared, or the work ends on the way
-  module _ (t : false ≡ operations.small (pivoted operations n c (entry_at w before) c c)) (after : List Float) (r : Eliminated)
+  module _ (t : false ≡ operations.small (pivoted operations n c (entry_at w before) c c)) (after : List Float) (r : Result ℕ Refusal)
       (turn : Told allowed (steps_of_clearing n w c (entry_at w swap)) swap after r)
-      (left : (rest : ℕ) → r ≡ Done rest → (i j : ℕ) → i < n → j < w → entry_at w after i j ≡ cleared operations c (entry_at w swap) i j)
-      (large : r ≡ Small → ⊥) where
+      (left : (rest : ℕ) → r ≡ Ok rest → (i j : ℕ) → i < n → j < w → entry_at w after i j ≡ cleared operations c (entry_at w swap) i j)
+      (large : r ≡ Err Singular → ⊥) where
     alike : (i j : ℕ) → i < n → j < w → entry_at w swap i j ≡ pivoted operations n c (entry_at w before) i j
     alike i j x y = same i j y
 
@@ -190,8 +191,8 @@ running-first n w allowed first row full room =
     }
 
 module _ (n w c allowed left : ℕ) (first now row : List Float) (s : Running n w c allowed left first now row) where
-  pub running-end : n ≤ c → Ran n w allowed (Done left) first now
-  unfolding steps_from number_of
+  pub running-end : n ≤ c → Ran n w allowed (Ok left) first now
+  unfolding steps_from
   running-end h =
       let ends = run_ends operations n w c (entry_at w now) _ (omega (arith, s.most)) s.ends in
       let none : n - c ≡ 0 = omega arith in
@@ -203,7 +204,7 @@ module _ (n w c allowed left : ℕ) (first now row : List Float) (s : Running n 
       }
 
   -- the next column has its turn
-  module _ (turn : Eliminated) (next : List Float) (h : c < n) (d : ColumnDone n w c left turn now next) (same : length next ≡ length now) where
+  module _ (turn : Result ℕ Refusal) (next : List Float) (h : c < n) (d : ColumnDone n w c left turn now next) (same : length next ≡ length now) where
     -- the steps to come begin with it
     split : steps_from operations workings n w (n - c) c (entry_at w now)
         ≡ steps_of_column n w c (entry_at w now) ++ cond (operations.small (pivoted operations n c (entry_at w now) c c)) [] (steps_from operations workings n w (n - suc c) (suc c) (cleared operations c (pivoted operations n c (entry_at w now))))
@@ -211,17 +212,17 @@ module _ (n w c allowed left : ℕ) (first now row : List Float) (s : Running n 
         let one : n - c ≡ suc (n - suc c) = omega arith in
         ap (λ (k : ℕ). steps_from operations workings n w k c (entry_at w now)) one ∙ column-first n w (n - suc c) c (entry_at w now)
 
-    pub running-ended : (r : Eliminated) → is_done r ≡ false → turn ≡ r → Ran n w allowed r first next
+    pub running-ended : (r : Result ℕ Refusal) → is_ok r ≡ false → turn ≡ r → Ran n w allowed r first next
     running-ended r not e =
         record {
           told = came-ended allowed left (steps_of_run operations workings n w (entry_at w first)) (steps_from operations workings n w (n - c) c (entry_at w now)) first now s.came
-              (steps_of_column n w c (entry_at w now)) _ next split r not (subst (λ (x : Eliminated). Told left (steps_of_column n w c (entry_at w now)) now next x) e d.told);
+              (steps_of_column n w c (entry_at w now)) _ next split r not (subst (λ (x : Result ℕ Refusal). Told left (steps_of_column n w c (entry_at w now)) now next x) e d.told);
           entries = λ rest k. absurd (not_done not k);
           small = λ k. let (low, entered) = d.small (e ∙ k) in
               grid-ext n w _ next (same ∙ s.full) (run-stops operations n w c (entry_at w now) (entry_at w next) _ h low entered s.ends).1;
         }
 
-    pub running-next : n ≤ w → (after : List Float) → length after ≡ length row → (rest : ℕ) → turn ≡ Done rest → Running n w (c + 1) allowed rest first next after
+    pub running-next : n ≤ w → (after : List Float) → length after ≡ length row → (rest : ℕ) → turn ≡ Ok rest → Running n w (c + 1) allowed rest first next after
     running-next wide after long rest e =
         let B = pivoted operations n c (entry_at w now) in
         let (large, entered) = d.entries rest e in
@@ -238,12 +239,12 @@ module _ (n w c allowed left : ℕ) (first now row : List Float) (s : Running n 
           came = came-then allowed left (steps_of_run operations workings n w (entry_at w first)) (steps_from operations workings n w (n - c) c (entry_at w now)) first now s.came
               (steps_of_column n w c (entry_at w now)) (steps_from operations workings n w (n - (c + 1)) (c + 1) (entry_at w next)) next
               (split ∙ ap (λ (b : Bool). steps_of_column n w c (entry_at w now) ++ cond b [] later) large ∙ ap (λ (l : List Step). steps_of_column n w c (entry_at w now) ++ l) on)
-              rest (subst (λ (x : Eliminated). Told left (steps_of_column n w c (entry_at w now)) now next x) e d.told);
+              rest (subst (λ (x : Result ℕ Refusal). Told left (steps_of_column n w c (entry_at w now)) now next x) e d.told);
         }
 
 -- ---- the slice looked at where the work ended
 
-module _ (n w allowed : ℕ) (r : Eliminated) (first last : List Float) (ran : Ran n w allowed r first last) (kept : length last ≡ length first) where
+module _ (n w allowed : ℕ) (r : Result ℕ Refusal) (first last : List Float) (ran : Ran n w allowed r first last) (kept : length last ≡ length first) where
   pub met-finite : T (all_finite last) → Met n w allowed r first last
   met-finite h = record {
     number = sym (ran.told.finite h).1;
@@ -252,6 +253,5 @@ module _ (n w allowed : ℕ) (r : Eliminated) (first last : List Float) (ran : R
     length-kept = kept;
   }
 
-  pub met-lost : T (all_finite first) → all_finite last ≡ false → Met n w allowed NotFinite first last
-  unfolding number_of is_done
+  pub met-lost : T (all_finite first) → all_finite last ≡ false → Met n w allowed (Err ComputedNotFinite) first last
   met-lost h k = record { number = sym (ran.told.lost h k); done = λ left e. absurd (not_done refl e); small = λ e. absurd (not-small refl e); length-kept = kept }

@@ -2,6 +2,7 @@
 --     run-finite   where a matrix and every number that its elimination computes are finite, so is the matrix that is left
 --     run-regular  where every number is finite and no pivot too small, an elimination meets nothing but 18
 use Rattle.prelude.proofs.Prelude.{◌≡◌, refl, sym, ap, ◌∙◌, subst, Bool, true, false, not, ◌||◌, cond, List, [], ◌∷◌, ◌++◌, ℕ, zero, suc, ◌+◌, ◌-◌, ◌≤◌, ◌<◌, arith, T, eqb, ltb, length, Float, eqb-true, le-ltb, is_true}
+use Rattle.std.proofs.Common.{Ok}
 use Rattle.binary64.specs.Values.{all_finite}
 use Rattle.complex.specs.{cmul, csub, complex_inv, unit, of_quotient, of_sqmag, entry, entry_at, grid, zeros, Matrix}
 use Rattle.complex.proofs.Finite.{all_left, all_right}
@@ -10,12 +11,9 @@ use Rattle.complex.proofs.FiniteEntries.{Each, each_at, AllFinite, grid-finite, 
 use Rattle.lists.specs.Buses.{up_to}
 use Rattle.refusals.specs.declared.Allowance.{Allowance}
 use Rattle.refusals.specs.declared.Allowance.TheVariants.{Unlimited, Rows}
-use Rattle.refusals.specs.declared.Counted.TheVariants.{Reduced}
-use Rattle.refusals.specs.declared.Outcome.TheVariants.{Done}
-use Rattle.refusals.specs.Refusals.{outcome, number, counted}
+use Rattle.refusals.specs.Refusals.{answered, then_given}
 use Rattle.refusals.specs.Work.{Step, reduces, pivot_too_small, computing, numbers_in, reductions, meets, granted, work_refusal, then_work, ◌no_more_than◌}
-use Rattle.refusals.proofs.Answering.{counted-reduces}
-use Rattle.refusals.proofs.Numbers.{given-all}
+use Rattle.refusals.proofs.Answering.{accepted}
 use Rattle.refusals.proofs.Work.{numbers-both, numbers-alone, work-accepted, work-met, finite-unlost}
 use Rattle.solver.specs.GaussJordan.{scaled, reduced, pivoted, cleared, gauss_jordan_from, gauss_jordan, pairs, augmented}
 use Rattle.solver.specs.Solving.{operations, is_singular, solve, inverse, unit_column}
@@ -121,12 +119,12 @@ solutions-finite n m A B a b h i c x y =
 -- ---- the calls
 
 finite-solve : (n : ℕ) (a b : List Float) (allowance : Allowance) (x work : List Float) (rows : ℕ)
-    → (after_solve n a b allowance x work).answer ≡ Reduced rows → FiniteSolve n a b (after_solve n a b allowance x work).output
+    → (after_solve n a b allowance x work).answer ≡ Ok rows → FiniteSolve n a b (after_solve n a b allowance x work).output
 unfolding after_solve after_elimination steps_of_solve
 finite-solve n a b allowance x work rows e =
     let told = solve_refusal n a b (length x) (length work) in
     let steps = steps_of_solve n (entry_at n a) (entry b) in
-    let none = (counted-reduces _ (then_work told allowance steps) rows (sym e)).0 in
+    let none = (accepted (tt {0}) _ (then_work told allowance steps) rows (sym e)).0 in
     let (accepted, met, all) = work-accepted told allowance steps none in
     let k = solve-accepted n a b (length x) (length work) accepted in
     let s = k.shape in
@@ -138,17 +136,12 @@ finite-solve n a b allowance x work rows e =
           (grid-finite n 1 _ (solutions-finite n 1 (entry_at n a) (λ (r j : ℕ). entry b r) (slice-entries n n a s.matrix k.system-finite) (side-finite n b s.right k.right-finite) all));
     }
 
-outcome-none : (k : ℕ) → outcome k ≡ Done → k ≡ 0
-unfolding outcome number
-outcome-none zero d = refl
-outcome-none (suc k) d = ap number d
-
-finite-inverse : (n : ℕ) (mat out work : List Float) → (after_inverse n mat out work).answer ≡ Done → FiniteInverse n mat (after_inverse n mat out work).output
+finite-inverse : (n : ℕ) (mat out work : List Float) → (after_inverse n mat out work).answer ≡ Ok tt → FiniteInverse n mat (after_inverse n mat out work).output
 unfolding after_inverse after_elimination steps_of_inverse
 finite-inverse n mat out work e =
     let told = inverse_refusal n mat (length out) (length work) in
     let steps = steps_of_inverse n (entry_at n mat) in
-    let none = outcome-none (then_work told Unlimited steps) e in
+    let none = (accepted (tt {0}) _ (then_work told Unlimited steps) tt (sym e)).0 in
     let (accepted, met, all) = work-accepted told Unlimited steps none in
     let (s, f) = inverse-accepted n mat (length out) (length work) accepted in
     record {
@@ -162,6 +155,10 @@ pub finite-answers : FiniteAnswers
 finite-answers = record { solve = finite-solve; inverse = finite-inverse }
 
 -- ---- what is accepted
+
+given-finite : (told : ℕ) (given : List Float) → told ≡ 0 → T (all_finite given) → then_given told given ≡ 0
+unfolding then_given
+given-finite told given e h = rw (e, is_true (all_finite given) h)
 
 -- an elimination with right sides R
 module _ (n w : ℕ) (A R : Matrix) where
@@ -190,23 +187,23 @@ inverse-regular n A f r = enough Unlimited (steps_of_inverse n A) (run-regular n
 accepted-solve : (n : ℕ) (a b : List Float) (allowance : Allowance) (x work : List Float) → solve_shape_refusal n (length a) (length b) (length x) (length work) ≡ 0
     → T (all_finite (a ++ b)) → T (all_finite (numbers_in (steps_of_solve n (entry_at n a) (entry b)))) → T (not (is_singular n (entry_at n a)))
     → Rows (reductions (steps_of_solve n (entry_at n a) (entry b))) no_more_than allowance
-    → after_solve n a b allowance x work ≡ record { answer = Reduced (reductions (steps_of_solve n (entry_at n a) (entry b))); output = grid n 1 (λ (i k : ℕ). solve n (entry_at n a) (entry b) i); work = zeros (length work) }
-unfolding after_solve after_elimination solve_refusal steps_of_solve counted
+    → after_solve n a b allowance x work ≡ record { answer = Ok (reductions (steps_of_solve n (entry_at n a) (entry b))); output = grid n 1 (λ (i k : ℕ). solve n (entry_at n a) (entry b) i); work = zeros (length work) }
+unfolding after_solve after_elimination solve_refusal steps_of_solve answered
 accepted-solve n a b allowance x work shape given computed regular much =
     let steps = steps_of_solve n (entry_at n a) (entry b) in
     let told = solve_refusal n a b (length x) (length work) in
-    let none : told ≡ 0 = sym (given-all 0 (solve_shape_refusal n (length a) (length b) (length x) (length work)) (a ++ b) (sym shape) refl (is_true (all_finite (a ++ b)) given)) in
+    let none : told ≡ 0 = given-finite (solve_shape_refusal n (length a) (length b) (length x) (length work)) (a ++ b) shape given in
     let met : work_refusal allowance steps ≡ 0 = enough allowance steps (run-regular n (n + 1) (entry_at n a) (λ (r k : ℕ). entry b r) computed regular) much in
     rw (work-met told allowance steps none, none, met)
 
 accepted-inverse : (n : ℕ) (mat out work : List Float) → inverse_shape_refusal n (length mat) (length out) (length work) ≡ 0
     → T (all_finite mat) → T (all_finite (numbers_in (steps_of_inverse n (entry_at n mat)))) → T (not (is_singular n (entry_at n mat)))
-    → after_inverse n mat out work ≡ record { answer = Done; output = grid n n (inverse n (entry_at n mat)); work = zeros (length work) }
-unfolding after_inverse after_elimination inverse_refusal outcome
+    → after_inverse n mat out work ≡ record { answer = Ok tt; output = grid n n (inverse n (entry_at n mat)); work = zeros (length work) }
+unfolding after_inverse after_elimination inverse_refusal answered
 accepted-inverse n mat out work shape given computed regular =
     let steps = steps_of_inverse n (entry_at n mat) in
     let told = inverse_refusal n mat (length out) (length work) in
-    let none : told ≡ 0 = sym (given-all 0 (inverse_shape_refusal n (length mat) (length out) (length work)) mat (sym shape) refl (is_true (all_finite mat) given)) in
+    let none : told ≡ 0 = given-finite (inverse_shape_refusal n (length mat) (length out) (length work)) mat shape given in
     rw (work-met told Unlimited steps none, none, inverse-regular n (entry_at n mat) computed regular)
 
 -- `search` takes the part of a premise that is wanted: one that says more has it too

@@ -2,7 +2,7 @@
 --     pairs-same    only the entries in rows below n and columns below w count
 --     pairs-system  the right sides do not count
 --     pairs-bound   at most n (n - 1)
-use Rattle.prelude.proofs.Prelude.{◌≡◌, refl, sym, ap, ◌∙◌, Bool, true, false, ◌||◌, cond, ℕ, zero, suc, ◌+◌, ◌-◌, ◌*◌, ◌≤◌, ◌<◌, arith, eqb, sub-zero, ⊎_elim, eq-or-lt_of_le}
+use Rattle.prelude.proofs.Prelude.{◌≡◌, refl, sym, ap, ◌∙◌, Bool, true, false, ◌||◌, cond, ℕ, zero, suc, ◌+◌, ◌-◌, ◌*◌, ◌≤◌, ◌<◌, arith, eqb, ⊎_elim, eq-or-lt_of_le}
 use native.Mathlib.Nat.{suc-mul}
 use borrow.Author.Tests.{eqb-false}
 use Rattle.solver.specs.GaussJordan.{Operations, MatrixOf, pivoted, scaled, cleared, pairs_in, pairs_from, pairs, augmented}
@@ -45,21 +45,6 @@ module _ {E : Type 0} (O : Operations E) where
 
   pub pairs-system : (n : ℕ) (A B : MatrixOf E) → pairs O n (augmented O n A B) ≡ pairs O n A
   pairs-system n A B = pairs-same n n (omega arith) (augmented O n A B) A (λ (i j : ℕ) (h : i < n) (k : j < n). augmented-system O n A B i j k)
-
-  -- ---- a column at a time, on any matrix that agrees with the definition's
-
-  pub pairs_first : (n : ℕ) (A : MatrixOf E) → pairs_from O n (n - 0) 0 A ≡ pairs O n A
-  unfolding pairs
-  pairs_first n A = ap (λ (k : ℕ). pairs_from O n k 0 A) (sub-zero n)
-
-  pub pairs-column : (n c : ℕ) (A : MatrixOf E) → c < n → pairs_from O n (n - c) c A
-      ≡ cond (O.small (pivoted O n c A c c)) 0 (pairs_in O (scaled O c (pivoted O n c A)) c n + pairs_from O n (n - suc c) (suc c) (cleared O c (pivoted O n c A)))
-  unfolding pairs_from
-  pairs-column n c A h = let one : n - c ≡ suc (n - suc c) = omega arith in ap (λ (k : ℕ). pairs_from O n k c A) one
-
-  pub pairs_end : (n c : ℕ) (A : MatrixOf E) → n ≤ c → pairs_from O n (n - c) c A ≡ 0
-  unfolding pairs_from
-  pairs_end n c A h = let none : n - c ≡ 0 = omega arith in ap (λ (k : ℕ). pairs_from O n k c A) none
 
   -- ---- the bound
 

@@ -2,7 +2,7 @@
 use Rattle.prelude.proofs.Prelude.{◌≡◌, refl, sym, ap, ◌∙◌, ap₂, Bool, true, false, ◌&&◌, ◌||◌, cond, List, [], ◌∷◌, ◌++◌, append_assoc, ℕ, zero, suc, ◌-◌, eqb, Float, of_bits}
 use Rattle.binary64.specs.Values.{all_finite}
 use Rattle.complex.specs.{Complex, plus0}
-use Rattle.complex.specs.declared.Pair.TheVariants.{Finite, NotFinite}
+use Rattle.std.proofs.Common.{Some, None}
 use Rattle.complex.specs.Leaves.{pair, product, difference, inverse, quotient}
 use Rattle.complex.proofs.Finite.{all_both}
 use Rattle.lists.specs.Buses.{up_to}
@@ -97,7 +97,7 @@ told-tells : (xs : List Float) (c : Complex) → all_finite (told (pair xs c) �
 unfolding pair told all_finite plus0 of_bits
 told-tells xs c = go (all_finite xs)
   where
-    go : (b : Bool) → all_finite (told (cond b (Finite c) NotFinite) ∷ []) ≡ b
+    go : (b : Bool) → all_finite (told (cond b (Some c) None) ∷ []) ≡ b
     go true = refl
     go false = refl
 

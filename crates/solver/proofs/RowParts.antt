@@ -1,11 +1,11 @@
 -- Rows as parts of the work slice: a row read, the slice when its row came back, rows swapped, scaled and reduced.
-use Rattle.prelude.proofs.Prelude.{◌≡◌, refl, sym, ap, ◌∙◌, Bool, true, false, ◌||◌, cond, List, ℕ, ◌+◌, ◌-◌, ◌*◌, ◌<◌, arith, eqb, length, take, drop, Float, zero-add, sub-zero, eqb-true, eq-eqb, length-take-le}
+use Rattle.prelude.proofs.Prelude.{◌≡◌, refl, sym, ap, ◌∙◌, Bool, true, false, ◌||◌, cond, List, ℕ, ◌+◌, ◌-◌, ◌*◌, ◌≤◌, ◌<◌, arith, eqb, length, take, drop, Float, zero-add, sub-zero, eqb-true, eq-eqb, length-take-le}
 use Rattle.complex.specs.{Complex, cmul, csub, complex_inv, entry, Matrix, entry_at}
 use Rattle.complex.proofs.Matrices.{entry-within}
 use Rattle.lists.proofs.Parts.{back}
 use Rattle.solver.specs.GaussJordan.{swapped, scaled, reduced}
 use Rattle.solver.specs.Solving.{operations, skipped}
-use Rattle.solver.specs.Inner.Work.{WorkRows, Lies, with_row, right_sides, less_factor}
+use Rattle.solver.specs.Inner.Work.{Lies, with_row, right_sides, less_factor}
 use Rattle.solver.proofs.BlockParts.{block_read, block_written, placed-in}
 
 -- ---- a row read, and a row that came back: a row is the block of its w entries from column 0 on
@@ -23,8 +23,8 @@ module _ {n w r a e : ℕ} (lies : Lies n w 0 w r a e) (xs : List Float) where
       ∙ ap (λ (x : Complex). cond (eqb i r) x (entry_at w xs i j)) (placed-in 0 w (λ (p : ℕ). f) (entry_at w xs) r j (omega arith) (omega arith) ∙ ap f (sub-zero j))
 
 -- the entry in column c of row i is within the slice
-pub entry-inside : {n w long i c : ℕ} → WorkRows n w long → i < n → c < n → 2 * (i * w + c) + 1 < long
-entry-inside {n = n} {w = w} {i = i} {c = c} rows h k = let within = entry-within n w i c h (omega (arith, rows.wide)) in omega (arith, rows.full)
+pub entry-inside : {n w long i c : ℕ} → n ≤ w → long ≡ 2 * (n * w) → i < n → c < n → 2 * (i * w + c) + 1 < long
+entry-inside {n = n} {w = w} {i = i} {c = c} wide full h k = let within = entry-within n w i c h (omega arith) in omega arith
 
 -- a row at the front of a longer list
 pub front_long : (w : ℕ) (xs : List Float) → length xs ≡ 4 * w → length (take (2 * w - 0) (drop 0 xs)) ≡ 2 * w

@@ -1,15 +1,16 @@
 -- The loop over the rows of one column: the rows before row i have had their turn, the others are as they were, and the steps behind are told.
 use Rattle.prelude.proofs.Prelude.{◌≡◌, refl, sym, ap, ◌∙◌, subst, Bool, true, false, ◌||◌, cond, List, [], ◌∷◌, ◌++◌, ℕ, suc, ◌+◌, ◌-◌, ◌*◌, ◌≤◌, ◌<◌, arith, eqb, length, drop, Float, eqb-true}
+use Rattle.std.proofs.Common.{Ok, Err}
+use Rattle.refusals.specs.declared.Refusal.TheVariants.{BeyondAllowance}
 use Rattle.complex.specs.{Complex, csub, cmul, Matrix, entry, entry_at}
 use Rattle.complex.proofs.FiniteEntries.{entries-slice, slice-entries}
 use Rattle.lists.specs.Buses.{up_to}
 use Rattle.lists.proofs.Stores.{up_to-here, up_to-end}
 use Rattle.refusals.specs.Work.{Step, reduces, computing}
-use Rattle.solver.specs.declared.elimination.Eliminated.TheVariants.{Done, Exceeded}
 use Rattle.solver.specs.GaussJordan.{reduced}
 use Rattle.solver.specs.Solving.{operations, skipped}
 use Rattle.solver.specs.Steps.{workings, of_reducing, steps_of_row, steps_of_rows}
-use Rattle.solver.specs.Inner.Work.{with_row, less_factor, is_done, Told}
+use Rattle.solver.specs.Inner.Work.{with_row, less_factor, Told}
 use Rattle.solver.proofs.Passed.{RowsPassed, rows_none, rows_more}
 use Rattle.solver.proofs.RowParts.{reduced-is, alone-is}
 use Rattle.solver.proofs.FiniteWork.{reducing-tells, reducing-kept}
@@ -36,9 +37,9 @@ reducing-same left left' now now' e q r = rw (e, q) r
 row_told : (m n w c i : ℕ) (C : Matrix) (now next : List Float) → length now ≡ 2 * (n * w) → length next ≡ 2 * (n * w) → i < n
     → ((r q : ℕ) → q < w → entry_at w next r q ≡ with_row i (λ (j : ℕ). csub (C i j) (cmul (C i c) (C c j))) (entry_at w now) r q)
     → ((q : ℕ) → q < w → entry_at w now i q ≡ C i q)
-    → Told (suc m) (reduces ∷ computing (of_reducing operations workings C c i (up_to w))) now next (Done m)
+    → Told (suc m) (reduces ∷ computing (of_reducing operations workings C c i (up_to w))) now next (Ok m)
 row_told m n w c i C now next full long h put held =
-    told-then (suc m) (reduces ∷ []) now now m (computing (of_reducing operations workings C c i (up_to w))) next (Done m) (told-reduces m now)
+    told-then (suc m) (reduces ∷ []) now now m (computing (of_reducing operations workings C c i (up_to w))) next (Ok m) (told-reduces m now)
     (told-numbers m (of_reducing operations workings C c i (up_to w)) now next
     (λ x. let (a, k) = reducing-tells n w c i C (entry_at w now) (entry_at w next) h put held (slice-entries n w next long x) in (entries-slice n w now full a, k))
     (λ a k. entries-slice n w next long (reducing-kept n w c i C (entry_at w now) (entry_at w next) h put held (slice-entries n w now full a) k)))
@@ -102,20 +103,19 @@ module _ (n w c allowed left i : ℕ) (first now : List Float) (s : Reducing n w
           let l = less r q k in
           cc
 
-      told : Told left (reduces ∷ computing (of_reducing operations workings (entry_at w first) c i (up_to w))) now next (Done (left - 1))
+      told : Told left (reduces ∷ computing (of_reducing operations workings (entry_at w first) c i (up_to w))) now next (Ok (left - 1))
       told =
           let one : suc (left - 1) ≡ left = omega (arith, some) in
-          subst (λ (m : ℕ). Told m (reduces ∷ computing (of_reducing operations workings (entry_at w first) c i (up_to w))) now next (Done (left - 1))) one
+          subst (λ (m : ℕ). Told m (reduces ∷ computing (of_reducing operations workings (entry_at w first) c i (up_to w))) now next (Ok (left - 1))) one
           (row_told (left - 1) n w c i (entry_at w first) now next s.full (same ∙ s.full) h put row)
 
-  pub reducing-exceeded : i < n → (eqb i c || skipped (entry_at w now i c)) ≡ false → left ≡ 0 → Told allowed (steps w c first (up_to n)) first now Exceeded
-  unfolding is_done
+  pub reducing-exceeded : i < n → (eqb i c || skipped (entry_at w now i c)) ≡ false → left ≡ 0 → Told allowed (steps w c first (up_to n)) first now (Err BeyondAllowance)
   reducing-exceeded h t e =
       came-ended allowed left (steps w c first (up_to n)) (steps w c first (drop i (up_to n))) first now s.came
-      (reduces ∷ computing (of_reducing operations workings (entry_at w first) c i (up_to w))) (steps w c first (drop (i + 1) (up_to n))) now (next-steps h false t) Exceeded refl
-      (subst (λ (m : ℕ). Told m (reduces ∷ computing (of_reducing operations workings (entry_at w first) c i (up_to w))) now now Exceeded) (sym e) (told-exceeded _ now))
+      (reduces ∷ computing (of_reducing operations workings (entry_at w first) c i (up_to w))) (steps w c first (drop (i + 1) (up_to n))) now (next-steps h false t) (Err BeyondAllowance) refl
+      (subst (λ (m : ℕ). Told m (reduces ∷ computing (of_reducing operations workings (entry_at w first) c i (up_to w))) now now (Err BeyondAllowance)) (sym e) (told-exceeded _ now))
 
-  pub reducing-end : n ≤ i → Told allowed (steps w c first (up_to n)) first now (Done left)
+  pub reducing-end : n ≤ i → Told allowed (steps w c first (up_to n)) first now (Ok left)
       × ((r q : ℕ) → r < n → q < w → entry_at w now r q ≡ reduced operations c (entry_at w first) r q)
   unfolding steps_of_rows
   reducing-end h =

@@ -1,6 +1,8 @@
 -- What an eliminated slice holds: column c of its right sides is the solution for right side c alone; its steps, and that 13 comes by the system alone.
 -- And that a filled slice is the system beside its right side, or beside the identity.
 use Rattle.prelude.proofs.Prelude.{◌≡◌, refl, sym, ap, ◌∙◌, subst, Bool, true, false, cond, ◌⊎◌, inl, inr, List, ℕ, ◌+◌, ◌-◌, ◌*◌, ◌≤◌, ◌<◌, arith, T, eqb, length, Float, of_bits, sub-zero, eqb-true, eq-eqb, ne_eqb}
+use Rattle.std.proofs.Common.{Result, Ok}
+use Rattle.refusals.specs.declared.Refusal.{Refusal}
 use borrow.Author.Tests.{eqb-false}
 use Rattle.binary64.specs.Values.{all_finite}
 use Rattle.complex.specs.{plus0, one, unit, entry, Matrix, entry_at, zeros}
@@ -10,15 +12,12 @@ use Rattle.complex.proofs.Sticky.{Finite}
 use Rattle.complex.proofs.FiniteEntries.{AllFinite, entries-slice, entry-finite, same-finite}
 use Rattle.lists.proofs.Order.{lt-or-ge}
 use Rattle.refusals.specs.Work.{Step}
-use Rattle.solver.specs.GaussJordan.{gauss_jordan, pairs, augmented, solution, singular_system}
+use Rattle.solver.specs.GaussJordan.{gauss_jordan, augmented, solution}
 use Rattle.solver.specs.Solving.{operations, unit_column}
 use Rattle.solver.specs.Steps.{workings, steps_of_run}
 use Rattle.solver.specs.Inner.Work.{Ended, Met, placed, right_sides, with_identity}
-use Rattle.solver.specs.declared.elimination.Eliminated.{Eliminated}
-use Rattle.solver.specs.declared.elimination.Eliminated.TheVariants.{Done}
-use Rattle.solver.proofs.Pairs.{pairs-same, pairs-system}
 use Rattle.solver.proofs.StepsSame.{run-steps-same}
-use Rattle.solver.proofs.GaussJordan.{run-same, augmented-singular, augmented-system, augmented-right, column-alone}
+use Rattle.solver.proofs.GaussJordan.{run-same, augmented-system, augmented-right, column-alone}
 use Rattle.solver.proofs.BlockParts.{placed-in, placed-left, placed-right}
 
 -- ---- a system beside its right sides is finite where both are
@@ -35,21 +34,15 @@ augmented-finite n m A B a b i j x y = pick (lt-or-ge j n)
 -- ---- an eliminated slice
 
 module _ (n m : ℕ) (A B : Matrix) (ys : List Float) (filled : (i j : ℕ) → i < n → j < n + m → entry_at (n + m) ys i j ≡ augmented operations n A B i j) where
-  pub singular-is : (gauss_jordan operations n (entry_at (n + m) ys)).singular ≡ singular_system operations n A
-  singular-is = (run-same operations n (n + m) (omega arith) (entry_at (n + m) ys) (augmented operations n A B) filled).singular ∙ augmented-singular operations n A B
-
-  pub pairs_is : pairs operations n (entry_at (n + m) ys) ≡ pairs operations n A
-  pairs_is = pairs-same operations n (n + m) (omega arith) (entry_at (n + m) ys) (augmented operations n A B) filled ∙ pairs-system operations n A B
-
   -- the steps are those of the system beside its right sides
   pub steps-are : steps_of_run operations workings n (n + m) (entry_at (n + m) ys) ≡ steps_of_run operations workings n (n + m) (augmented operations n A B)
   steps-are = run-steps-same operations workings n (n + m) (omega arith) (entry_at (n + m) ys) (augmented operations n A B) filled
 
-  module _ (allowed : ℕ) (end : Eliminated) (zs : List Float) (met : Met n (n + m) allowed end ys zs) where
+  module _ (allowed : ℕ) (end : Result ℕ Refusal) (zs : List Float) (met : Met n (n + m) allowed end ys zs) where
     pub ended_is : Ended allowed end (steps_of_run operations workings n (n + m) (augmented operations n A B))
     ended_is = subst (λ (l : List Step). Ended allowed end l) steps-are (record { number = met.number; count = λ left e. (met.done left e).count })
 
-    pub solution-is : (left : ℕ) → end ≡ Done left → (i c : ℕ) → i < n → c < m → right_sides n (entry_at (n + m) zs) i c ≡ solution operations n A (λ (r : ℕ). B r c) i
+    pub solution-is : (left : ℕ) → end ≡ Ok left → (i c : ℕ) → i < n → c < m → right_sides n (entry_at (n + m) zs) i c ≡ solution operations n A (λ (r : ℕ). B r c) i
     unfolding right_sides
     solution-is left d i c h k =
         let col : n + c < n + m = omega arith in

@@ -86,8 +86,8 @@ turned-im : (f p : Complex) → f.re ⊗ p.im ⊕ f.im ⊗ (turned p).im ≡ (cm
 unfolding turned cmul
 turned-im f p = refl
 
-pub turned-product : (f p t : Complex) → t ≡ turned p → record { re = f.re ⊗ p.re ⊕ f.im ⊗ t.re; im = f.re ⊗ p.im ⊕ f.im ⊗ t.im } ≡ cmul f p
-turned-product f p t e =
+pub turned_product : (f p t : Complex) → t ≡ turned p → record { re = f.re ⊗ p.re ⊕ f.im ⊗ t.re; im = f.re ⊗ p.im ⊕ f.im ⊗ t.im } ≡ cmul f p
+turned_product f p t e =
     parts_same
     (ap (λ (x : Complex). f.re ⊗ p.re ⊕ f.im ⊗ x.re) e ∙ turned-re f p)
     (ap (λ (x : Complex). f.re ⊗ p.im ⊕ f.im ⊗ x.im) e ∙ turned-im f p)

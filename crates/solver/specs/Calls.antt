@@ -1,12 +1,11 @@
 -- What `solve_linear` and `complex_matrix_inverse` answer, and what they leave in the slices handed to them.
-use Rattle.std.specs.Prelude.{ℕ, ◌+◌, ◌*◌, not, ◌&&◌, ◌||◌, cond, List, ◌++◌, eqb, ltb, length, Float}
+use Rattle.std.specs.Prelude.{ℕ, ◌+◌, ◌*◌, not, ◌&&◌, ◌||◌, cond, List, ◌++◌, eqb, ltb, length, Result, Float}
 use Rattle.complex.specs.Entries.{entry}
 use Rattle.complex.specs.Matrices.{entry_at, grid, zeros}
 use Rattle.refusals.specs.declared.Allowance.{Allowance}
 use Rattle.refusals.specs.declared.Allowance.TheVariants.{Unlimited}
-use Rattle.refusals.specs.declared.Counted.{Counted}
-use Rattle.refusals.specs.declared.Outcome.{Outcome}
-use Rattle.refusals.specs.Refusals.{limit, too_many, wrong_length, empty_system, refuse, then_given, outcome, counted}
+use Rattle.refusals.specs.declared.Refusal.{Refusal}
+use Rattle.refusals.specs.Refusals.{limit, too_many, wrong_length, empty_system, refuse, then_given, answered, outcome}
 use Rattle.refusals.specs.Work.{reductions, then_work}
 use Rattle.solver.specs.Solving.{solve, inverse}
 use Rattle.solver.specs.Steps.{steps_of_solve, steps_of_inverse}
@@ -17,14 +16,14 @@ pub record AfterElimination (Answer : Type 0) : Type 0 where
   pub output : List Float
   pub work : List Float
 
--- `answered` is the answer by the refusal's number, `told` the refusal from the input, `number` the call's: that one, else what the work
+-- `by` is the answer by the refusal's number, `told` the refusal from the input, `number` the call's: that one, else what the work
 -- meets. On a refusal the output is as it was; the work slice is cleared unless the input was refused.
 unfoldable pub after_elimination : {Answer : Type 0} → (ℕ → Answer) → ℕ → ℕ → List Float → List Float → List Float
     → AfterElimination Answer
 unfolding zeros
-after_elimination answered told number new old work =
+after_elimination by told number new old work =
     record {
-      answer = answered number;
+      answer = by number;
       output = cond (eqb number 0) new old;
       work = cond (eqb told 0) (zeros (length work)) work;
     }
@@ -44,12 +43,12 @@ unfolding solve_shape_refusal then_given
 solve_refusal n a b x work = then_given (solve_shape_refusal n (length a) (length b) x work) (a ++ b)
 
 -- an accepted solve answers how many rows it reduced
-unfoldable pub after_solve : ℕ → List Float → List Float → Allowance → List Float → List Float → AfterElimination Counted
-unfolding solve_refusal steps_of_solve counted then_work reductions after_elimination
+unfoldable pub after_solve : ℕ → List Float → List Float → Allowance → List Float → List Float → AfterElimination (Result ℕ Refusal)
+unfolding solve_refusal steps_of_solve answered then_work reductions after_elimination
 after_solve n a b allowance x work =
     let steps = steps_of_solve n (entry_at n a) (entry b) in
     let told = solve_refusal n a b (length x) (length work) in
-    after_elimination (counted (reductions steps)) told (then_work told allowance steps)
+    after_elimination (answered (reductions steps)) told (then_work told allowance steps)
     (grid n 1 (λ (i k : ℕ). solve n (entry_at n a) (entry b) i))
     x work
 
@@ -65,8 +64,8 @@ unfoldable pub inverse_refusal : ℕ → List Float → ℕ → ℕ → ℕ
 unfolding inverse_shape_refusal then_given
 inverse_refusal n mat inverse work = then_given (inverse_shape_refusal n (length mat) inverse work) mat
 
-unfoldable pub after_inverse : ℕ → List Float → List Float → List Float → AfterElimination Outcome
-unfolding inverse_refusal steps_of_inverse outcome then_work after_elimination
+unfoldable pub after_inverse : ℕ → List Float → List Float → List Float → AfterElimination (Result (Unit {0}) Refusal)
+unfolding inverse_refusal steps_of_inverse answered then_work after_elimination
 after_inverse n mat out work =
     let told = inverse_refusal n mat (length out) (length work) in
     after_elimination outcome told (then_work told Unlimited (steps_of_inverse n (entry_at n mat)))

@@ -1,13 +1,11 @@
 -- An accepted solve or inverse is finite throughout: what is given, every number on the way, and what is written; and nothing else than a
 -- number given or computed that is not finite, a pivot too small or an allowance refuses one whose lengths are right.
-use Rattle.std.specs.Prelude.{ℕ, ◌≡◌, not, List, ◌++◌, T, length, Float}
+use Rattle.std.specs.Prelude.{ℕ, ◌≡◌, not, List, ◌++◌, T, length, Ok, Float}
 use Rattle.binary64.specs.Values.{all_finite}
 use Rattle.complex.specs.Entries.{entry}
 use Rattle.complex.specs.Matrices.{entry_at, grid, zeros}
 use Rattle.refusals.specs.declared.Allowance.{Allowance}
 use Rattle.refusals.specs.declared.Allowance.TheVariants.{Rows}
-use Rattle.refusals.specs.declared.Counted.TheVariants.{Reduced}
-use Rattle.refusals.specs.declared.Outcome.TheVariants.{Done}
 use Rattle.refusals.specs.Work.{numbers_in, reductions, ◌no_more_than◌}
 use Rattle.solver.specs.Solving.{is_singular, solve, inverse}
 use Rattle.solver.specs.Steps.{steps_of_solve, steps_of_inverse}
@@ -26,9 +24,9 @@ pub record FiniteInverse (n : ℕ) (mat : List Float) (inverse : List Float) : T
 
 pub record FiniteAnswers : Type 0 where
   pub solve : (n : ℕ) (a b : List Float) (allowance : Allowance) (x work : List Float) (rows : ℕ)
-      → (after_solve n a b allowance x work).answer ≡ Reduced rows → FiniteSolve n a b (after_solve n a b allowance x work).output
+      → (after_solve n a b allowance x work).answer ≡ Ok rows → FiniteSolve n a b (after_solve n a b allowance x work).output
   pub inverse : (n : ℕ) (mat out work : List Float)
-      → (after_inverse n mat out work).answer ≡ Done → FiniteInverse n mat (after_inverse n mat out work).output
+      → (after_inverse n mat out work).answer ≡ Ok tt → FiniteInverse n mat (after_inverse n mat out work).output
 
 -- Nothing finite is refused: where 1, 2 and 5 are not told, every number given and computed is finite, no pivot is too small and the
 -- allowance is enough, the call is accepted with the value of its definition.
@@ -40,7 +38,7 @@ pub record AcceptedAnswers : Type 0 where
       → T (not (is_singular n (entry_at n a)))
       → Rows (reductions (steps_of_solve n (entry_at n a) (entry b))) no_more_than allowance
       → after_solve n a b allowance x work ≡ record {
-        answer = Reduced (reductions (steps_of_solve n (entry_at n a) (entry b)));
+        answer = Ok (reductions (steps_of_solve n (entry_at n a) (entry b)));
         output = grid n 1 (λ (i k : ℕ). solve n (entry_at n a) (entry b) i);
         work = zeros (length work);
       }
@@ -51,7 +49,7 @@ pub record AcceptedAnswers : Type 0 where
       → T (all_finite (numbers_in (steps_of_inverse n (entry_at n mat))))
       → T (not (is_singular n (entry_at n mat)))
       → after_inverse n mat out work ≡ record {
-        answer = Done;
+        answer = Ok tt;
         output = grid n n (inverse n (entry_at n mat));
         work = zeros (length work);
       }

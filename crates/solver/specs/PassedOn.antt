@@ -1,10 +1,8 @@
 -- An elimination passes on what the operations on single numbers answer: its rows compute first and are looked at afterwards, and what the
 -- work meets is the same as if each product, difference and inverse answered a finite number or none, one after the other.
-use Rattle.std.specs.Prelude.{ℕ, ◌≡◌, List, [], ◌∷◌, ◌++◌, Float}
+use Rattle.std.specs.Prelude.{ℕ, ◌≡◌, List, [], ◌∷◌, ◌++◌, Option, Some, None, Float}
 use Rattle.std.specs.Float.{nan}
 use Rattle.complex.specs.declared.Complex.{Complex}
-use Rattle.complex.specs.declared.Pair.{Pair}
-use Rattle.complex.specs.declared.Pair.TheVariants.{Finite, NotFinite}
 use Rattle.complex.specs.Constants.{plus0}
 use Rattle.complex.specs.Computed.{of_sqmag}
 use Rattle.complex.specs.Leaves.{product, difference, inverse}
@@ -13,10 +11,10 @@ use Rattle.refusals.specs.Work.{Step, meets}
 use Rattle.solver.specs.Solving.{operations}
 use Rattle.solver.specs.Steps.{Workings, workings, steps_of_run}
 
--- one number for an answer: not finite where the answer is "not finite"
-unfoldable pub told : Pair → Float
-told (Finite z) = plus0
-told NotFinite = nan
+-- one number for an answer: not finite where there is none
+unfoldable pub told : Option Complex → Float
+told (Some z) = plus0
+told None = nan
 
 -- each operation by its answer alone; a weight, which no operation on single numbers is, by its own numbers
 abbrev pub answers : Workings Complex

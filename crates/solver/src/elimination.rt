@@ -6,237 +6,187 @@ ghost use Rattle.complex.specs.Entries.{entry};
 ghost use Rattle.complex.specs.Matrices.{entry_at};
 ghost use Rattle.lists.specs.Buses.{up_to};
 ghost use Rattle.refusals.specs.Refusals.{limit};
-ghost use Rattle.solver.specs.declared.elimination.Eliminated.TheVariants.{Done, Small};
+ghost use Rattle.refusals.specs.declared.Refusal.TheVariants.{Singular};
 ghost use Rattle.solver.specs.GaussJordan as spec;
 ghost use Rattle.solver.specs.Solving.{operations};
 ghost use Rattle.solver.specs.Steps as steps;
-ghost use Rattle.solver.specs.Inner.Work.{WorkRows, BesideTurned, Told, ColumnDone, Ran, Met, with_row, less_factor, is_done, number_of};
-ghost use Rattle.solver.specs.Inner.Work.{steps_of_clearing};
+ghost use Rattle.solver.specs.Inner.Work.{BesideTurned, Told, ColumnDone, Ran, Met, with_row, less_factor, steps_of_clearing};
 
-use crate::blocks::{Span, span_of};
+use crate::blocks::row_of;
 use crate::rows;
 use binary64::finite::all_finite;
+use complex::complex_inv;
 use complex::constants::DIVISION_LIMIT;
 use complex::entry::get;
-use complex::{Pair, complex_inv};
-use refusals::{BEYOND_ALLOWANCE, COMPUTED_NOT_FINITE, LIMIT, SINGULAR};
+use refusals::{LIMIT, Refusal};
 
-// Of two rows, the one that is held: the first, unless the other's squared magnitude is strictly greater.
-fn stronger(work: &[f64], n: usize, w: usize, c: usize, held: usize, next: usize) -> usize
-    requires { (WorkRows n w (length work.now)) × (c < n) × (held < n) × (next < n) }
-    ensures { result ≡ cond (spec.stays (operations.weight (entry_at w work.now held c))
-        (operations.weight (entry_at w work.now next c))) held next }
-{
-    let h = complex::raw::sqmag(get(work, held * w + c));
-    let x = complex::raw::sqmag(get(work, next * w + c));
-    if h < x { next } else { held }
-}
-
-// The pivot's row for column c.
-fn pivot_row(work: &[f64], n: usize, w: usize, c: usize) -> usize
-    requires { (WorkRows n w (length work.now)) × (c < n) }
-    ensures { (result ≡ spec.pivot_row operations n (entry_at w work.now) c) × (result < n) }
-{
-    let mut held = c;
-    let mut next = c + 1;
-    let row = loop {
-        if next == n {
-            break held;
-        }
-        held = stronger(work, n, w, c, held, next);
-        next += 1;
-    };
-    row
-}
-
-// Rows c and p change places; `row` then holds row c.
-fn swap(work: &mut [f64], n: usize, w: usize, c: usize, p: usize, row: &mut [f64])
-    requires { (WorkRows n w (length work.old)) × (c < n) × (p < n) × (length row.old ≡ 2 * w) }
-    ensures { ((i j : ℕ) → j < w → entry_at w work.new i j ≡ spec.swapped operations c p (entry_at w work.old) i j)
-        × ((j : ℕ) → j < w → entry row.new j ≡ entry_at w work.new c j) }
-{
-    let Span { start: a, end: b } = span_of(n, w, 0, w, c);
-    let Span { start, end } = span_of(n, w, 0, w, p);
-    rows::copy(&work[a..b], row);
-    rows::exchange(&mut work[start..end], row, w);
-    rows::copy(row, &mut work[a..b]);
-}
-
-// How an elimination ends, or a part of it: done, with what is left of its allowance of row reductions, at a pivot that is too small,
-// before the row reduction that would exceed the allowance, or with a number that is not finite.
+// Column c's turn, in n rows of w entries.
+// The slice is no field: a struct that holds a `&mut` owes in each method that the reference, n, w and c stay the same.
 #[derive(Clone, Copy)]
-pub enum Eliminated {
-    Done(usize),
-    Small,
-    Exceeded,
-    NotFinite,
-}
-
-// Whether the elimination came to its end.
-pub fn is_done(end: Eliminated) -> bool
-    ensures { result ≡ is_done end }
-{
-    match end {
-        Eliminated::Done(_) => true,
-        Eliminated::Small => false,
-        Eliminated::Exceeded => false,
-        Eliminated::NotFinite => false,
-    }
-}
-
-// The refusal's number, 0 where the elimination came to its end.
-pub fn number_of(end: Eliminated) -> u32
-    ensures { result ≡ number_of end }
-{
-    match end {
-        Eliminated::Done(_) => 0,
-        Eliminated::Small => SINGULAR,
-        Eliminated::Exceeded => BEYOND_ALLOWANCE,
-        Eliminated::NotFinite => COMPUTED_NOT_FINITE,
-    }
-}
-
-// Whether row i is not reduced in column c: it is row c, or its factor, which stands at place `at`, is skipped.
-fn left_alone(work: &[f64], n: usize, w: usize, i: usize, c: usize, at: usize) -> bool
-    requires { (WorkRows n w (length work.now)) × (i < n) × (c < n) × (at ≡ i * w + c) }
-    ensures { result ≡ (eqb i c || operations.skips (entry_at w work.now i c)) }
-{
-    if i == c {
-        return true;
-    }
-    rows::skipped(get(work, at))
-}
-
-// Row i loses its factor in column c, which stands at place `at`, times the pivot row.
-fn reduce_row(work: &mut [f64], n: usize, w: usize, i: usize, c: usize, at: usize, pivot: &[f64])
-    requires { (WorkRows n w (length work.old)) × (i < n) × (c < n) × (BesideTurned w pivot.now) × (at ≡ i * w + c) }
-    ensures { (r j : ℕ) → j < w → entry_at w work.new r j
-        ≡ with_row i (less_factor c (entry pivot.now) (entry_at w work.old) i) (entry_at w work.old) r j }
-{
-    let factor = get(work, at);
-    let Span { start, end } = span_of(n, w, 0, w, i);
-    rows::subtract(&mut work[start..end], w, factor, pivot);
-}
-
-// All rows but row c, which is the pivot row, are reduced by it, unless the allowance is exceeded.
-fn reduce_others(
-    work: &mut [f64],
+struct Turn {
     n: usize,
     w: usize,
     c: usize,
-    pivot: &[f64],
-    allowed: usize,
-) -> Eliminated
-    requires { (WorkRows n w (length work.old))
-        × (c < n)
-        × (BesideTurned w pivot.now)
-        × ((j : ℕ) → j < w → entry pivot.now j ≡ entry_at w work.old c j) }
-    ensures { (Told allowed (steps.steps_of_rows operations steps.workings (entry_at w work.old) c (up_to n) (up_to w)) work.old
-        work.new result)
-        × ((left : ℕ) → result ≡ Done left → (i j : ℕ) → i < n → j < w
-        → entry_at w work.new i j ≡ spec.reduced operations c (entry_at w work.old) i j)
-        × (result ≡ Small → ⊥) }
-{
-    let mut left = allowed;
-    let mut at = c;
-    let mut i = 0;
-    while i < n {
-        if !left_alone(work, n, w, i, c, at) {
-            if left == 0 {
-                return Eliminated::Exceeded;
+    ghost wide: { n ≤ w },
+    ghost here: { c < n },
+}
+
+impl Turn {
+    // Of two rows, the one that is held: the first, unless the other's squared magnitude is strictly greater.
+    #[tactic(auto, unfolding(crate::specs::GaussJordan::stays, complex::specs::Matrices::entry_at))]
+    fn stronger(self, work: &[f64], held: usize, next: usize) -> usize
+        requires { (length work.now ≡ 2 * (self.n * self.w)) × (held < self.n) × (next < self.n) }
+        ensures { result ≡ cond (spec.stays (operations.weight (entry_at self.w work.now held self.c))
+            (operations.weight (entry_at self.w work.now next self.c))) held next }
+    {
+        let h = complex::raw::sqmag(get(work, held * self.w + self.c));
+        let x = complex::raw::sqmag(get(work, next * self.w + self.c));
+        if h < x { next } else { held }
+    }
+
+    // The pivot's row.
+    fn pivot_row(self, work: &[f64]) -> usize
+        requires { length work.now ≡ 2 * (self.n * self.w) }
+        ensures { (result ≡ spec.pivot_row operations self.n (entry_at self.w work.now) self.c) × (result < self.n) }
+    {
+        let mut held = self.c;
+        let mut next = self.c + 1;
+        // no `for`: the specification has the search hand out its row by `break`
+        loop {
+            if next == self.n {
+                break held;
             }
-            reduce_row(work, n, w, i, c, at, pivot);
-            left -= 1;
+            held = self.stronger(work, held, next);
+            next += 1;
         }
-        at += w;
-        i += 1;
     }
-    Eliminated::Done(left)
+
+    // Rows c and p change places; `row` then holds row c.
+    fn swap(self, work: &mut [f64], p: usize, row: &mut [f64])
+        requires { (length work.old ≡ 2 * (self.n * self.w)) × (p < self.n) × (length row.old ≡ 2 * self.w) }
+        ensures { ((i j : ℕ) → j < self.w
+            → entry_at self.w work.new i j ≡ spec.swapped operations self.c p (entry_at self.w work.old) i j)
+            × ((j : ℕ) → j < self.w → entry row.new j ≡ entry_at self.w work.new self.c j) }
+    {
+        row.copy_from_slice(&work[row_of(self.n, self.w, self.c)]);
+        work[row_of(self.n, self.w, p)].swap_with_slice(row);
+        work[row_of(self.n, self.w, self.c)].copy_from_slice(row);
+    }
+
+    // Whether row i is not reduced: it is row c, or its factor is skipped.
+    #[tactic(auto, unfolding(complex::specs::Matrices::entry_at))]
+    fn left_alone(self, work: &[f64], i: usize) -> bool
+        requires { (length work.now ≡ 2 * (self.n * self.w)) × (i < self.n) }
+        ensures { result ≡ (eqb i self.c || operations.skips (entry_at self.w work.now i self.c)) }
+    {
+        i == self.c || rows::skipped(get(work, i * self.w + self.c))
+    }
+
+    // Row i loses its factor times the pivot row.
+    fn reduce_row(self, work: &mut [f64], i: usize, pivot: &[f64])
+        requires { (length work.old ≡ 2 * (self.n * self.w)) × (i < self.n) × (BesideTurned self.w pivot.now) }
+        ensures { (r j : ℕ) → j < self.w → entry_at self.w work.new r j
+            ≡ with_row i (less_factor self.c (entry pivot.now) (entry_at self.w work.old) i) (entry_at self.w work.old) r j }
+    {
+        let factor = get(work, i * self.w + self.c);
+        rows::subtract(&mut work[row_of(self.n, self.w, i)], self.w, factor, pivot);
+    }
+
+    // All rows but row c, which is the pivot row, are reduced by it, with so many row reductions allowed. Answers how many of these are
+    // left.
+    fn reduce_others(
+        self,
+        work: &mut [f64],
+        pivot: &[f64],
+        allowed: usize,
+    ) -> Result<usize, Refusal>
+        requires { (length work.old ≡ 2 * (self.n * self.w))
+            × (BesideTurned self.w pivot.now)
+            × ((j : ℕ) → j < self.w → entry pivot.now j ≡ entry_at self.w work.old self.c j) }
+        ensures { (Told allowed
+            (steps.steps_of_rows operations steps.workings (entry_at self.w work.old) self.c (up_to self.n) (up_to self.w)) work.old
+            work.new result)
+            × ((left : ℕ) → result ≡ Ok left → (i j : ℕ) → i < self.n → j < self.w
+            → entry_at self.w work.new i j ≡ spec.reduced operations self.c (entry_at self.w work.old) i j)
+            × (result ≡ Err Singular → ⊥) }
+    {
+        let mut left = allowed;
+        for i in 0..self.n {
+            if !self.left_alone(work, i) {
+                if left == 0 {
+                    return Err(Refusal::BeyondAllowance);
+                }
+                self.reduce_row(work, i, pivot);
+                left -= 1;
+            }
+        }
+        Ok(left)
+    }
+
+    // Row c, which the first half of `row` holds, is scaled by its pivot's inverse, if that is finite, and the others are reduced.
+    fn clear(self, work: &mut [f64], row: &mut [f64], allowed: usize) -> Result<usize, Refusal>
+        requires { (length work.old ≡ 2 * (self.n * self.w))
+            × (length row.old ≡ 4 * self.w)
+            × ((j : ℕ) → j < self.w → entry row.old j ≡ entry_at self.w work.old self.c j) }
+        ensures { (Told allowed (steps_of_clearing self.n self.w self.c (entry_at self.w work.old)) work.old work.new result)
+            × ((left : ℕ) → result ≡ Ok left → (i j : ℕ) → i < self.n → j < self.w
+            → entry_at self.w work.new i j ≡ spec.cleared operations self.c (entry_at self.w work.old) i j)
+            × (result ≡ Err Singular → ⊥) }
+    {
+        let inverse = complex_inv(get(row, self.c)).ok_or(Refusal::ComputedNotFinite)?;
+        let place = row_of(self.n, self.w, self.c);
+        rows::scale(row, self.w, inverse, &mut work[place]);
+        self.reduce_others(work, row, allowed)
+    }
+
+    // The whole turn; `row` has room for a row and the same row turned. Where the pivot is too small, the rows have changed places, and no
+    // more.
+    fn run(self, work: &mut [f64], row: &mut [f64], allowed: usize) -> Result<usize, Refusal>
+        requires { (length work.old ≡ 2 * (self.n * self.w)) × (length row.old ≡ 4 * self.w) }
+        ensures { ColumnDone self.n self.w self.c allowed result work.old work.new }
+    {
+        let p = self.pivot_row(work);
+        let e = 2 * self.w;
+        self.swap(work, p, &mut row[0..e]);
+        if complex::raw::sqmag(get(row, self.c)) < DIVISION_LIMIT {
+            return Err(Refusal::Singular);
+        }
+        self.clear(work, row, allowed)
+    }
 }
 
-// Row c, which the first half of `row` holds, is scaled by its pivot's inverse, if that is finite, and the others are reduced.
-fn clear_column(
+// Each column in turn, with so many row reductions allowed. Answers how many of these are left.
+fn columns(
     work: &mut [f64],
     n: usize,
     w: usize,
-    c: usize,
     row: &mut [f64],
     allowed: usize,
-) -> Eliminated
-    requires { (WorkRows n w (length work.old))
-        × (c < n)
-        × (length row.old ≡ 4 * w)
-        × ((j : ℕ) → j < w → entry row.old j ≡ entry_at w work.old c j) }
-    ensures { (Told allowed (steps_of_clearing n w c (entry_at w work.old)) work.old work.new result)
-        × ((left : ℕ) → result ≡ Done left → (i j : ℕ) → i < n → j < w
-        → entry_at w work.new i j ≡ spec.cleared operations c (entry_at w work.old) i j)
-        × (result ≡ Small → ⊥) }
-{
-    let Pair::Finite(inverse) = complex_inv(get(row, c)) else {
-        return Eliminated::NotFinite;
-    };
-    let Span { start, end } = span_of(n, w, 0, w, c);
-    rows::scale(row, w, inverse, &mut work[start..end]);
-    reduce_others(work, n, w, c, row, allowed)
-}
-
-// One column; `row` has room for a row and the same row turned. Where its pivot is too small, the rows have changed places, and no more.
-fn column(
-    work: &mut [f64],
-    n: usize,
-    w: usize,
-    c: usize,
-    row: &mut [f64],
-    allowed: usize,
-) -> Eliminated
-    requires { (WorkRows n w (length work.old)) × (c < n) × (length row.old ≡ 4 * w) }
-    ensures { ColumnDone n w c allowed result work.old work.new }
-{
-    let p = pivot_row(work, n, w, c);
-    let e = 2 * w;
-    swap(work, n, w, c, p, &mut row[0..e]);
-    if complex::raw::sqmag(get(row, c)) < DIVISION_LIMIT {
-        return Eliminated::Small;
-    }
-    clear_column(work, n, w, c, row, allowed)
-}
-
-fn columns(work: &mut [f64], n: usize, w: usize, row: &mut [f64], allowed: usize) -> Eliminated
-    requires { (WorkRows n w (length work.old)) × (length row.old ≡ 4 * w) }
+) -> Result<usize, Refusal>
+    requires { (n ≤ w) × (length work.old ≡ 2 * (n * w)) × (length row.old ≡ 4 * w) }
     ensures { Ran n w allowed result work.old work.new }
 {
     let mut left = allowed;
-    let mut c = 0;
-    while c < n {
-        match column(work, n, w, c, row, left) {
-            Eliminated::Done(rest) => {
-                left = rest;
-            }
-            Eliminated::Small => {
-                return Eliminated::Small;
-            }
-            Eliminated::Exceeded => {
-                return Eliminated::Exceeded;
-            }
-            Eliminated::NotFinite => {
-                return Eliminated::NotFinite;
-            }
-        }
-        c += 1;
+    for c in 0..n {
+        left = Turn { n, w, c }.run(work, row, left)?;
     }
-    Eliminated::Done(left)
+    Ok(left)
 }
 
-// All columns, with so many row reductions allowed. The slice is finite at entry; it is looked at once more where the work ends.
-pub fn eliminate(work: &mut [f64], n: usize, w: usize, allowed: usize) -> Eliminated
+// All columns, with so many row reductions allowed. Answers how many of these are left. Refused: 13 at a pivot that is too small, 18
+// before the row reduction that would exceed the allowance, 20 with a number that is not finite. The slice is finite at entry; it is
+// looked at once more where the work ends.
+pub fn eliminate(work: &mut [f64], n: usize, w: usize, allowed: usize) -> Result<usize, Refusal>
     requires { (n ≤ w) × (w ≤ 2 * limit) × (length work.old ≡ 2 * (n * w)) × T (all_finite work.old) }
     ensures { Met n w allowed result work.old work.new }
 {
+    // fixed memory, as no library crate takes any from the heap
     let mut buffer = [0.0; 8 * LIMIT];
     let e = 4 * w;
     let end = columns(work, n, w, &mut buffer[0..e], allowed);
     if all_finite(work) {
-        return end;
+        end
+    } else {
+        Err(Refusal::ComputedNotFinite)
     }
-    Eliminated::NotFinite
 }

@@ -4,10 +4,7 @@
 ghost use Rattle.std.specs.Prelude.{◌≡◌};
 ghost use Rattle.solver.specs.Calls as spec;
 
-use crate::elimination::Eliminated;
-use refusals::{
-    Allowance, BEYOND_ALLOWANCE, COMPUTED_NOT_FINITE, Counted, Outcome, SINGULAR, allowed_rows,
-};
+use refusals::{Allowance, Refusal, allowed_rows};
 
 pub mod blocks;
 pub mod elimination;
@@ -28,22 +25,15 @@ pub fn solve_linear(
     allowance: Allowance,
     x: &mut [f64],
     work: &mut [f64],
-) -> Counted
+) -> Result<usize, Refusal>
     ensures { (result ≡ (spec.after_solve n a.now b.now allowance x.old work.old).answer)
         × (x.new ≡ (spec.after_solve n a.now b.now allowance x.old work.old).output)
         × (work.new ≡ (spec.after_solve n a.now b.now allowance x.old work.old).work) }
 {
-    let told = lengths::solve_refusal(n, a, b, x.len(), work.len());
-    if told != 0 {
-        return Counted::Refused(told);
-    }
+    lengths::solve_refusal(n, a, b, x.len(), work.len())?;
     let allowed = allowed_rows(allowance);
-    match solving::solved(n, a, b, allowed, x, work) {
-        Eliminated::Done(left) => Counted::Reduced(allowed - left),
-        Eliminated::Small => Counted::Refused(SINGULAR),
-        Eliminated::Exceeded => Counted::Refused(BEYOND_ALLOWANCE),
-        Eliminated::NotFinite => Counted::Refused(COMPUTED_NOT_FINITE),
-    }
+    let left = solving::solved(n, a, b, allowed, x, work)?;
+    Ok(allowed - left)
 }
 
 // `inverse` becomes the inverse of mat, both n rows of n complex entries; the work slice has n rows of 2 n.
@@ -55,18 +45,11 @@ pub fn complex_matrix_inverse(
     mat: &[f64],
     inverse: &mut [f64],
     work: &mut [f64],
-) -> Outcome
+) -> Result<(), Refusal>
     ensures { (result ≡ (spec.after_inverse n mat.now inverse.old work.old).answer)
         × (inverse.new ≡ (spec.after_inverse n mat.now inverse.old work.old).output)
         × (work.new ≡ (spec.after_inverse n mat.now inverse.old work.old).work) }
 {
-    let told = lengths::inverse_refusal(n, mat, inverse.len(), work.len());
-    if told != 0 {
-        return Outcome::Refused(told);
-    }
-    let met = solving::inverted(n, mat, inverse, work);
-    if met != 0 {
-        return Outcome::Refused(met);
-    }
-    Outcome::Done
+    lengths::inverse_refusal(n, mat, inverse.len(), work.len())?;
+    solving::inverted(n, mat, inverse, work)
 }

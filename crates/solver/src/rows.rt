@@ -10,33 +10,6 @@ use complex::Complex;
 use complex::constants::DIVISION_LIMIT;
 use complex::entry::{get, put};
 
-// Copies a row, or any numbers: as a loop over numbers it is compiled to one copy of memory.
-pub fn copy(from: &[f64], to: &mut [f64])
-    requires { length from.now ≡ length to.old }
-    ensures { to.new ≡ from.now }
-{
-    let mut i = 0;
-    while i < from.len() {
-        to[i] = from[i];
-        i += 1;
-    }
-}
-
-// Two rows of w entries change places.
-pub fn exchange(a: &mut [f64], b: &mut [f64], w: usize)
-    requires { (length a.old ≡ 2 * w) × (length b.old ≡ 2 * w) }
-    ensures { (a.new ≡ b.old) × (b.new ≡ a.old) }
-{
-    let mut j = 0;
-    while j < w {
-        let x = get(a, j);
-        let y = get(b, j);
-        put(a, j, y);
-        put(b, j, x);
-        j += 1;
-    }
-}
-
 // The first w entries are multiplied, and stored in `to` and, turned, behind themselves too.
 pub fn scale(row: &mut [f64], w: usize, by: Complex, to: &mut [f64])
     requires { (length row.old ≡ 4 * w) × (length to.old ≡ 2 * w) }
@@ -44,17 +17,16 @@ pub fn scale(row: &mut [f64], w: usize, by: Complex, to: &mut [f64])
         × ((q : ℕ) → q < w → entry row.new q ≡ arithmetic.cmul (entry row.old q) by)
         × ((q : ℕ) → q < w → entry to.new q ≡ entry row.new q) }
 {
-    let mut j = 0;
-    while j < w {
+    for j in 0..w {
         let p = complex::raw::cmul(get(row, j), by);
         put(row, j, p);
         put(row, w + j, turn(p));
         put(to, j, p);
-        j += 1;
     }
 }
 
 // A factor too small for its row to be reduced. A NaN part is not.
+#[tactic(auto, unfolding(crate::specs::Solving::skipped, complex::specs::Constants::division_limit))]
 pub fn skipped(f: Complex) -> bool
     ensures { result ≡ spec.skipped f }
 {
@@ -62,6 +34,7 @@ pub fn skipped(f: Complex) -> bool
 }
 
 // Times the imaginary unit.
+#[tactic(auto, unfolding(crate::specs::Inner::Work::turned))]
 fn turn(p: Complex) -> Complex
     ensures { result ≡ turned p }
 {
@@ -72,6 +45,7 @@ fn turn(p: Complex) -> Complex
 }
 
 // f p, where t is p turned: both parts are computed alike, so that they are one vector.
+#[tactic(auto, using(crate::proofs::TurnedRows::turned_product))]
 fn product(f: Complex, p: Complex, t: Complex) -> Complex
     requires { t ≡ turned p }
     ensures { result ≡ arithmetic.cmul f p }
@@ -88,10 +62,8 @@ pub fn subtract(row: &mut [f64], w: usize, factor: Complex, pivot: &[f64])
     ensures { (q : ℕ) → q < w → entry row.new q
         ≡ arithmetic.csub (entry row.old q) (arithmetic.cmul factor (entry pivot.now q)) }
 {
-    let mut j = 0;
-    while j < w {
+    for j in 0..w {
         let p = product(factor, get(pivot, j), get(pivot, w + j));
         put(row, j, complex::raw::csub(get(row, j), p));
-        j += 1;
     }
 }

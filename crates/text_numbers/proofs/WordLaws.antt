@@ -1,19 +1,30 @@
 -- Laws of words: what one more digit does where they are read, and how long they are where they are printed.
-use Rattle.prelude.proofs.Prelude.{◌≡◌, refl, ap, ◌∙◌, Bool, true, false, cond, [], ◌∷◌, ℕ, zero, suc, ◌+◌, ◌*◌, ◌≤◌, ◌<◌, add-one, arith, eqb, ltb, length, get_or, drop, ◌/◌, ◌%◌, ◌^◌, length-append, drop-cons, lt-ltb, le-ltb, eq-eqb, ne_eqb}
+use Rattle.prelude.proofs.Prelude.{◌≡◌, refl, ap, ◌∙◌, Bool, true, false, cond, [], ◌∷◌, ℕ, zero, suc, ◌+◌, ◌*◌, ◌≤◌, ◌<◌, add-one, arith, eqb, ltb, length, get_or, drop, ◌/◌, ◌%◌, ◌^◌, length-append, drop-cons, lt-ltb, le-ltb, eq-eqb, ne_eqb, eqb-true}
 use lib.Seq.{drop-length}
-use Rattle.text_numbers.specs.declared.Number.TheVariants.{Is, Not}
+use Rattle.std.specs.Char.{digit_value}
+use Rattle.std.proofs.lemmas.Bool.Decides.{nat_tests}
+use Rattle.std.specs.Prelude.{Some, None}
 use Rattle.text_numbers.specs.Bytes.{Bytes}
 use Rattle.text_numbers.specs.Words.{digit, decimal_from, spare, decimal_of, hex_from, hex_of, glyph, digits, places, decimal, hex}
+
+-- std's value d of the character c in a base up to 16 is that of the byte b; where it has none, the byte is no digit
+pub digit-some : (b c d radix : ℕ) → c ≡ b → radix ≤ 16 → (digit_value c < radix) × (d ≡ digit_value c) → digit b ≡ d
+unfolding digit
+digit-some b c d radix e h l = grind (arith, nat_tests)
+
+pub digit-none : (b c radix : ℕ) → c ≡ b → radix ≤ 16 → (digit_value c < radix → ⊥) → radix ≤ digit b
+unfolding digit
+digit-none b c radix e h n = grind (arith, nat_tests)
 
 module _ (word : Bytes) (i v : ℕ) (h : i < length word) where
   decimal-at : decimal_from v (drop i word) ≡ decimal_from v (get_or word i 0 ∷ drop (suc i) word)
   decimal-at = ap (decimal_from v) (drop-cons word i 0 h)
 
-  pub decimal-no : 10 ≤ digit (get_or word i 0) → decimal_from v (drop i word) ≡ Not
+  pub decimal-no : 10 ≤ digit (get_or word i 0) → decimal_from v (drop i word) ≡ None
   unfolding decimal_from
   decimal-no n = decimal-at ∙ simp (le-ltb _ _ n)
 
-  pub decimal-over : digit (get_or word i 0) < 10 → 2 ^ 32 ≤ 10 * v + digit (get_or word i 0) → decimal_from v (drop i word) ≡ Not
+  pub decimal-over : digit (get_or word i 0) < 10 → 2 ^ 32 ≤ 10 * v + digit (get_or word i 0) → decimal_from v (drop i word) ≡ None
   unfolding decimal_from
   decimal-over n m = decimal-at ∙ simp (lt-ltb _ _ n, le-ltb _ _ m)
 
@@ -25,7 +36,7 @@ module _ (word : Bytes) (i v : ℕ) (h : i < length word) where
   hex-at : hex_from v (drop i word) ≡ hex_from v (get_or word i 0 ∷ drop (suc i) word)
   hex-at = ap (hex_from v) (drop-cons word i 0 h)
 
-  pub hex-no : 16 ≤ digit (get_or word i 0) → hex_from v (drop i word) ≡ Not
+  pub hex-no : 16 ≤ digit (get_or word i 0) → hex_from v (drop i word) ≡ None
   unfolding hex_from
   hex-no n = hex-at ∙ simp (le-ltb _ _ n)
 
@@ -34,15 +45,15 @@ module _ (word : Bytes) (i v : ℕ) (h : i < length word) where
   hex-more n = hex-at ∙ rw (add-one) (simp (lt-ltb _ _ n))
 
 -- where a word ends, the number is read
-pub decimal-end : (word : Bytes) (i v : ℕ) → i ≤ length word → length word ≤ i → decimal_from v (drop i word) ≡ Is v
+pub decimal-end : (word : Bytes) (i v : ℕ) → i ≤ length word → length word ≤ i → decimal_from v (drop i word) ≡ Some v
 unfolding decimal_from
 decimal-end word i v a b = let e : i ≡ length word = omega arith in rw (e, drop-length)
 
-pub hex-end : (word : Bytes) (i v : ℕ) → i ≤ length word → length word ≤ i → hex_from v (drop i word) ≡ Is v
+pub hex-end : (word : Bytes) (i v : ℕ) → i ≤ length word → length word ≤ i → hex_from v (drop i word) ≡ Some v
 unfolding hex_from
 hex-end word i v a b = let e : i ≡ length word = omega arith in rw (e, drop-length)
 
-pub decimal-spare : (word : Bytes) → spare word ≡ true → decimal_of word ≡ Not
+pub decimal-spare : (word : Bytes) → spare word ≡ true → decimal_of word ≡ None
 unfolding decimal_of
 decimal-spare word e = rw e
 
@@ -50,7 +61,7 @@ pub decimal-plain : (word : Bytes) → spare word ≡ false → decimal_of word 
 unfolding decimal_of
 decimal-plain word e = rw e
 
-pub hex-short : (word : Bytes) → (length word ≡ 16 → ⊥) → hex_of word ≡ Not
+pub hex-short : (word : Bytes) → (length word ≡ 16 → ⊥) → hex_of word ≡ None
 unfolding hex_of
 hex-short word n = rw (ne_eqb _ _ n)
 
@@ -60,22 +71,22 @@ hex-long word e = rw (eq-eqb _ _ e)
 
 -- ---- spare digits
 
-pub spare-none : (word : Bytes) → length word ≡ 0 → spare word ≡ true
+pub spare-none : (word : Bytes) → eqb (length word) 0 ≡ true → spare word ≡ true
 unfolding spare
 spare-none [] e = refl
-spare-none (b ∷ bs) e = absurd (omega arith)
+spare-none (b ∷ bs) e = absurd (omega (arith, eqb-true _ _ e))
 
-pub spare-one : (word : Bytes) → length word ≡ 1 → spare word ≡ false
+pub spare-one : (word : Bytes) → eqb (length word) 0 ≡ false → length word ≤ 1 → spare word ≡ false
 unfolding spare
-spare-one [] e = absurd (omega arith)
-spare-one (b ∷ []) e = refl
-spare-one (b ∷ (c ∷ bs)) e = absurd (omega arith)
+spare-one [] e h = cc
+spare-one (b ∷ []) e h = refl
+spare-one (b ∷ (c ∷ bs)) e h = absurd (omega arith)
 
-pub spare_more : (word : Bytes) → (length word ≡ 0 → ⊥) → (length word ≡ 1 → ⊥) → spare word ≡ eqb (get_or word 0 0) 48
+pub spare_more : (word : Bytes) → 1 < length word → spare word ≡ eqb (get_or word 0 0) 48
 unfolding spare
-spare_more [] n m = absurd (n refl)
-spare_more (b ∷ []) n m = absurd (m refl)
-spare_more (b ∷ (c ∷ bs)) n m = refl
+spare_more [] h = absurd (omega arith)
+spare_more (b ∷ []) h = absurd (omega arith)
+spare_more (b ∷ (c ∷ bs)) h = refl
 
 -- ---- printing
 

@@ -3,34 +3,30 @@ use Rattle.prelude.proofs.Prelude.{◌≡◌, refl, sym, ap, ◌∙◌, Bool, tr
 use native.Mathlib.Nat.{mul_assoc, pow-succ', pow-le-pow_right, le_refl, one-mul}
 use native.Mathlib.Decide.{dec_lt, ℕ_discrete}
 use borrow.Author.Tests.{leb-true}
-use Rattle.text_numbers.specs.declared.Number.TheVariants.{Is, Not}
+use Rattle.std.specs.Prelude.{Some, None}
 use Rattle.text_numbers.specs.Bytes.{Bytes}
 use Rattle.text_numbers.specs.Words.{digit, decimal_from, spare, decimal_of}
 
--- no number is one
-pub not_is : {k : ℕ} → Not ≡ Is k → ⊥
-not_is e = let z : ◌≡◌ {A = ℕ} 0 1 = cc in omega arith
-
-is_one : {j k : ℕ} → Is j ≡ Is k → j ≡ k
+is_one : {j k : ℕ} → Some j ≡ Some k → j ≡ k
 is_one e = cc
 
 -- one digit more
-module _ (v b k : ℕ) (bs : Bytes) (e : decimal_from v (b ∷ bs) ≡ Is k) where
-  inverse : (digit b < 10) × (10 * v + digit b < 2 ^ 32) × (decimal_from (10 * v + digit b) bs ≡ Is k)
+module _ (v b k : ℕ) (bs : Bytes) (e : decimal_from v (b ∷ bs) ≡ Some k) where
+  inverse : (digit b < 10) × (10 * v + digit b < 2 ^ 32) × (decimal_from (10 * v + digit b) bs ≡ Some k)
   unfolding decimal_from
   inverse = go (dec_lt (digit b) 10) (dec_lt (10 * v + digit b) (2 ^ 32))
     where
-      go : Dec (digit b < 10) → Dec (10 * v + digit b < 2 ^ 32) → (digit b < 10) × (10 * v + digit b < 2 ^ 32) × (decimal_from (10 * v + digit b) bs ≡ Is k)
+      go : Dec (digit b < 10) → Dec (10 * v + digit b < 2 ^ 32) → (digit b < 10) × (10 * v + digit b < 2 ^ 32) × (decimal_from (10 * v + digit b) bs ≡ Some k)
       go (yes p) (yes q) = (p, q, simp (lt-ltb _ _ p, lt-ltb _ _ q) at e)
       go (yes p) (no q) =
           let n : 2 ^ 32 ≤ 10 * v + digit b = omega arith in
-          absurd (not_is (simp (lt-ltb _ _ p, le-ltb _ _ n) at e))
+          let z = simp (lt-ltb _ _ p, le-ltb _ _ n) at e in cc
       go (no p) d =
           let n : 10 ≤ digit b = omega arith in
-          absurd (not_is (simp (le-ltb _ _ n) at e))
+          let z = simp (le-ltb _ _ n) at e in cc
 
 -- digits behind v make it so many times larger
-power : (w : Bytes) (v k : ℕ) → decimal_from v w ≡ Is k → v * 10 ^ length w ≤ k
+power : (w : Bytes) (v k : ℕ) → decimal_from v w ≡ Some k → v * 10 ^ length w ≤ k
 unfolding decimal_from
 power [] v k e = omega (arith, is_one e)
 power (b ∷ bs) v k e =
@@ -44,7 +40,7 @@ power (b ∷ bs) v k e =
     ∙ ap (λ (x : ℕ). x * 10 ^ length bs) (mul_comm v 10) in
     omega (arith, h, m, q)
 
-below : (w : Bytes) (v k : ℕ) → v < 2 ^ 32 → decimal_from v w ≡ Is k → k < 2 ^ 32
+below : (w : Bytes) (v k : ℕ) → v < 2 ^ 32 → decimal_from v w ≡ Some k → k < 2 ^ 32
 unfolding decimal_from
 below [] v k h e = omega (arith, is_one e)
 below (b ∷ bs) v k h e = let i = inverse v b k bs e in below bs (10 * v + digit b) k i.1 i.2
@@ -70,16 +66,16 @@ zero-digit b e = first_range (leb 48 b) refl (leb b 57) e
     first_range true p false h = second (leb 65 b) (leb b 70) refl h
     first_range false p t h = second (leb 65 b) (leb b 70) refl h
 
-pub decimal-size : (w : Bytes) (k j : ℕ) → decimal_of w ≡ Is k → k < 10 ^ j → 1 ≤ j → length w ≤ j
+pub decimal-size : (w : Bytes) (k j : ℕ) → decimal_of w ≡ Some k → k < 10 ^ j → 1 ≤ j → length w ≤ j
 unfolding decimal_of spare
-decimal-size [] k j e h o = absurd (not_is e)
+decimal-size [] k j e h o = cc
 decimal-size (b ∷ []) k j e h o = o
 decimal-size (b ∷ (c ∷ bs)) k j e h o = go (ℕ_discrete b 48)
   where
     go : Dec (b ≡ 48) → length (b ∷ (c ∷ bs)) ≤ j
-    go (yes p) = absurd (not_is (simp (eq-eqb _ _ p) at e))
+    go (yes p) = let z = simp (eq-eqb _ _ p) at e in cc
     go (no n) =
-        let f : decimal_from 0 (b ∷ (c ∷ bs)) ≡ Is k = simp (ne_eqb _ _ n) at e in
+        let f : decimal_from 0 (b ∷ (c ∷ bs)) ≡ Some k = simp (ne_eqb _ _ n) at e in
         let i = inverse 0 b k (c ∷ bs) f in
         let g : (10 * 0 + digit b) * 10 ^ length (c ∷ bs) ≤ k = power (c ∷ bs) (10 * 0 + digit b) k i.2 in
         long (dec_lt (length (c ∷ bs)) j) g
@@ -98,10 +94,10 @@ decimal-size (b ∷ (c ∷ bs)) k j e h o = go (ℕ_discrete b 48)
             let q : 1 * 10 ^ length (c ∷ bs) ≤ (10 * 0 + digit b) * 10 ^ length (c ∷ bs) = mul-le-mul one (le_refl (10 ^ length (c ∷ bs))) in
             absurd (omega (arith, p, q, one-mul (10 ^ length (c ∷ bs)), g, h))
 
-pub decimal-below : (w : Bytes) (k : ℕ) → decimal_of w ≡ Is k → k < 2 ^ 32
+pub decimal-below : (w : Bytes) (k : ℕ) → decimal_of w ≡ Some k → k < 2 ^ 32
 unfolding decimal_of
 decimal-below w k e = go (spare w) e
   where
-    go : (t : Bool) → cond t Not (decimal_from 0 w) ≡ Is k → k < 2 ^ 32
-    go true h = absurd (not_is h)
+    go : (t : Bool) → cond t None (decimal_from 0 w) ≡ Some k → k < 2 ^ 32
+    go true h = cc
     go false h = below w 0 k (lit< tt) h

@@ -1,5 +1,5 @@
 -- Laws of writing: nothing, one byte, one text behind another, and the length, which stays.
-use Rattle.prelude.proofs.Prelude.{◌≡◌, refl, sym, ap, ◌∙◌, [], ◌∷◌, ◌++◌, ℕ, suc, ◌+◌, ◌<◌, add-one, arith, length, get_or, take, drop, ◌/◌, ◌%◌, append_assoc, append-nil, add-zero, add_assoc, set, length-append, length-take, length-drop, take-append-drop, take_at, drop-drop, length-take-le, take-suc, drop-cons, get_or-set_same}
+use Rattle.prelude.proofs.Prelude.{◌≡◌, refl, sym, ap, ◌∙◌, [], ◌∷◌, ◌++◌, ℕ, suc, ◌+◌, ◌<◌, add-one, arith, length, take, drop, ◌/◌, ◌%◌, append_assoc, append-nil, add-zero, add_assoc, set, length-append, length-take, length-drop, take-append-drop, take_at, drop-drop, drop-cons, get_or-set_same}
 use lib.Seq.{set_split, append_snoc, drop-append-add, lt-length-set, drop-set-lt, take-set-le}
 use Rattle.text_numbers.specs.Bytes.{Bytes}
 use Rattle.text_numbers.specs.Words.{glyph, digits}
@@ -70,16 +70,10 @@ one_byte out at b h = record { here = refl; there = written-set out at b h }
 pub wrote-length : {out left : Bytes} {at next : ℕ} {bs : Bytes} → HasRoom out at bs → Wrote out at bs next left → length left ≡ length out
 wrote-length {out} {left} {at} {next} {bs} room w = ap length w.there ∙ length-written out at bs room
 
--- a text byte by byte, upward
-pub next-byte : (out left : Bytes) (at i : ℕ) (text : Bytes) → HasRoom out at text → i < length text
-    → Wrote out at (take i text) (at + i) left → Wrote out at (take (i + 1) text) (at + (i + 1)) (set left (at + i) (get_or text i 0))
-next-byte out left at i text room h w =
-    let k : length (take i text) ≡ i = length-take-le i text (omega arith) in
-    let r : HasRoom out at (take i text) = omega arith in
-    let n : length left ≡ length out = wrote-length r w in
-    let e : take (i + 1) text ≡ take i text ++ (get_or text i 0 ∷ []) = rw add-one (take-suc text i 0 h) in
-    rw (e, ← add_assoc at i 1)
-    (then (omega (arith, length-append (take i text) (get_or text i 0 ∷ []))) w (one_byte left (at + i) (get_or text i 0) (omega arith)))
+-- a text copied into a part that is lent, and comes back
+pub put-part : (out text part : Bytes) (at n : ℕ) → n ≡ length text → part ≡ text → take at out ++ (part ++ drop n (drop at out)) ≡ written out at text
+unfolding written
+put-part out text part at n e p = rw (p, e, drop-drop, append_assoc)
 
 -- a number digit by digit, downward
 pub next-digit : (out : Bytes) (at b i n : ℕ) → at + i < length out

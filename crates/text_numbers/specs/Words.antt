@@ -1,8 +1,6 @@
 -- Words: decimal numbers and hexadecimal words, how they are read and how they are printed.
 use Rattle.std.specs.Prelude.{ℕ, zero, suc, ◌+◌, ◌-◌, ◌*◌, ◌/◌, ◌%◌, ◌^◌}
-use Rattle.std.specs.Prelude.{Bool, true, false, ◌&&◌, cond, [], ◌∷◌, ◌++◌, eqb, leb, ltb, length}
-use Rattle.text_numbers.specs.declared.Number.{Number}
-use Rattle.text_numbers.specs.declared.Number.TheVariants.{Is, Not}
+use Rattle.std.specs.Prelude.{Bool, true, false, ◌&&◌, cond, [], ◌∷◌, ◌++◌, eqb, leb, ltb, length, Option, Some, None}
 use Rattle.text_numbers.specs.Bytes.{Bytes}
 
 -- ---- reading
@@ -15,11 +13,11 @@ digit b =
     (cond (leb 97 b && leb b 102) (b - 87) 16))
 
 -- v, and decimal digits behind it: below 2^32 throughout
-unfoldable pub decimal_from : ℕ → Bytes → Number
+unfoldable pub decimal_from : ℕ → Bytes → Option ℕ
 unfolding digit
-decimal_from v [] = Is v
+decimal_from v [] = Some v
 decimal_from v (b ∷ bs) =
-    cond (ltb (digit b) 10) (cond (ltb (10 * v + digit b) (2 ^ 32)) (decimal_from (10 * v + digit b) bs) Not) Not
+    cond (ltb (digit b) 10) (cond (ltb (10 * v + digit b) (2 ^ 32)) (decimal_from (10 * v + digit b) bs) None) None
 
 -- no digit at all, or a 0 before other digits
 unfoldable pub spare : Bytes → Bool
@@ -28,20 +26,20 @@ spare (b ∷ []) = false
 spare (b ∷ (c ∷ bs)) = eqb b 48
 
 -- a decimal number without spare zeros, below 2^32
-unfoldable pub decimal_of : Bytes → Number
+unfoldable pub decimal_of : Bytes → Option ℕ
 unfolding spare decimal_from
-decimal_of w = cond (spare w) Not (decimal_from 0 w)
+decimal_of w = cond (spare w) None (decimal_from 0 w)
 
 -- v, and hexadecimal digits behind it
-unfoldable pub hex_from : ℕ → Bytes → Number
+unfoldable pub hex_from : ℕ → Bytes → Option ℕ
 unfolding digit
-hex_from v [] = Is v
-hex_from v (b ∷ bs) = cond (ltb (digit b) 16) (hex_from (16 * v + digit b) bs) Not
+hex_from v [] = Some v
+hex_from v (b ∷ bs) = cond (ltb (digit b) 16) (hex_from (16 * v + digit b) bs) None
 
 -- 16 hexadecimal digits of either case
-unfoldable pub hex_of : Bytes → Number
+unfoldable pub hex_of : Bytes → Option ℕ
 unfolding hex_from
-hex_of w = cond (eqb (length w) 16) (hex_from 0 w) Not
+hex_of w = cond (eqb (length w) 16) (hex_from 0 w) None
 
 -- ---- printing
 

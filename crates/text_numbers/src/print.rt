@@ -1,5 +1,6 @@
 // Printing: each function writes one text at an index of the output, and those that others call answer the next index.
 // They are called where there is room for the text.
+// Output and index go side by side: tried as a struct, but behind a second `&mut` its slice is lost, and reduce_text!print did not close.
 ghost use Rattle.std.specs.Prelude.{◌≡◌, ◌∷◌, [], ◌+◌, ◌<◌, ◌≤◌, length};
 ghost use Rattle.text_numbers.specs.Words.{glyph as glyphOf, digits, places as places_of, decimal, hex};
 ghost use Rattle.text_numbers.specs.Inner.Writing.{HasRoom, Wrote, written};
@@ -9,9 +10,10 @@ fn glyph(d: u64) -> u8
     ensures { result ≡ glyphOf d }
 {
     if d < 10 {
-        return 48 + d as u8;
+        b'0' + d as u8
+    } else {
+        b'a' + (d as u8 - 10)
     }
-    87 + d as u8
 }
 
 // The last k digits of n in a base up to 16.
@@ -19,28 +21,24 @@ fn spell(out: &mut [u8], at: usize, base: u64, k: usize, n: u64)
     requires { (0 < base) × (base ≤ 16) × (at + k ≤ length out.old) }
     ensures { out.new ≡ written out.old at (digits base k n) }
 {
-    let mut i = k;
     let mut rest = n;
-    while i > 0 {
-        i -= 1;
+    for i in (0..k).rev() {
         out[at + i] = glyph(rest % base);
-        rest = rest / base;
+        rest /= base;
     }
 }
 
 fn places(n: u64) -> usize
     ensures { (result ≡ places_of 20 n) × (result ≤ 20) }
 {
-    let mut k = 1;
     let mut rest = n;
-    while k < 20 {
+    for k in 1..20 {
         if rest < 10 {
             return k;
         }
-        rest = rest / 10;
-        k += 1;
+        rest /= 10;
     }
-    k
+    20
 }
 
 // Writes n in decimal from place `at` on; the place behind it.
@@ -76,10 +74,7 @@ pub fn put(out: &mut [u8], at: usize, text: &[u8]) -> usize
     requires { HasRoom out.old at text.now }
     ensures { Wrote out.old at text.now result out.new }
 {
-    let mut i = 0;
-    while i < text.len() {
-        out[at + i] = text[i];
-        i += 1;
-    }
-    at + i
+    let next = at + text.len();
+    out[at..next].copy_from_slice(text);
+    next
 }

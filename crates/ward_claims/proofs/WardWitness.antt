@@ -3,7 +3,7 @@
 use Rattle.prelude.proofs.Prelude.{refl, List, [], ◌∷◌, ℕ, lit<, lit≤, binary64, of_bits, sub, mul, div, lt, eq, of_int}
 use Rattle.complex.specs.{cadd, csub, cmul, cdiv, complex_inv, entry, magnitude, entry_at, zeros, Zero}
 use Rattle.binary64.specs.Root.{root}
-use Rattle.lists.specs.Buses.{up_to, all_below}
+use Rattle.lists.specs.Buses.{up_to}
 use Rattle.lists.proofs.Each.{of-each}
 use Rattle.binary64.specs.Values.{all_finite}
 use Rattle.binary64.specs.BitPatterns.{of_bit_patterns}
@@ -66,7 +66,7 @@ o = record { y-ward = zeros 18; p-ward = zeros 2; q-ward = zeros 2; work = zeros
 
 -- to open this is to open all that a study computes with
 unfoldable pub studied : Unit {0}
-unfolding in_rows extended_in_rows of_bit_patterns given_of old ZeroRow after_compute after_compute_extended all_below up_to solution singular_system skipped
+unfolding in_rows extended_in_rows of_bit_patterns given_of old ZeroRow after_compute after_compute_extended up_to solution singular_system skipped
     cadd csub cmul cdiv complex_inv entry entry_at magnitude root of_bits of_int sub mul div lt eq all_finite
     of_search of_scaling of_reducing steps_of_row steps_of_rows steps_from steps_of_run steps_of_solve numbers_in then_work of_extended
 studied = tt

@@ -5,25 +5,26 @@ use Rattle.refusals.specs.declared.Allowance.{Allowance}
 use Rattle.refusals.specs.declared.Allowance.TheVariants.{Unlimited, Rows}
 use Rattle.refusals.specs.Work.{Step, computing, reductions, meets, granted, work_refusal, then_work, ◌no_more_than◌, allowed_rows}
 use Rattle.binary64.specs.Values.{all_finite}
-use Rattle.refusals.specs.Refusals.{then_given}
-use Rattle.refusals.proofs.Answering.{then-none}
-use Rattle.refusals.proofs.Work.{meets-after, meets-first, numbers-met, meets-within, larger-work, from-count, unlimited-met, allowed-met, count-both, none-counted}
+use Rattle.refusals.specs.Refusals.{answered, number_of, then_given}
+use Rattle.refusals.proofs.Answering.{then-none, accepted, Told, told-given, number_of-answered}
+use Rattle.refusals.proofs.Work.{told-work, meets-after, meets-first, numbers-met, meets-within, larger-work, from-count, unlimited-met, allowed-met, count-both, none-counted}
 use Rattle.lists.specs.Buses.{rows_in}
 use Rattle.lists.proofs.Lookups.{length-rows_in}
 use Rattle.ward_equivalent.specs.declared.answers.WardSummary.{WardSummary}
-use Rattle.ward_equivalent.specs.declared.answers.WardAnswer.{WardAnswer}
-use Rattle.ward_equivalent.specs.declared.answers.WardAnswer.TheVariants.{Done, Refused}
+use Rattle.std.proofs.Common.{Result, Ok, Err}
+use Rattle.refusals.specs.declared.Refusal.{Refusal}
+use Rattle.refusals.specs.declared.Refusal.TheVariants.{BeyondAllowance}
 use Rattle.ward_equivalent.specs.Ward.{Study, Outputs, given_of, externals, retained, listed}
 use Rattle.ward_equivalent.specs.Extended.{ExtendedStudy, ExtendedOutputs}
 use Rattle.ward_equivalent.specs.Steps.{of_each, of_correction, steps_of, steps_of_extended}
-use Rattle.ward_equivalent.specs.Studied.{summary, ward_answer, ward_number, outputs_after, AfterWard, studied, extended_outputs_after, AfterExtended, studied_extended}
+use Rattle.ward_equivalent.specs.Studied.{summary, outputs_after, AfterWard, studied, extended_outputs_after, AfterExtended, studied_extended}
 use Rattle.ward_equivalent.specs.Numbers.{NumberedStudy, NumberedExtended, lengths_of, extended_lengths_of, in_rows, extended_in_rows, bus_refusal, ward_shape_refusal, ward_refusal, extended_shape_refusal, extended_refusal, after_compute, after_compute_extended}
 use Rattle.ward_equivalent.specs.Allowances.{most_rows, StudyAllowances}
 use Rattle.ward_equivalent.proofs.Told.{Fitting, told-most}
-use Rattle.ward_equivalent.proofs.Named.{bus-most}
+use Rattle.ward_equivalent.proofs.Named.{bus-most, told-lengths, told-buses}
 use Rattle.ward_equivalent.proofs.Steps.{rows_of_solve, singular_study, study-count, study-bound}
 use Rattle.ward_equivalent.proofs.Meeting.{study-met}
-use Rattle.ward_equivalent.proofs.Extended.{correction_numbers, number-answered, done-is}
+use Rattle.ward_equivalent.proofs.Extended.{correction_numbers}
 
 -- ---- the bound, of rows and of numbers
 
@@ -69,7 +70,7 @@ few-rows N o F =
 
 module _ (S : Study) (o : Outputs) (told : ℕ) where
   by : ℕ → AfterWard
-  by met = record { answer = ward_answer (cond (eqb told 0) met told) (summary S); outputs = outputs_after S told (cond (eqb told 0) met told) o }
+  by met = record { answer = answered (summary S) (cond (eqb told 0) met told); outputs = outputs_after S told (cond (eqb told 0) met told) o }
 
   studied-by : (a : Allowance) → studied S a o told ≡ by (work_refusal a (steps_of S))
   unfolding studied then_work by
@@ -80,7 +81,7 @@ module _ (S : Study) (o : Outputs) (told : ℕ) where
 
 module _ (X : ExtendedStudy) (o : ExtendedOutputs) (told : ℕ) where
   by_x : ℕ → AfterExtended
-  by_x met = record { answer = ward_answer (cond (eqb told 0) met told) (summary X.study); outputs = extended_outputs_after X told (cond (eqb told 0) met told) o }
+  by_x met = record { answer = answered (summary X.study) (cond (eqb told 0) met told); outputs = extended_outputs_after X told (cond (eqb told 0) met told) o }
 
   extended-by : (a : Allowance) → studied_extended X a o told ≡ by_x (work_refusal a (steps_of_extended X))
   unfolding studied_extended then_work by_x
@@ -105,24 +106,24 @@ allowed-extended X o F a =
 -- ---- what an allowance alters
 
 -- an answer of a call by the number that its work meets; the input's refusal is none of the work's
-module _ (es : List Step) (s : WardSummary) (told : ℕ) (other : told ≡ 18 → ⊥) where
-  answer : Allowance → WardAnswer
-  answer a = ward_answer (then_work told a es) s
+module _ (es : List Step) (s : WardSummary) (told : ℕ) (numbered : Told told) (other : told ≡ 18 → ⊥) where
+  answer : Allowance → Result WardSummary Refusal
+  answer a = answered s (then_work told a es)
 
-  met-number : (a : Allowance) → answer a ≡ Refused 18 → (told ≡ 0) × (work_refusal a es ≡ 18)
-  unfolding answer then_work ward_number
-  met-number a h = pick told other (sym (number-answered (cond (eqb told 0) (work_refusal a es) told) s) ∙ ap ward_number h)
+  met-number : (a : Allowance) → answer a ≡ Err BeyondAllowance → (told ≡ 0) × (work_refusal a es ≡ 18)
+  unfolding answer then_work
+  met-number a h = pick told other (sym (told-work told a es numbered) ∙ sym (number_of-answered s (then_work told a es)) ∙ ap number_of h)
     where
       pick : (t : ℕ) → (t ≡ 18 → ⊥) → cond (eqb t 0) (work_refusal a es) t ≡ 18 → (t ≡ 0) × (work_refusal a es ≡ 18)
       pick zero l e = (refl, e)
       pick (suc t) l e = absurd (l (simp eqb-suc-zero at e))
 
-  met-answer : (a : Allowance) → told ≡ 0 → work_refusal a es ≡ 18 → answer a ≡ Refused 18
-  unfolding answer then_work ward_answer
+  met-answer : (a : Allowance) → told ≡ 0 → work_refusal a es ≡ 18 → answer a ≡ Err BeyondAllowance
+  unfolding answer then_work answered
   met-answer a z e = rw (z, e)
 
   -- a refused input is told whatever the work would meet
-  pub larger-number : (a b : Allowance) → a no_more_than b → (ward_answer (then_work told a es) s ≡ Refused 18 → ⊥) → then_work told b es ≡ then_work told a es
+  pub larger-number : (a b : Allowance) → a no_more_than b → (answered s (then_work told a es) ≡ Err BeyondAllowance → ⊥) → then_work told b es ≡ then_work told a es
   unfolding answer then_work
   larger-number a b h kept = pick told refl
     where
@@ -130,7 +131,7 @@ module _ (es : List Step) (s : WardSummary) (told : ℕ) (other : told ≡ 18 �
       pick zero e = larger-work a b h es (λ m. kept (met-answer a e m))
       pick (suc t) e = simp eqb-suc-zero
 
-  pub never-eighteen : ward_answer (then_work told Unlimited es) s ≡ Refused 18 → ⊥
+  pub never-eighteen : answered s (then_work told Unlimited es) ≡ Err BeyondAllowance → ⊥
   unfolding answer
   never-eighteen h = unlimited-met es (met-number Unlimited h).1
 
@@ -154,18 +155,26 @@ extended-told X o =
     given-other (extended_shape_refusal X o) (given_of X.study.study ++ X.v-ext)
     (told-most (extended_lengths_of X o) (bus_refusal X.study.numbers (listed X.study.study)) (bus-most X.study.numbers (listed X.study.study)))
 
-larger-study : (N : NumberedStudy) (a b : Allowance) (o : Outputs) → a no_more_than b → ((after_compute N a o).answer ≡ Refused 18 → ⊥) → after_compute N b o ≡ after_compute N a o
+pub ward-numbered : (N : NumberedStudy) (o : Outputs) → Told (ward_refusal N o)
+unfolding ward_refusal ward_shape_refusal
+ward-numbered N o = told-given _ (given_of N.study) (told-lengths (lengths_of N o) _ (told-buses N.numbers (listed N.study)))
+
+pub extended-numbered : (X : NumberedExtended) (o : ExtendedOutputs) → Told (extended_refusal X o)
+unfolding extended_refusal extended_shape_refusal
+extended-numbered X o = told-given _ (given_of X.study.study ++ X.v-ext) (told-lengths (extended_lengths_of X o) _ (told-buses X.study.numbers (listed X.study.study)))
+
+larger-study : (N : NumberedStudy) (a b : Allowance) (o : Outputs) → a no_more_than b → ((after_compute N a o).answer ≡ Err BeyondAllowance → ⊥) → after_compute N b o ≡ after_compute N a o
 unfolding after_compute studied
 larger-study N a b o h other =
-    ap (λ (n : ℕ). record { answer = ward_answer n (summary (in_rows N)); outputs = outputs_after (in_rows N) (ward_refusal N o) n o })
-    (larger-number (steps_of (in_rows N)) (summary (in_rows N)) (ward_refusal N o) (ward-told N o) a b h other)
+    ap (λ (n : ℕ). record { answer = answered (summary (in_rows N)) n; outputs = outputs_after (in_rows N) (ward_refusal N o) n o })
+    (larger-number (steps_of (in_rows N)) (summary (in_rows N)) (ward_refusal N o) (ward-numbered N o) (ward-told N o) a b h other)
 
-larger-extended : (X : NumberedExtended) (a b : Allowance) (o : ExtendedOutputs) → a no_more_than b → ((after_compute_extended X a o).answer ≡ Refused 18 → ⊥) → after_compute_extended X b o ≡ after_compute_extended X a o
+larger-extended : (X : NumberedExtended) (a b : Allowance) (o : ExtendedOutputs) → a no_more_than b → ((after_compute_extended X a o).answer ≡ Err BeyondAllowance → ⊥) → after_compute_extended X b o ≡ after_compute_extended X a o
 unfolding after_compute_extended studied_extended
 larger-extended X a b o h other =
     let E = extended_in_rows X in
-    ap (λ (n : ℕ). record { answer = ward_answer n (summary E.study); outputs = extended_outputs_after E (extended_refusal X o) n o })
-    (larger-number (steps_of_extended E) (summary E.study) (extended_refusal X o) (extended-told X o) a b h other)
+    ap (λ (n : ℕ). record { answer = answered (summary E.study) n; outputs = extended_outputs_after E (extended_refusal X o) n o })
+    (larger-number (steps_of_extended E) (summary E.study) (extended_refusal X o) (extended-numbered X o) (extended-told X o) a b h other)
 
 from-bound : (N : NumberedStudy) (m : ℕ) (o : Outputs) → most_rows N.study ≤ m → after_compute N (Rows m) o ≡ after_compute N Unlimited o
 unfolding after_compute
@@ -180,28 +189,28 @@ from-bound-extended X m o h =
     let same = extended-count (extended_in_rows X) in
     extended-same (extended_in_rows X) o (extended_refusal X o) Unlimited (Rows m) (from-count m (steps_of_extended (extended_in_rows X)) (omega arith))
 
-unlimited : (N : NumberedStudy) (o : Outputs) → (after_compute N Unlimited o).answer ≡ Refused 18 → ⊥
+unlimited : (N : NumberedStudy) (o : Outputs) → (after_compute N Unlimited o).answer ≡ Err BeyondAllowance → ⊥
 unfolding after_compute studied
-unlimited N o = never-eighteen (steps_of (in_rows N)) (summary (in_rows N)) (ward_refusal N o) (ward-told N o)
+unlimited N o = never-eighteen (steps_of (in_rows N)) (summary (in_rows N)) (ward_refusal N o) (ward-numbered N o) (ward-told N o)
 
-unlimited-extended : (X : NumberedExtended) (o : ExtendedOutputs) → (after_compute_extended X Unlimited o).answer ≡ Refused 18 → ⊥
+unlimited-extended : (X : NumberedExtended) (o : ExtendedOutputs) → (after_compute_extended X Unlimited o).answer ≡ Err BeyondAllowance → ⊥
 unfolding after_compute_extended studied_extended
-unlimited-extended X o = never-eighteen (steps_of_extended (extended_in_rows X)) (summary (extended_in_rows X).study) (extended_refusal X o) (extended-told X o)
+unlimited-extended X o = never-eighteen (steps_of_extended (extended_in_rows X)) (summary (extended_in_rows X).study) (extended_refusal X o) (extended-numbered X o) (extended-told X o)
 
 -- an accepted study
-answer-within : (es : List Step) (s s' : WardSummary) (told m : ℕ) → s.rows_reduced ≡ reductions es → Done s' ≡ ward_answer (then_work told (Rows m) es) s → s'.rows_reduced ≤ m
+answer-within : (es : List Step) (s s' : WardSummary) (told m : ℕ) → s.rows_reduced ≡ reductions es → Ok s' ≡ answered s (then_work told (Rows m) es) → s'.rows_reduced ≤ m
 unfolding then_work work_refusal granted
 answer-within es s s' told m count h =
-    let (z, same) = done-is (cond (eqb told 0) (meets m es) told) s s' h in
+    let (z, same) = accepted (tt {0}) s (cond (eqb told 0) (meets m es) told) s' h in
     let most = meets-within m es (then-none told (meets m es) z).1 in
     let rows : s'.rows_reduced ≡ s.rows_reduced = ap (λ (x : WardSummary). x.rows_reduced) same in
     omega arith
 
-within : (N : NumberedStudy) (m : ℕ) (o : Outputs) (s : WardSummary) → (after_compute N (Rows m) o).answer ≡ Done s → s.rows_reduced ≤ m
+within : (N : NumberedStudy) (m : ℕ) (o : Outputs) (s : WardSummary) → (after_compute N (Rows m) o).answer ≡ Ok s → s.rows_reduced ≤ m
 unfolding after_compute studied summary
 within N m o s h = answer-within (steps_of (in_rows N)) (summary (in_rows N)) s (ward_refusal N o) m refl (sym h)
 
-within-extended : (X : NumberedExtended) (m : ℕ) (o : ExtendedOutputs) (s : WardSummary) → (after_compute_extended X (Rows m) o).answer ≡ Done s → s.rows_reduced ≤ m
+within-extended : (X : NumberedExtended) (m : ℕ) (o : ExtendedOutputs) (s : WardSummary) → (after_compute_extended X (Rows m) o).answer ≡ Ok s → s.rows_reduced ≤ m
 unfolding after_compute_extended studied_extended summary
 within-extended X m o s h =
     answer-within (steps_of_extended (extended_in_rows X)) (summary (extended_in_rows X).study) s (extended_refusal X o) m (sym (extended-count (extended_in_rows X))) (sym h)

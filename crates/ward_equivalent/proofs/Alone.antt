@@ -6,8 +6,8 @@ use Rattle.complex.proofs.Matrices.{entry-grid}
 use Rattle.complex.proofs.Sticky.{Finite}
 use Rattle.complex.proofs.FiniteEntries.{AllFinite, slice-entries}
 use Rattle.refusals.specs.Work.{computing}
-use Rattle.solver.specs.declared.elimination.Eliminated.{Eliminated}
-use Rattle.solver.specs.declared.elimination.Eliminated.TheVariants.{Done}
+use Rattle.std.proofs.Common.{Result, Ok}
+use Rattle.refusals.specs.declared.Refusal.{Refusal}
 use Rattle.solver.specs.GaussJordan.{augmented}
 use Rattle.solver.specs.Solving.{operations, solve}
 use Rattle.solver.specs.Steps.{steps_of_solve}
@@ -44,12 +44,12 @@ module _ (n : ℕ) (ys : List Float) (es : List ℕ) (listing : Listing n ys es)
     pub set-finite : length ws ≡ 2 * (length es * (length es + 1)) → AllFinite (length es) 1 (λ (r k : ℕ). b r) → T (all_finite ws)
     set-finite long h = filled-finite (length es) 1 (external_part n ys es) (λ (r c : ℕ). b r) ws set-beside long part-finite h
 
-    module _ (allowed : ℕ) (end : Eliminated) (after : List Float) (met : Met (length es) (length es + 1) allowed end ws after) where
+    module _ (allowed : ℕ) (end : Result ℕ Refusal) (after : List Float) (met : Met (length es) (length es + 1) allowed end ws after) where
       pub alone-ended : Ended allowed end (steps_of_solve (length es) (external_part n ys es) b)
       unfolding steps_of_solve
       alone-ended = ended_is (length es) 1 (external_part n ys es) (λ (r c : ℕ). b r) ws set-beside allowed end after met
 
-      pub alone-solution : (left : ℕ) → end ≡ Done left → (k : ℕ) → k < length es → entry_at (length es + 1) after k (length es) ≡ solve (length es) (external_part n ys es) b k
+      pub alone-solution : (left : ℕ) → end ≡ Ok left → (k : ℕ) → k < length es → entry_at (length es + 1) after k (length es) ≡ solve (length es) (external_part n ys es) b k
       unfolding right_sides
       alone-solution left d k h =
           let last : length es + 0 ≡ length es = omega arith in
@@ -62,12 +62,12 @@ module _ (n : ℕ) (ys : List Float) (es : List ℕ) (listing : Listing n ys es)
     pub column-set : length ws ≡ 2 * (length es * (length es + 1)) → T (all_finite ws)
     column-set long = set-finite (external_column n ys es bus) ws set long (column-finite bus inside)
 
-    module _ (allowed : ℕ) (end : Eliminated) (after : List Float) (met : Met (length es) (length es + 1) allowed end ws after) where
+    module _ (allowed : ℕ) (end : Result ℕ Refusal) (after : List Float) (met : Met (length es) (length es + 1) allowed end ws after) where
       pub column-ended : Ended allowed end (steps_of_column (columns_input n ys es) bus)
       unfolding steps_of_column y_ee admittance
       column-ended = alone-ended (external_column n ys es bus) ws set allowed end after met
 
-      pub column-solution : (left : ℕ) → end ≡ Done left → (k : ℕ) → k < length es → entry_at (length es + 1) after k (length es) ≡ solve (length es) (external_part n ys es) (external_column n ys es bus) k
+      pub column-solution : (left : ℕ) → end ≡ Ok left → (k : ℕ) → k < length es → entry_at (length es + 1) after k (length es) ≡ solve (length es) (external_part n ys es) (external_column n ys es bus) k
       column-solution = alone-solution (external_column n ys es bus) ws set allowed end after met
 
   -- ---- the currents
@@ -94,7 +94,7 @@ module _ (n : ℕ) (ys : List Float) (es : List ℕ) (listing : Listing n ys es)
     last_entry : (k : ℕ) → k < length es → entry_at (length es + 1) ws k (length es) ≡ external_currents base ps qs k
     last_entry k h = row-set k (length es) h (omega arith) ∙ behind-system k
 
-    pub currents-ended : T (all_finite ws) → (allowed : ℕ) (end : Eliminated) (after : List Float) → Met (length es) (length es + 1) allowed end ws after
+    pub currents-ended : T (all_finite ws) → (allowed : ℕ) (end : Result ℕ Refusal) (after : List Float) → Met (length es) (length es + 1) allowed end ws after
         → Ended allowed end (computing (of_currents (solves_input n ys es base ps qs) (length es)) ++ steps_of_currents (solves_input n ys es base ps qs))
     unfolding steps_of_currents y_ee admittance
     currents-ended finite allowed end after met =
@@ -102,5 +102,5 @@ module _ (n : ℕ) (ys : List Float) (es : List ℕ) (listing : Listing n ys es)
         (currents-tell (solves_input n ys es base ps qs) (length es) λ (k : ℕ) (h : k < length es). subst Finite (last_entry k h) (slice-entries (length es) (length es + 1) ws long finite k (length es) h (omega arith)))
         (alone-ended (external_currents base ps qs) ws row-set allowed end after met)
 
-    pub currents-solution : (allowed : ℕ) (end : Eliminated) (after : List Float) → Met (length es) (length es + 1) allowed end ws after → (left : ℕ) → end ≡ Done left → CurrentsApart n ys es base ps qs after
+    pub currents-solution : (allowed : ℕ) (end : Result ℕ Refusal) (after : List Float) → Met (length es) (length es + 1) allowed end ws after → (left : ℕ) → end ≡ Ok left → CurrentsApart n ys es base ps qs after
     currents-solution allowed end after met left d k h = alone-solution (external_currents base ps qs) ws row-set allowed end after met left d k h

@@ -14,8 +14,8 @@ use Rattle.ward_equivalent.proofs.Sums.{plus0-zero}
 larger-both : (j k : ℕ) (c : Complex) → j ≤ k → Both j c → Both k c
 larger-both j k c l (p, q) = (larger-in j k c.re l p, larger-in j k c.im l q)
 
-both-finite : (k : ℕ) (c : Complex) → Both k c → Finite c
-both-finite k c (p, q) = (in-finite k c.re p, in-finite k c.im q)
+both_finite : (k : ℕ) (c : Complex) → Both k c → Finite c
+both_finite k c (p, q) = (in-finite k c.re p, in-finite k c.im q)
 
 -- what is read from a slice
 pub entry_in : (n w : ℕ) (xs : List Float) → length xs ≡ 2 * (n * w) → T (all_ordinary xs) → (i j : ℕ) → i < n → j < w → Both 200 (entry_at w xs i j)
@@ -49,7 +49,7 @@ module _ (n : ℕ) (a x : ℕ → Complex) (few : n ≤ 256) (rows : (k : ℕ) �
 
   pub entry-below : (own : Complex) → Both 200 own → Finite (csub own (sum_up n (λ (k : ℕ). cmul (a k) (x k))))
   entry-below own h =
-      both-finite 658 (csub own (sum_up n (λ (k : ℕ). cmul (a k) (x k))))
+      both_finite 658 (csub own (sum_up n (λ (k : ℕ). cmul (a k) (x k))))
       (csub-in 657 658 own (sum_up n (λ (k : ℕ). cmul (a k) (x k))) refl (lit≤ tt) (larger-both 200 657 own (lit≤ tt) h) products-in)
 
   pub injection-below : (base : Float) → T (ordinary base)

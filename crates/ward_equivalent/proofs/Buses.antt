@@ -49,7 +49,6 @@ below-others n xs h = all-below n (others (n ∷ []) xs) λ (k : ℕ) (m : k is_
     omega arith
 
 pub distinct-length : (n : ℕ) (xs : List ℕ) → T (all_below n xs) → repeats xs ≡ false → length xs ≤ n
-unfolding all_below
 distinct-length zero [] h d = omega arith
 distinct-length zero (x ∷ xs) h d = absurd (let l : x < 0 = ltb→lt x 0 (and_l (ltb x 0) (all_below 0 xs) h) in omega arith)
 distinct-length (suc n) xs h d =

@@ -3,15 +3,17 @@
 use Rattle.prelude.proofs.Prelude.{◌≡◌, refl, sym, ap, ◌∙◌, false, true≢false, arith, eqb, List, [], ◌∷◌, ℕ, ◌+◌, ◌*◌, length, replicate, Float, binary64, of_bits, span, climb, size, odd, units, round, neg, sum, add, sub, mul, div, lt, eq, of_int, of_fields}
 use Rattle.complex.specs.{entry_at, row, rows, zeros, cadd, csub, cmul, sqmag, cdiv, complex_inv, plus0, one, division_limit, small_magnitude, entry, abs, magnitude}
 use Rattle.lists.specs.Buses.{up_to, place, repeats, within, rows_in}
-use Rattle.ward_equivalent.specs.declared.answers.WardAnswer.{WardAnswer}
-use Rattle.ward_equivalent.specs.declared.answers.WardAnswer.TheVariants.{Done, Refused}
+use Rattle.std.proofs.Common.{Result, Ok, Err}
+use Rattle.refusals.specs.declared.Refusal.{Refusal}
+use Rattle.refusals.specs.declared.Refusal.TheVariants.{ListsDiffer, NoSuchBus, Singular, BeyondAllowance, GivenNotFinite, ComputedNotFinite}
+use Rattle.ward_equivalent.specs.declared.answers.WardSummary.{WardSummary}
 use Rattle.ward_equivalent.specs.Arithmetic.{sum_up, current, injected_p, injected_q}
 use Rattle.ward_equivalent.specs.Ward.{Study, Outputs, given_of, retained, listed, externals, admittance, y_ee, solved_column, row_times, equivalent, solved_currents, boundary_current, injection_p, injection_q, ratio}
-use Rattle.ward_equivalent.specs.Studied.{summary, ward_answer, accepted_outputs, work_after, outputs_after, AfterWard, studied}
+use Rattle.ward_equivalent.specs.Studied.{summary, accepted_outputs, work_after, outputs_after, AfterWard, studied}
 use Rattle.ward_equivalent.specs.Steps.{of_each, steps_of_column, steps_of_currents, of_products, of_row_times, of_equivalent_entry, of_equivalent, of_currents, of_injection, of_injections, of_ratio, steps_of, of_sums, of_ties, of_correction, steps_of_extended}
 use Rattle.ward_equivalent.specs.Calls.{study_of, outputs_of, after_extended}
 use Rattle.refusals.specs.declared.Allowance.TheVariants.{Unlimited, Rows}
-use Rattle.refusals.specs.Refusals.{limit, beyond_allowance, computed_not_finite, then_given}
+use Rattle.refusals.specs.Refusals.{limit, computed_not_finite, refusal, answered, number_of, then_given}
 use Rattle.binary64.specs.Values.{all_finite}
 use Rattle.refusals.specs.Work.{computing, reductions, meets, granted, work_refusal, then_work, ◌no_more_than◌}
 use Rattle.solver.specs.Steps.{of_search, of_scaling, of_reducing, steps_of_row, steps_of_rows, steps_from, steps_of_run, steps_of_solve}
@@ -20,7 +22,6 @@ use Rattle.solver.specs.Solving.{skipped}
 use Rattle.binary64.specs.Root.{root, root_of, whole_root, half, radicand}
 use Rattle.ward_equivalent.specs.Extended.{ExtendedOutputs, add_up, deviation, weight, weight_sum, weighted_sum, mean_of, voltage_correction, reactive, q_compensation}
 use Rattle.ward_equivalent.specs.Studied.{extended_outputs_after, studied_extended}
-use Rattle.ward_equivalent.specs.Studied.{ward_number}
 use Rattle.ward_equivalent.specs.Allowances.{most_rows}
 use Rattle.ward_equivalent.proofs.Allowances.{study-allowances}
 use Rattle.ward_equivalent.specs.Lengths.{over_limit, wrong_lengths, unmatched, length_refusal}
@@ -78,16 +79,16 @@ abbrev under : ℕ → NumberedStudy → AfterWard
 under m N = after_compute N (Rows m) (room N.study)
 
 -- a study that reduces so many rows
-abbrev counting : ℕ → ℕ → Float → ℕ → WardAnswer
-counting n r x rows = Done (record { n_buses_reduced = n; n_buses_equivalent = r; reduction_ratio = x; rows_reduced = rows })
+abbrev counting : ℕ → ℕ → Float → ℕ → Result WardSummary Refusal
+counting n r x rows = Ok (record { n_buses_reduced = n; n_buses_equivalent = r; reduction_ratio = x; rows_reduced = rows })
 
 -- with one external bus or none there is no other row
-abbrev done : ℕ → ℕ → Float → WardAnswer
+abbrev done : ℕ → ℕ → Float → Result WardSummary Refusal
 done n r x = counting n r x 0
 
 -- to open this is to open all that the cases compute with
 opened : Unit {0}
-unfolding computing reductions meets granted work_refusal then_work of_search of_scaling of_reducing steps_of_row steps_of_rows steps_from steps_of_run steps_of_solve of_each steps_of_column steps_of_currents of_products of_row_times of_equivalent_entry of_equivalent of_currents of_injection of_injections of_ratio steps_of retained listed admittance sum_up y_ee solved_column row_times equivalent current injected_p injected_q solved_currents boundary_current injection_p injection_q ratio summary ward_answer accepted_outputs work_after outputs_after studied place repeats within rows_in in_rows over_limit wrong_lengths unmatched length_refusal bus_refusal ward_shape_refusal then_given given_of all_finite ward_refusal after_compute stays held_after pivot_row swapped scaled reduced pivoted cleared gauss_jordan_from gauss_jordan augmented solution singular_system skipped cadd csub cmul sqmag cdiv complex_inv plus0 one division_limit entry abs up_to entry_at row rows zeros of_bits span climb size odd units round neg sum add sub mul div lt eq of_int of_fields
+unfolding computing reductions meets granted work_refusal then_work of_search of_scaling of_reducing steps_of_row steps_of_rows steps_from steps_of_run steps_of_solve of_each steps_of_column steps_of_currents of_products of_row_times of_equivalent_entry of_equivalent of_currents of_injection of_injections of_ratio steps_of retained listed admittance sum_up y_ee solved_column row_times equivalent current injected_p injected_q solved_currents boundary_current injection_p injection_q ratio summary answered accepted_outputs work_after outputs_after studied place repeats within rows_in in_rows over_limit wrong_lengths unmatched length_refusal bus_refusal ward_shape_refusal then_given given_of all_finite ward_refusal after_compute stays held_after pivot_row swapped scaled reduced pivoted cleared gauss_jordan_from gauss_jordan augmented solution singular_system skipped cadd csub cmul sqmag cdiv complex_inv plus0 one division_limit entry abs up_to entry_at row rows zeros of_bits span climb size odd units round neg sum add sub mul div lt eq of_int of_fields
 opened = tt
 
 -- numbers as rows, for what is not about numbers
@@ -124,7 +125,7 @@ no-currents = refl
 -- ---- refused, with every slice as it was but the work slice at 13
 
 abbrev refused : NumberedStudy → ℕ → Type 0
-refused N k = after N ≡ record { answer = Refused k; outputs = room N.study }
+refused N k = after N ≡ record { answer = Err (refusal k); outputs = room N.study }
 
 lacks : refused (study rows-own M [] (2 ∷ []) (0 ∷ []) (z ∷ []) (z ∷ [])) 7
 unfolding opened
@@ -149,7 +150,7 @@ many = refl
 abbrev flat : NumberedStudy
 flat = study rows-own (z ∷ z ∷ z ∷ z ∷ z ∷ z ∷ z ∷ z ∷ []) [] (1 ∷ []) (0 ∷ []) (z ∷ []) (z ∷ [])
 
-pivot : after flat ≡ record { answer = Refused 13; outputs = outputs_of (I ∷ I ∷ []) (I ∷ []) (I ∷ []) (zeros 6) }
+pivot : after flat ≡ record { answer = Err Singular; outputs = outputs_of (I ∷ I ∷ []) (I ∷ []) (I ∷ []) (zeros 6) }
 unfolding opened
 pivot = refl
 
@@ -171,7 +172,7 @@ unfolding opened
 all-four = refl
 
 -- three are enough for either solve, and not for both: every output is as it was, the work slice cleared
-one-too-few : under 3 meshed ≡ record { answer = Refused beyond_allowance; outputs = outputs_of (I ∷ I ∷ []) (I ∷ []) (I ∷ []) (zeros 16) }
+one-too-few : under 3 meshed ≡ record { answer = Err BeyondAllowance; outputs = outputs_of (I ∷ I ∷ []) (I ∷ []) (I ∷ []) (zeros 16) }
 unfolding opened
 one-too-few = refl
 
@@ -179,11 +180,11 @@ one-too-few = refl
 abbrev flat-pair : NumberedStudy
 flat-pair = pair (float 0x4014000000000000 ∷ z ∷ I ∷ z ∷ I ∷ z ∷ I ∷ z ∷ I ∷ z ∷ I ∷ z ∷ I ∷ z ∷ I ∷ z ∷ I ∷ z ∷ [])
 
-pivot-first : (under 1 flat-pair).answer ≡ Refused 13
+pivot-first : (under 1 flat-pair).answer ≡ Err Singular
 unfolding opened
 pivot-first = refl
 
-reduction-first : under 0 flat-pair ≡ record { answer = Refused beyond_allowance; outputs = outputs_of (I ∷ I ∷ []) (I ∷ []) (I ∷ []) (zeros 16) }
+reduction-first : under 0 flat-pair ≡ record { answer = Err BeyondAllowance; outputs = outputs_of (I ∷ I ∷ []) (I ∷ []) (I ∷ []) (zeros 16) }
 unfolding opened
 reduction-first = refl
 
@@ -203,11 +204,11 @@ abbrev baseless : NumberedStudy → NumberedStudy
 baseless N = numbered_of N.numbers (study_of N.study.size N.study.given N.study.internal N.study.external N.study.boundary z N.study.p-ext N.study.q-ext)
 
 -- base 0: the currents are not finite, behind the two row reductions of bus 0's solve
-base-behind : (under 1 (baseless meshed)).answer ≡ Refused beyond_allowance
+base-behind : (under 1 (baseless meshed)).answer ≡ Err BeyondAllowance
 unfolding opened
 base-behind = refl
 
-base-first : under 2 (baseless meshed) ≡ record { answer = Refused computed_not_finite; outputs = outputs_of (I ∷ I ∷ []) (I ∷ []) (I ∷ []) (zeros 16) }
+base-first : under 2 (baseless meshed) ≡ record { answer = Err ComputedNotFinite; outputs = outputs_of (I ∷ I ∷ []) (I ∷ []) (I ∷ []) (zeros 16) }
 unfolding opened
 base-first = refl
 
@@ -217,7 +218,7 @@ unfolding opened
 base-alone = refl
 
 -- 1, 2^600 / 2^600, 1: a product is not finite
-product-first : after (study rows-own (I ∷ z ∷ huge ∷ z ∷ huge ∷ z ∷ I ∷ z ∷ []) [] (1 ∷ []) (0 ∷ []) (C ∷ []) (z ∷ [])) ≡ record { answer = Refused computed_not_finite; outputs = outputs_of (I ∷ I ∷ []) (I ∷ []) (I ∷ []) (zeros 6) }
+product-first : after (study rows-own (I ∷ z ∷ huge ∷ z ∷ huge ∷ z ∷ I ∷ z ∷ []) [] (1 ∷ []) (0 ∷ []) (C ∷ []) (z ∷ [])) ≡ record { answer = Err ComputedNotFinite; outputs = outputs_of (I ∷ I ∷ []) (I ∷ []) (I ∷ []) (zeros 6) }
 unfolding opened
 product-first = refl
 
@@ -237,17 +238,17 @@ quartet s t u =
 
 -- The column of bus 0 overflows in its solve's first reduction, that of bus 1 never: with one reduction allowed it is met, since internal buses
 -- come before boundary ones.
-internal-first : (under 1 (quartet z most (float 0xffefffffffffffff))).answer ≡ Refused computed_not_finite
+internal-first : (under 1 (quartet z most (float 0xffefffffffffffff))).answer ≡ Err ComputedNotFinite
 unfolding opened
 internal-first = refl
 
 -- The entry of bus 0 overflows, and no solve: with two reductions allowed the second column's solve is met before it, with four it is met before
 -- the currents' solve.
-entries-behind : (under 2 (quartet huge huge z)).answer ≡ Refused beyond_allowance
+entries-behind : (under 2 (quartet huge huge z)).answer ≡ Err BeyondAllowance
 unfolding opened
 entries-behind = refl
 
-entries-first : (under 4 (quartet huge huge z)).answer ≡ Refused computed_not_finite
+entries-first : (under 4 (quartet huge huge z)).answer ≡ Err ComputedNotFinite
 unfolding opened
 entries-first = refl
 
@@ -273,12 +274,11 @@ input-first = refl
 
 -- the theorems on allowances at the edges of their premises: what is carried out, what 13 ends and what the input refuses is the same with more
 -- allowed, and the bound is enough
-not_beyond : (a : WardAnswer) → eqb (ward_number a) beyond_allowance ≡ false → a ≡ Refused beyond_allowance → ⊥
-unfolding ward_number
-not_beyond a t e = true≢false (sym (ap (λ (x : WardAnswer). eqb (ward_number x) beyond_allowance) e) ∙ t)
+not_beyond : (a : Result WardSummary Refusal) → eqb (number_of a) 18 ≡ false → a ≡ Err BeyondAllowance → ⊥
+not_beyond a t e = true≢false (sym (ap (λ (x : Result WardSummary Refusal). eqb (number_of x) 18) e) ∙ t)
 
-others : (eqb (ward_number (under 4 meshed).answer) beyond_allowance ≡ false) × (eqb (ward_number (under 1 flat-pair).answer) beyond_allowance ≡ false)
-unfolding opened ward_number
+others : (eqb (number_of (under 4 meshed).answer) 18 ≡ false) × (eqb (number_of (under 1 flat-pair).answer) 18 ≡ false)
+unfolding opened
 others = (refl, refl)
 
 still-done : after meshed ≡ under 4 meshed
@@ -392,7 +392,7 @@ both-q = refl
 abbrev wide-pair : NumberedExtended
 wide-pair = numbered_extended_of meshed (I ∷ I ∷ [])
 
-extended-beyond : after_compute_extended wide-pair (Rows 3) (wide wide-pair) ≡ after_extended (Refused beyond_allowance) (outputs_of (I ∷ I ∷ []) (I ∷ []) (I ∷ []) (zeros 16)) (I ∷ []) (I ∷ [])
+extended-beyond : after_compute_extended wide-pair (Rows 3) (wide wide-pair) ≡ after_extended (Err BeyondAllowance) (outputs_of (I ∷ I ∷ []) (I ∷ []) (I ∷ []) (zeros 16)) (I ∷ []) (I ∷ [])
 unfolding opened-extended
 extended-beyond = refl
 
@@ -400,8 +400,8 @@ extended-four : (after_compute_extended wide-pair (Rows 4) (wide wide-pair)).ans
 unfolding opened-extended
 extended-four = refl
 
-other-extended : eqb (ward_number (after_compute_extended wide-pair (Rows 4) (wide wide-pair)).answer) beyond_allowance ≡ false
-unfolding opened-extended ward_number
+other-extended : eqb (number_of (after_compute_extended wide-pair (Rows 4) (wide wide-pair)).answer) 18 ≡ false
+unfolding opened-extended
 other-extended = refl
 
 still-done-extended : after_compute_extended wide-pair Unlimited (wide wide-pair) ≡ after_compute_extended wide-pair (Rows 4) (wide wide-pair)
@@ -412,11 +412,11 @@ from-four-extended : after_compute_extended wide-pair (Rows 4) (wide wide-pair) 
 unfolding most_rows retained
 from-four-extended = study-allowances.from-bound-extended wide-pair 4 (wide wide-pair) (omega arith)
 
-unlike-v : after_compute_extended (extended 3 []) Unlimited (wide (extended 3 [])) ≡ record { answer = Refused 3; outputs = wide (extended 3 []) }
+unlike-v : after_compute_extended (extended 3 []) Unlimited (wide (extended 3 [])) ≡ record { answer = Err ListsDiffer; outputs = wide (extended 3 []) }
 unfolding opened-extended
 unlike-v = refl
 
-lacks-v : let X = extended 1 (I ∷ []) in after_compute_extended X Unlimited (wide X) ≡ record { answer = Refused 7; outputs = wide X }
+lacks-v : let X = extended 1 (I ∷ []) in after_compute_extended X Unlimited (wide X) ≡ record { answer = Err NoSuchBus; outputs = wide X }
 unfolding opened-extended
 lacks-v = refl
 
@@ -430,7 +430,7 @@ loud-study : (after loud.study).answer ≡ done 2 1 +½
 unfolding opened
 loud-study = refl
 
-loud-correction : after_compute_extended loud Unlimited (wide loud) ≡ after_extended (Refused computed_not_finite) (outputs_of (I ∷ I ∷ []) (I ∷ []) (I ∷ []) (zeros 6)) (I ∷ []) (I ∷ [])
+loud-correction : after_compute_extended loud Unlimited (wide loud) ≡ after_extended (Err ComputedNotFinite) (outputs_of (I ∷ I ∷ []) (I ∷ []) (I ∷ []) (zeros 6)) (I ∷ []) (I ∷ [])
 unfolding opened-extended
 loud-correction = refl
 
@@ -444,6 +444,6 @@ unfolding opened-extended pairs pairs_from pairs_in
 loud-by-law = study-allowances.meets-first-extended (extended_in_rows loud) 0 tt (λ (e : work_refusal Unlimited (steps_of (in_rows loud.study)) ≡ computed_not_finite). true≢false (sym (ap (λ (x : ℕ). eqb x computed_not_finite) e) ∙ loud-unlost))
 
 -- a voltage that is not finite
-v-not-given : let X = extended 3 (infinite ∷ []) in after_compute_extended X Unlimited (wide X) ≡ record { answer = Refused 19; outputs = wide X }
+v-not-given : let X = extended 3 (infinite ∷ []) in after_compute_extended X Unlimited (wide X) ≡ record { answer = Err GivenNotFinite; outputs = wide X }
 unfolding opened-extended
 v-not-given = refl

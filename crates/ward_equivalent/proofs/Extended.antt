@@ -3,12 +3,14 @@ use Rattle.prelude.proofs.Prelude.{◌≡◌, refl, sym, ap, ◌∙◌, subst, B
 use lib.Dec.{eqb-suc-zero}
 use Rattle.binary64.specs.Values.{all_finite}
 use Rattle.complex.specs.{zeros}
-use Rattle.lists.proofs.Scans.{rest-is}
+use Rattle.lists.proofs.Chains.{rest-is}
 use Rattle.ward_equivalent.specs.declared.answers.WardSummary.{WardSummary}
-use Rattle.ward_equivalent.specs.declared.answers.WardAnswer.{WardAnswer}
-use Rattle.ward_equivalent.specs.declared.answers.WardAnswer.TheVariants.{Done, Refused}
+use Rattle.std.proofs.Common.{Result, Ok, Err}
+use Rattle.refusals.specs.declared.Refusal.{Refusal}
+use Rattle.refusals.specs.Refusals.{refusal, answered}
+use Rattle.refusals.proofs.Answering.{accepted}
 use Rattle.ward_equivalent.specs.Ward.{Outputs, admittance}
-use Rattle.ward_equivalent.specs.Studied.{summary, ward_answer, ward_number, AfterWard, studied}
+use Rattle.ward_equivalent.specs.Studied.{summary, AfterWard, studied}
 use Rattle.ward_equivalent.specs.Extended.{ExtendedStudy, ExtendedOutputs, deviation, weight, weight_sum, weighted_sum, voltage_correction, q_compensation}
 use Rattle.ward_equivalent.specs.Studied.{outputs_after, work_after, extended_outputs_after, studied_extended}
 use Rattle.refusals.specs.declared.Allowance.TheVariants.{Rows}
@@ -21,37 +23,14 @@ use Rattle.ward_equivalent.proofs.Tells.{corrections-tell, corrections-told}
 
 -- ---- what an answer says of the refusal
 
-pub number-answered : (k : ℕ) (s : WardSummary) → ward_number (ward_answer k s) ≡ k
-unfolding ward_number ward_answer
-number-answered zero s = refl
-number-answered (suc k) s = refl
-
--- an accepted study has no refusal
-done_none : (k : ℕ) (s s' : WardSummary) → Done s' ≡ ward_answer k s → k ≡ 0
-unfolding ward_number
-done_none k s s' e = sym (ap ward_number e ∙ number-answered k s)
-
-summary_in : WardAnswer → WardSummary → WardSummary
-summary_in (Done s) other = s
-summary_in (Refused k) other = other
-
--- and answers its summary
-pub done-is : (k : ℕ) (s s' : WardSummary) → Done s' ≡ ward_answer k s → (k ≡ 0) × (s' ≡ s)
-unfolding summary_in ward_answer
-done-is k s s' e = let z = done_none k s s' e in (z, ap (λ (a : WardAnswer). summary_in a s) (e ∙ ap (λ (m : ℕ). ward_answer m s) z))
-
-is_done : WardAnswer → Bool
-is_done (Done s) = true
-is_done (Refused k) = false
-
-refused-some : (k j : ℕ) (s : WardSummary) → Refused j ≡ ward_answer k s → eqb k 0 ≡ false
-unfolding ward_answer is_done
-refused-some zero j s e = absurd (subst T (ap is_done (sym e)) tt)
-refused-some (suc k) j s e = eqb-suc-zero k
+refused-some : (k : ℕ) (r : Refusal) (s : WardSummary) → Err r ≡ answered s k → eqb k 0 ≡ false
+unfolding answered
+refused-some zero r s e = absurd (cc)
+refused-some (suc k) r s e = eqb-suc-zero k
 
 -- ---- the slices together
 
-pub same-extended : {r r' : WardAnswer} {o o' : Outputs} {cs cs' ks ks' : List Float} → r ≡ r' → o ≡ o' → cs ≡ cs' → ks ≡ ks' → after_extended r o cs ks ≡ after_extended r' o' cs' ks'
+pub same-extended : {r r' : Result WardSummary Refusal} {o o' : Outputs} {cs cs' ks ks' : List Float} → r ≡ r' → o ≡ o' → cs ≡ cs' → ks ≡ ks' → after_extended r o cs ks ≡ after_extended r' o' cs' ks'
 same-extended a b c d = λ i. record { answer = a i; outputs = record { outputs = b i; correction = c i; compensation = d i } }
 
 -- the numbers of the corrections
@@ -71,7 +50,7 @@ same_met X m fine = pick (meets m (steps_of X.study)) refl
 
 -- else they meet 20, behind the study's own refusal
 lost-met : (X : ExtendedStudy) (m : ℕ) → all_finite (of_each (of_correction X) X.study.boundary) ≡ false → (k : ℕ) → meets m (steps_of X.study) ≡ k
-    → ((j : ℕ) × (meets m (steps_of_extended X) ≡ suc j) × (uncorrected_answer k ≡ Refused (suc j)))
+    → ((j : ℕ) × (meets m (steps_of_extended X) ≡ suc j) × (uncorrected_answer k ≡ refusal (suc j)))
 unfolding steps_of_extended uncorrected_answer
 lost-met X m lost zero e = (
   19,
@@ -84,11 +63,11 @@ lost-met X m lost (suc k) e =
 
 module _ (X : ExtendedStudy) (m : ℕ) (o : ExtendedOutputs) where
   pub extended-lost : all_finite (of_each (of_correction X) X.study.boundary) ≡ false
-      → after_extended (uncorrected_answer (meets m (steps_of X.study))) (outputs_of o.outputs.y-ward o.outputs.p-ward o.outputs.q-ward (zeros (length o.outputs.work))) o.correction o.compensation ≡ studied_extended X (Rows m) o 0
-  unfolding studied_extended then_work work_refusal granted ward_answer extended_outputs_after outputs_after work_after
+      → after_extended (Err (uncorrected_answer (meets m (steps_of X.study)))) (outputs_of o.outputs.y-ward o.outputs.p-ward o.outputs.q-ward (zeros (length o.outputs.work))) o.correction o.compensation ≡ studied_extended X (Rows m) o 0
+  unfolding studied_extended then_work work_refusal granted answered extended_outputs_after outputs_after work_after
   extended-lost lost = let (j, met, answer) = lost-met X m lost (meets m (steps_of X.study)) refl in simp (answer, met, eqb-suc-zero)
 
-module _ (X : ExtendedStudy) (m : ℕ) (o : ExtendedOutputs) (fine : T (all_finite (of_each (of_correction X) X.study.boundary))) {r : WardAnswer} {yw pw qw ws : List Float}
+module _ (X : ExtendedStudy) (m : ℕ) (o : ExtendedOutputs) (fine : T (all_finite (of_each (of_correction X) X.study.boundary))) {r : Result WardSummary Refusal} {yw pw qw ws : List Float}
     (e : after_ward r yw pw qw ws ≡ studied X.study (Rows m) o.outputs 0) where
   -- the study's number, which is the call's
   number : ℕ
@@ -98,7 +77,7 @@ module _ (X : ExtendedStudy) (m : ℕ) (o : ExtendedOutputs) (fine : T (all_fini
   unfolding then_work work_refusal granted number
   same_number = same_met X m fine
 
-  answer-is : r ≡ ward_answer number (summary X.study)
+  answer-is : r ≡ answered (summary X.study) number
   unfolding studied number
   answer-is = ap (λ (a : AfterWard). a.answer) e
 
@@ -108,19 +87,19 @@ module _ (X : ExtendedStudy) (m : ℕ) (o : ExtendedOutputs) (fine : T (all_fini
   unfolding studied studied_extended extended_outputs_after number
   whole c k =
       same-extended answer-is (ap (λ (a : AfterWard). a.outputs) e) c k
-      ∙ ap (λ (n : ℕ). record { answer = ward_answer n (summary X.study); outputs = extended_outputs_after X 0 n o }) (sym same_number)
+      ∙ ap (λ (n : ℕ). record { answer = answered (summary X.study) n; outputs = extended_outputs_after X 0 n o }) (sym same_number)
 
   -- accepted: the corrections of the boundary buses stand in their slices
-  pub extended-done : {cs ks : List Float} (s : WardSummary) → r ≡ Done s → cs ≡ map (voltage_correction X) X.study.boundary → ks ≡ map (q_compensation X) X.study.boundary
-      → after_extended (Done s) (outputs_of yw pw qw ws) cs ks ≡ studied_extended X (Rows m) o 0
+  pub extended-done : {cs ks : List Float} (s : WardSummary) → r ≡ Ok s → cs ≡ map (voltage_correction X) X.study.boundary → ks ≡ map (q_compensation X) X.study.boundary
+      → after_extended (Ok s) (outputs_of yw pw qw ws) cs ks ≡ studied_extended X (Rows m) o 0
   extended-done {cs} {ks} s d c k =
-      let z : number ≡ 0 = done_none number (summary X.study) s (sym d ∙ answer-is) in
-      ap (λ (a : WardAnswer). after_extended a (outputs_of yw pw qw ws) cs ks) (sym d)
+      let z : number ≡ 0 = (accepted (tt {0}) (summary X.study) number s (sym d ∙ answer-is)).0 in
+      ap (λ (a : Result WardSummary Refusal). after_extended a (outputs_of yw pw qw ws) cs ks) (sym d)
       ∙ whole (c ∙ ap (λ (n : ℕ). cond (eqb n 0) (map (voltage_correction X) X.study.boundary) o.correction) (sym z))
       (k ∙ ap (λ (n : ℕ). cond (eqb n 0) (map (q_compensation X) X.study.boundary) o.compensation) (sym z))
 
   -- refused: they are as they were
-  pub extended-not : (j : ℕ) → r ≡ Refused j → after_extended r (outputs_of yw pw qw ws) o.correction o.compensation ≡ studied_extended X (Rows m) o 0
+  pub extended-not : (j : Refusal) → r ≡ Err j → after_extended r (outputs_of yw pw qw ws) o.correction o.compensation ≡ studied_extended X (Rows m) o 0
   extended-not j d =
       let z : eqb number 0 ≡ false = refused-some number j (summary X.study) (sym d ∙ answer-is) in
       whole (ap (λ (b : Bool). cond b (map (voltage_correction X) X.study.boundary) o.correction) (sym z))

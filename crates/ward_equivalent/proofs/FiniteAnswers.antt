@@ -8,7 +8,7 @@ use Rattle.complex.proofs.FiniteEntries.{Each, rows-finite, slice-entries}
 use Rattle.refusals.specs.declared.Allowance.{Allowance}
 use Rattle.refusals.specs.declared.Allowance.TheVariants.{Unlimited, Rows}
 use Rattle.refusals.specs.Work.{Step, reductions, meets, granted, work_refusal, then_work, ◌no_more_than◌}
-use Rattle.refusals.proofs.Numbers.{given-all}
+use Rattle.ward_equivalent.proofs.Named.{given-all}
 use Rattle.lists.specs.Buses.{all_below}
 use Rattle.lists.proofs.Buses.{below_all, get_or-in}
 use Rattle.ward_equivalent.specs.Ward.{Study, Outputs, given_of, externals, retained, listed, admittance, equivalent, row_times, solved_column, boundary_current, injection_p, injection_q, ratio}
@@ -35,7 +35,6 @@ map-finite f [] h = none
 map-finite f (i ∷ is) h = all_more (f i) (map f is) (h 0 (omega arith)) (map-finite f is (λ (t : ℕ) (l : t < length is). h (suc t) (omega arith)))
 
 below_right : (n : ℕ) (is js : List ℕ) → T (all_below n (is ++ js)) → T (all_below n js)
-unfolding all_below
 below_right n [] js h = h
 below_right n (i ∷ is) js h = below_right n is js (and_r (ltb i n) (all_below n (is ++ js)) h)
 
@@ -136,7 +135,7 @@ accepted : (N : NumberedStudy) (a : Allowance) (o : Outputs) → ward_shape_refu
     → Rows (reductions (steps_of (in_rows N))) no_more_than a → AcceptedStudy N a o
 unfolding ward_refusal in_rows given_of
 accepted N a o shape given computed regular much =
-    passes (ward_refusal N o) a (steps_of (in_rows N)) (sym (given-all 0 (ward_shape_refusal N o) (given_of N.study) (sym shape) refl (is_true (all_finite (given_of N.study)) given)))
+    passes (ward_refusal N o) a (steps_of (in_rows N)) (sym (given-all (ward_shape_refusal N o) (given_of N.study) (sym shape) (is_true (all_finite (given_of N.study)) given)))
     (enough a (steps_of (in_rows N)) (study-regular (in_rows N) computed (regular-is (in_rows N) regular)) much)
 
 accepted-extended : (X : NumberedExtended) (a : Allowance) (o : ExtendedOutputs) → extended_shape_refusal X o ≡ 0 → T (all_finite (given_of (in_rows X.study) ++ X.v-ext)) → T (all_finite (of_extended (extended_in_rows X)))
@@ -144,7 +143,7 @@ accepted-extended : (X : NumberedExtended) (a : Allowance) (o : ExtendedOutputs)
 unfolding extended_refusal extended_in_rows in_rows given_of
 accepted-extended X a o shape given computed regular much =
     let E = extended_in_rows X in
-    passes (extended_refusal X o) a (steps_of_extended E) (sym (given-all 0 (extended_shape_refusal X o) (given_of X.study.study ++ X.v-ext) (sym shape) refl (is_true (all_finite (given_of X.study.study ++ X.v-ext)) given)))
+    passes (extended_refusal X o) a (steps_of_extended E) (sym (given-all (extended_shape_refusal X o) (given_of X.study.study ++ X.v-ext) (sym shape) (is_true (all_finite (given_of X.study.study ++ X.v-ext)) given)))
     (enough a (steps_of_extended E) (extended-regular E computed (regular-is E.study regular)) (subst (λ (k : ℕ). Rows k no_more_than a) (sym (extended-count E)) much))
 
 pub finite-studies : FiniteStudies

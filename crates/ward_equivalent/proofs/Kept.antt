@@ -19,10 +19,11 @@ use Rattle.lists.proofs.Order.{lt-or-ge}
 use Rattle.refusals.specs.Refusals.{limit}
 use Rattle.refusals.proofs.Refusing.{product-fits}
 use Rattle.refusals.specs.Work.{Step, computing}
-use Rattle.solver.specs.declared.elimination.Eliminated.{Eliminated}
-use Rattle.solver.specs.declared.elimination.Eliminated.TheVariants.{Done, NotFinite}
+use Rattle.std.proofs.Common.{Result, Ok, Err, is_ok}
+use Rattle.refusals.specs.declared.Refusal.{Refusal}
+use Rattle.refusals.specs.declared.Refusal.TheVariants.{ComputedNotFinite}
 use Rattle.solver.specs.Solving.{solve}
-use Rattle.solver.specs.Inner.Work.{is_done, Ended, placed}
+use Rattle.solver.specs.Inner.Work.{Ended, placed}
 use Rattle.solver.proofs.BlockParts.{placed-in, placed-left, placed-right}
 use Rattle.ward_equivalent.specs.Arithmetic.{current, injected_p, injected_q}
 use Rattle.ward_equivalent.specs.Ward.{Study, retained, admittance, y_ee, row_times, solved_column, solved_currents, boundary_current, injection_p, injection_q}
@@ -135,19 +136,19 @@ module _ (n : ℕ) (ys : List Float) (es ks : List ℕ) where
   column_steps = steps_of_column (columns_input n ys es)
 
   pub record KeptTo (allowed left q : ℕ) (work : List Float) : Type 0 where
-    pub ended : Ended allowed (Done left) (of_each (steps_of_column (columns_input n ys es)) (take q ks))
+    pub ended : Ended allowed (Ok left) (of_each (steps_of_column (columns_input n ys es)) (take q ks))
     pub columns : ColumnsApart n ys es ks q work
 
   pub kept-none : (m : ℕ) (ws : List Float) → KeptTo m m 0 ws
   unfolding of_each
   kept-none m ws = record { ended = ended-none m; columns = λ (k c : ℕ) h l. absurd (omega arith) }
 
-  module _ (m left q : ℕ) (ws us : List Float) (h : q < length ks) (so : KeptTo m left q ws) (r : Eliminated) (ended : Ended left r (column_steps (get_or ks q 0)))
-      (kept : (rest : ℕ) → r ≡ Done rest → (k c : ℕ) → k < length es → c < length ks → entry_at (length ks) (drop (2 * (length es * (length es + 1))) us) k c
+  module _ (m left q : ℕ) (ws us : List Float) (h : q < length ks) (so : KeptTo m left q ws) (r : Result ℕ Refusal) (ended : Ended left r (column_steps (get_or ks q 0)))
+      (kept : (rest : ℕ) → r ≡ Ok rest → (k c : ℕ) → k < length es → c < length ks → entry_at (length ks) (drop (2 * (length es * (length es + 1))) us) k c
       ≡ cond (eqb c q) (solve (length es) (external_part n ys es) (external_column n ys es (get_or ks q 0)) k) (entry_at (length ks) (drop (2 * (length es * (length es + 1))) ws) k c)) where
-    pub kept_more : (rest : ℕ) → r ≡ Done rest → KeptTo m rest (q + 1) us
+    pub kept_more : (rest : ℕ) → r ≡ Ok rest → KeptTo m rest (q + 1) us
     kept_more rest d = record {
-      ended = ended_same m (Done rest) _ _ (sym (each_more column_steps ks q h)) (ended-then m (of_each column_steps (take q ks)) (column_steps (get_or ks q 0)) left (Done rest) so.ended (subst (λ (t : Eliminated). Ended left t (column_steps (get_or ks q 0))) d ended));
+      ended = ended_same m (Ok rest) _ _ (sym (each_more column_steps ks q h)) (ended-then m (of_each column_steps (take q ks)) (column_steps (get_or ks q 0)) left (Ok rest) so.ended (subst (λ (t : Result ℕ Refusal). Ended left t (column_steps (get_or ks q 0))) d ended));
       columns = λ (k c : ℕ) x y. kept rest d k c x (omega arith) ∙ pick k c x y (eqb c q) refl;
     }
       where
@@ -162,7 +163,7 @@ module _ (n : ℕ) (ys : List Float) (es ks : List ℕ) where
             ∙ so.columns k c x (below c q y (eqb-false c q e))
 
     -- a solve that is not done ends them all
-    pub kept-ended : is_done r ≡ false → Ended m r (of_each (steps_of_column (columns_input n ys es)) ks)
+    pub kept-ended : is_ok r ≡ false → Ended m r (of_each (steps_of_column (columns_input n ys es)) ks)
     kept-ended d =
         ended_same m r _ _ (sym (parts-of q h)) (ended-first m (of_each column_steps (take q ks) ++ column_steps (get_or ks q 0)) (of_each column_steps (drop (q + 1) ks)) r d
         (ended-then m (of_each column_steps (take q ks)) (column_steps (get_or ks q 0)) left r so.ended ended))
@@ -172,8 +173,8 @@ module _ (n : ℕ) (ys : List Float) (es ks : List ℕ) where
             ap (of_each column_steps) (sym (take-append-drop (q + 1) ks)) ∙ each-join column_steps (take (q + 1) ks) (drop (q + 1) ks)
             ∙ ap (λ (l : List Step). l ++ of_each column_steps (drop (q + 1) ks)) (each_more column_steps ks q h)
 
-  pub kept-all : (m left q : ℕ) (ws : List Float) → length ks ≤ q → KeptTo m left q ws → Ended m (Done left) (of_each (steps_of_column (columns_input n ys es)) ks)
-  kept-all m left q ws h so = ended_same m (Done left) _ _ (ap (of_each column_steps) (take_all q ks h)) so.ended
+  pub kept-all : (m left q : ℕ) (ws : List Float) → length ks ≤ q → KeptTo m left q ws → Ended m (Ok left) (of_each (steps_of_column (columns_input n ys es)) ks)
+  kept-all m left q ws h so = ended_same m (Ok left) _ _ (ap (of_each column_steps) (take_all q ks h)) so.ended
 
 not-all : (b : Bool) → (T b → ⊥) → b ≡ false
 not-all true h = absurd (h tt)
@@ -216,11 +217,11 @@ module _ (n : ℕ) (ys : List Float) (es bs : List ℕ) (base : Float) (ps qs : 
       append_assoc (computing (of_currents (solves_input n ys es base ps qs) (length es))) (steps_of_currents (solves_input n ys es base ps qs)) (computing (of_injections injecting))
       ∙ ap (λ (l : List Float). computing l ++ (steps_of_currents injecting ++ computing (of_injections injecting))) (currents-same n ys es [] [] [] bs base ps qs (length es))
 
-  module _ (m : ℕ) (end : Eliminated) (first : Ended m end (computing (of_currents (solves_input n ys es base ps qs) (length es)) ++ steps_of_currents (solves_input n ys es base ps qs))) where
-    pub injections-first : is_done end ≡ false → Ended m end (steps_of_injections n ys es bs base ps qs)
+  module _ (m : ℕ) (end : Result ℕ Refusal) (first : Ended m end (computing (of_currents (solves_input n ys es base ps qs) (length es)) ++ steps_of_currents (solves_input n ys es base ps qs))) where
+    pub injections-first : is_ok end ≡ false → Ended m end (steps_of_injections n ys es bs base ps qs)
     injections-first d = ended_same m end _ _ injection-steps (ended-first m _ (computing (of_injections injecting)) end d first)
 
-    module _ (left : ℕ) (d : end ≡ Done left) (us : List Float) (held : CurrentsApart n ys es base ps qs us) where
+    module _ (left : ℕ) (d : end ≡ Ok left) (us : List Float) (held : CurrentsApart n ys es base ps qs us) where
       abbrev Injected : Type 0
       Injected = (t : ℕ) → t < length bs → T (finite (injected_p base (product n ys es (length es + 1) us (get_or bs t 0) (length es)))) × T (finite (injected_q base (product n ys es (length es + 1) us (get_or bs t 0) (length es))))
 
@@ -230,18 +231,18 @@ module _ (n : ℕ) (ys : List Float) (es bs : List ℕ) (base : Float) (ps qs : 
       as_code : (t : ℕ) → t < length bs → InjectionFinite injecting some (get_or bs t 0) → T (finite (injected_p base (product n ys es (length es + 1) us (get_or bs t 0) (length es)))) × T (finite (injected_q base (product n ys es (length es + 1) us (get_or bs t 0) (length es))))
       as_code t l h = subst (λ (z : Complex). T (finite (injected_p base z)) × T (finite (injected_q base z))) (sym (currents-product n ys es [] bs base ps qs us held (get_or bs t 0))) h
 
-      begun : Ended m (Done left) (computing (of_currents (solves_input n ys es base ps qs) (length es)) ++ steps_of_currents (solves_input n ys es base ps qs))
-      begun = subst (λ (t : Eliminated). Ended m t (computing (of_currents (solves_input n ys es base ps qs) (length es)) ++ steps_of_currents (solves_input n ys es base ps qs))) d first
+      begun : Ended m (Ok left) (computing (of_currents (solves_input n ys es base ps qs) (length es)) ++ steps_of_currents (solves_input n ys es base ps qs))
+      begun = subst (λ (t : Result ℕ Refusal). Ended m t (computing (of_currents (solves_input n ys es base ps qs) (length es)) ++ steps_of_currents (solves_input n ys es base ps qs))) d first
 
       pub injections-done : Injected → Ended m end (steps_of_injections n ys es bs base ps qs)
       injections-done h =
-          subst (λ (t : Eliminated). Ended m t (steps_of_injections n ys es bs base ps qs)) (sym d)
-          (ended_same m (Done left) _ _ injection-steps (ended-then m _ (computing (of_injections injecting)) left (Done left) begun
+          subst (λ (t : Result ℕ Refusal). Ended m t (steps_of_injections n ys es bs base ps qs)) (sym d)
+          (ended_same m (Ok left) _ _ injection-steps (ended-then m _ (computing (of_injections injecting)) left (Ok left) begun
           (ended-alone left (of_injections injecting) (injections-tell injecting some λ (t : ℕ) (l : t < length bs). as-study t l (h t l)))))
 
-      pub injections-lost : (Injected → ⊥) → Ended m NotFinite (steps_of_injections n ys es bs base ps qs)
+      pub injections-lost : (Injected → ⊥) → Ended m (Err ComputedNotFinite) (steps_of_injections n ys es bs base ps qs)
       injections-lost h =
-          ended_same m NotFinite _ _ injection-steps (ended-then m _ (computing (of_injections injecting)) left NotFinite begun
+          ended_same m (Err ComputedNotFinite) _ _ injection-steps (ended-then m _ (computing (of_injections injecting)) left (Err ComputedNotFinite) begun
           (ended-lost-alone left (of_injections injecting) (not-all (all_finite (of_injections injecting)) λ all. h λ (t : ℕ) (l : t < length bs). as_code t l (injections-told injecting some all t l))))
 
 -- ---- the entries, and what comes behind the columns
@@ -278,7 +279,7 @@ module _ (n : ℕ) (ys : List Float) (es ks : List ℕ) (i : ℕ) (base : Float)
         subst Finite (sym (entry_value p q y))
         (subst (λ (l : List ℕ). (p : ℕ) → p < length l → (q : ℕ) → q < length l → Finite (csub (admittance whole (get_or l p 0) (get_or l q 0)) (row_times whole (get_or l p 0) (solved_column whole (get_or l q 0))))) retained-kept (entries-told whole some all) p x q y)
 
-  pub behind-lost : (left : ℕ) → all_finite (of_equivalent (kept_study n ys es ks i base ps qs)) ≡ false → Ended left NotFinite (steps_behind (kept_study n ys es ks i base ps qs))
+  pub behind-lost : (left : ℕ) → all_finite (of_equivalent (kept_study n ys es ks i base ps qs)) ≡ false → Ended left (Err ComputedNotFinite) (steps_behind (kept_study n ys es ks i base ps qs))
   unfolding steps_behind
   behind-lost left h = parts-lost [] (of_equivalent whole) (of_currents whole (length es)) (steps_of_currents whole) (of_injections whole) (of_ratio (length (retained whole)) n) left left (ended-none left) h
 
@@ -286,7 +287,7 @@ module _ (n : ℕ) (ys : List Float) (es ks : List ℕ) (i : ℕ) (base : Float)
   unfolding steps_of_injections steps_of_currents of_injections of_injection of_row_times solved_currents injection_p injection_q boundary_current row_times y_ee admittance
   later_same = ap (λ (l : List Float). computing l ++ (steps_of_currents whole ++ computing (of_injections whole))) (currents-same n ys es [] (drop i ks) (take i ks) (drop i ks) base ps qs (length es))
 
-  pub behind-then : (left : ℕ) (r : Eliminated) → 0 < n → length ks ≤ n → n ≤ limit → T (all_finite (of_equivalent (kept_study n ys es ks i base ps qs)))
+  pub behind-then : (left : ℕ) (r : Result ℕ Refusal) → 0 < n → length ks ≤ n → n ≤ limit → T (all_finite (of_equivalent (kept_study n ys es ks i base ps qs)))
       → Ended left r (steps_of_injections n ys es (drop i ks) base ps qs) → Ended left r (steps_behind (kept_study n ys es ks i base ps qs))
   unfolding steps_behind
   behind-then left r positive less few fine next =
@@ -298,8 +299,8 @@ module _ (n : ℕ) (ys : List Float) (es ks : List ℕ) (i : ℕ) (base : Float)
   unfolding steps_of steps_behind steps_of_column y_ee admittance
   all-steps = rw some (ap (λ (l : List ℕ). of_each (steps_of_column whole) l ++ steps_behind whole) (sym retained-kept))
 
-  pub all_first : (m : ℕ) (r : Eliminated) → is_done r ≡ false → Ended m r (of_each (steps_of_column (columns_input n ys es)) ks) → Ended m r (steps_of (kept_study n ys es ks i base ps qs))
+  pub all_first : (m : ℕ) (r : Result ℕ Refusal) → is_ok r ≡ false → Ended m r (of_each (steps_of_column (columns_input n ys es)) ks) → Ended m r (steps_of (kept_study n ys es ks i base ps qs))
   all_first m r d h = ended_same m r _ _ all-steps (ended-first m _ (steps_behind whole) r d h)
 
-  pub all_then : (m left : ℕ) (r : Eliminated) → Ended m (Done left) (of_each (steps_of_column (columns_input n ys es)) ks) → Ended left r (steps_behind (kept_study n ys es ks i base ps qs)) → Ended m r (steps_of (kept_study n ys es ks i base ps qs))
+  pub all_then : (m left : ℕ) (r : Result ℕ Refusal) → Ended m (Ok left) (of_each (steps_of_column (columns_input n ys es)) ks) → Ended left r (steps_behind (kept_study n ys es ks i base ps qs)) → Ended m r (steps_of (kept_study n ys es ks i base ps qs))
   all_then m left r h next = ended_same m r _ _ all-steps (ended-then m _ (steps_behind whole) left r h next)

@@ -1,25 +1,31 @@
 -- A study whose buses are named by number: what its lengths and numbers refuse, and that what they let through is the study on rows.
-use Rattle.prelude.proofs.Prelude.{◌≡◌, refl, sym, ap, ◌∙◌, subst, Bool, true, false, not, ◌||◌, List, ◌++◌, ℕ, zero, suc, ◌+◌, ◌-◌, ◌*◌, ◌≤◌, arith, T, length, length-append, Float}
-use lib.Dec.{eqb-suc-zero}
+use Rattle.prelude.proofs.Prelude.{◌≡◌, refl, sym, ap, ◌∙◌, subst, Bool, true, false, not, ◌||◌, List, ◌++◌, ℕ, ◌+◌, ◌-◌, ◌*◌, ◌≤◌, arith, T, length, length-append, Float}
+use Rattle.refusals.specs.Refusals.{limit}
 use Rattle.refusals.specs.declared.Allowance.{Allowance}
 use Rattle.binary64.specs.Values.{all_finite}
 use Rattle.refusals.specs.Refusals.{refuse, then_given}
-use Rattle.refusals.proofs.Numbers.{given-before, given-not, given-all}
 use Rattle.refusals.specs.Work.{then_work}
 use Rattle.lists.specs.Buses.{all_below, repeats, within, rows_in}
 use Rattle.lists.proofs.Lookups.{length-rows_in}
 use Rattle.lists.proofs.Naming.{rows_in-append, below-within, repeats-rows}
-use Rattle.ward_equivalent.specs.declared.answers.WardAnswer.TheVariants.{Refused}
+use Rattle.std.proofs.Common.{Ok, Err}
+use Rattle.refusals.specs.declared.Refusal.{Refusal}
+use Rattle.refusals.specs.declared.Refusal.TheVariants.{TooMany, WrongLength, ListsDiffer, NoSuchBus, BusTwice, GivenNotFinite}
+use Rattle.refusals.specs.Refusals.{answered, outcome, number, number_of}
+use Rattle.refusals.proofs.Answering.{answered-number, accepted, Told, told-refuse}
 use Rattle.ward_equivalent.specs.declared.lengths.Lengths.{Lengths}
-use Rattle.ward_equivalent.specs.Lengths.{length_refusal}
+use Rattle.ward_equivalent.specs.Lengths.{over_limit, wrong_lengths, unmatched, length_refusal}
 use Rattle.ward_equivalent.specs.Ward.{Study, Outputs, given_of, externals}
-use Rattle.ward_equivalent.specs.Studied.{ward_answer, outputs_after, work_after, studied}
+use Rattle.ward_equivalent.specs.Studied.{summary, outputs_after, work_after, studied}
 use Rattle.ward_equivalent.specs.Extended.{ExtendedStudy, ExtendedOutputs}
 use Rattle.ward_equivalent.specs.Studied.{extended_outputs_after, studied_extended}
 use Rattle.ward_equivalent.specs.Calls.{after_ward, after_extended}
-use Rattle.ward_equivalent.specs.Inner.Listed.{cut, CheckedStudy}
+use Rattle.ward_equivalent.specs.Inner.Work.{Listing}
+use Rattle.ward_equivalent.specs.Inner.Listed.{cut, StudySlices}
 use Rattle.ward_equivalent.specs.Numbers.{NumberedStudy, NumberedExtended, lengths_of, extended_lengths_of, in_rows, extended_in_rows, bus_refusal, ward_shape_refusal, ward_refusal, extended_shape_refusal, extended_refusal, after_compute, after_compute_extended}
 use Rattle.ward_equivalent.proofs.Buses.{distinct-length, cut-joined}
+use Rattle.solver.proofs.Told.{some_number}
+use Rattle.ward_equivalent.proofs.Studied.{numbered}
 use Rattle.ward_equivalent.proofs.Told.{Fitting, lengths-refuse, lengths-pass}
 
 -- ---- 7, 8 or none
@@ -82,6 +88,18 @@ without X o F =
       v-ext = refl;
     }
 
+-- a study on one list of rows, and its slices
+pub record CheckedStudy (n : ℕ) (ys : List Float) (bs : List ℕ) (e f : ℕ) (ps qs : List Float) (o : Outputs) : Type 0 where
+  pub listing : Listing n ys bs
+  pub few : n ≤ limit
+  pub distinct : length bs ≤ n
+  pub first : e ≤ f
+  pub last : f ≤ length bs
+  pub p_each : length ps ≡ e
+  pub q_each : length qs ≡ e
+  pub finite : T (all_finite ys)
+  pub slices : StudySlices (length bs) e f o
+
 pub rows-listed : (N : NumberedStudy) (o : Outputs) (L : List ℕ) → Fitting (lengths_of N o) → T (all_finite N.study.given) → bus_refusal N.numbers (N.study.external ++ (N.study.internal ++ N.study.boundary)) ≡ 0
     → L ≡ rows_in N.numbers (N.study.external ++ (N.study.internal ++ N.study.boundary))
     → CheckedStudy N.study.size N.study.given L (externals N.study) (externals N.study + length N.study.internal) N.study.p-ext N.study.q-ext o
@@ -93,20 +111,20 @@ rows-listed N o L F finite z e =
     let r : length I + length B ≡ length L - length E = omega (arith, long) in
     let t = rows-boundary N L e in
     record {
+      listing = record { full = F.given; below = inside };
+      few = F.few.size;
+      distinct = distinct-length S.size L inside distinct;
+      first = omega arith;
+      last = omega (arith, long);
+      p_each = F.p-ext;
+      q_each = F.q-ext;
+      finite = finite;
       slices = record {
-        listing = record { full = F.given; below = inside };
-        few = F.few.size;
-        distinct = distinct-length S.size L inside distinct;
-        first = omega arith;
-        last = omega (arith, long);
         y-ward = F.y-ward ∙ ap (λ (m : ℕ). 2 * (m * m)) r;
         p-ward = F.p-ward ∙ t;
         q-ward = F.q-ward ∙ t;
         work = F.work ∙ ap (λ (m : ℕ). 2 * (length E * (m + 1))) (sym long);
       };
-      p-ext = F.p-ext;
-      q-ext = F.q-ext;
-      finite = finite;
     }
 
 pub cut-rows : (N : NumberedStudy) (L : List ℕ) → L ≡ rows_in N.numbers (N.study.external ++ (N.study.internal ++ N.study.boundary))
@@ -125,29 +143,62 @@ cut-rows N L h =
 
 -- ---- an input refusal leaves every slice as it was
 
-refused : (S : Study) (a : Allowance) (o : Outputs) (k : ℕ) → (k ≡ 0 → ⊥) → after_ward (Refused k) o.y-ward o.p-ward o.q-ward o.work ≡ studied S a o k
-unfolding studied then_work ward_answer outputs_after work_after
-refused S a o zero h = absurd (h refl)
-refused S a o (suc k) h = simp eqb-suc-zero
+refused : (S : Study) (a : Allowance) (o : Outputs) (r : Refusal) → after_ward (Err r) o.y-ward o.p-ward o.q-ward o.work ≡ studied S a o (number r)
+unfolding studied then_work outputs_after work_after
+refused S a o r = simp (numbered r, answered-number (summary S) r)
 
-refused_x : (X : ExtendedStudy) (a : Allowance) (o : ExtendedOutputs) (k : ℕ) → (k ≡ 0 → ⊥) → after_extended (Refused k) o.outputs o.correction o.compensation ≡ studied_extended X a o k
-unfolding studied_extended then_work ward_answer extended_outputs_after outputs_after work_after
-refused_x X a o zero h = absurd (h refl)
-refused_x X a o (suc k) h = simp eqb-suc-zero
+refused_x : (X : ExtendedStudy) (a : Allowance) (o : ExtendedOutputs) (r : Refusal) → after_extended (Err r) o.outputs o.correction o.compensation ≡ studied_extended X a o (number r)
+unfolding studied_extended then_work extended_outputs_after outputs_after work_after
+refused_x X a o r = simp (numbered r, answered-number (summary X.study) r)
 
--- ---- t is told by the lengths, u by the numbers and the lists
+-- ---- told by the lengths, then by the numbers and the lists
 
-module _ (l : Lengths) (ns ks : List ℕ) (t : ℕ) (e : t ≡ length_refusal l 0) where
+-- what a part of the call answered tells the number
+number-told : (f : ℕ) → Told f → (r : Refusal) → Err r ≡ outcome f → number r ≡ f
+number-told f t r e = ap number_of e ∙ t
+
+pub told-lengths : (l : Lengths) (next : ℕ) → Told next → Told (length_refusal l next)
+unfolding length_refusal
+told-lengths l next t = told-refuse (over_limit l) TooMany _ (told-refuse (wrong_lengths l) WrongLength _ (told-refuse (unmatched l) ListsDiffer next t))
+
+pub told-buses : (ns ks : List ℕ) → Told (bus_refusal ns ks)
+unfolding bus_refusal answered
+told-buses ns ks = told-refuse (not (within ns ks)) NoSuchBus _ (told-refuse (repeats ns || repeats ks) BusTwice 0 refl)
+
+pub lengths-passed : (l : Lengths) (v : Unit {0}) → Ok v ≡ outcome (length_refusal l 0) → length_refusal l 0 ≡ 0
+lengths-passed l v e = (accepted (tt {0}) tt _ v e).0
+
+module _ (l : Lengths) (ns ks : List ℕ) where
   -- 1, 2, 3
-  pub told-first : (t ≡ 0 → ⊥) → t ≡ length_refusal l (bus_refusal ns ks)
-  told-first h = e ∙ sym ((lengths-refuse l (λ (z : length_refusal l 0 ≡ 0). h (e ∙ z))).whatever (bus_refusal ns ks))
+  pub told-first : (r : Refusal) → Err r ≡ outcome (length_refusal l 0) → number r ≡ length_refusal l (bus_refusal ns ks)
+  unfolding answered
+  told-first r e =
+      let told = number-told (length_refusal l 0) (told-lengths l 0 refl) r e in
+      told ∙ sym ((lengths-refuse l (λ (z : length_refusal l 0 ≡ 0). some_number (Err r) refl (told ∙ z))).whatever (bus_refusal ns ks))
 
-  -- 7, 8 or 0
-  pub told-then : t ≡ 0 → (u : ℕ) → u ≡ bus_refusal ns ks → u ≡ length_refusal l (bus_refusal ns ks)
-  told-then z u v = let (p, _) = lengths-pass l 0 (sym e ∙ z) in v ∙ sym (p.on (bus_refusal ns ks))
+  -- 7, 8
+  pub told-then : length_refusal l 0 ≡ 0 → (r : Refusal) → Err r ≡ outcome (bus_refusal ns ks) → number r ≡ length_refusal l (bus_refusal ns ks)
+  told-then z r e = let (p, _) = lengths-pass l 0 z in number-told (bus_refusal ns ks) (told-buses ns ks) r e ∙ sym (p.on (bus_refusal ns ks))
 
--- k is told by both; behind it come the numbers given
-module _ (N : NumberedStudy) (a : Allowance) (o : Outputs) (k : ℕ) (e : k ≡ ward_shape_refusal N o) where
+  -- or none
+  pub told_none : length_refusal l 0 ≡ 0 → bus_refusal ns ks ≡ 0 → 0 ≡ length_refusal l (bus_refusal ns ks)
+  told_none z w = let (p, _) = lengths-pass l 0 z in sym w ∙ sym (p.on (bus_refusal ns ks))
+
+-- ---- then by the numbers given
+
+given-after : (r : Refusal) (told : ℕ) (xs : List Float) → number r ≡ told → number r ≡ then_given told xs
+unfolding then_given
+given-after r told xs e = simp (sym e, numbered r)
+
+given-not : (told : ℕ) (xs : List Float) → 0 ≡ told → all_finite xs ≡ false → 19 ≡ then_given told xs
+unfolding then_given
+given-not told xs e h = simp (sym e, h)
+
+pub given-all : (told : ℕ) (xs : List Float) → 0 ≡ told → all_finite xs ≡ true → 0 ≡ then_given told xs
+unfolding then_given
+given-all told xs e h = simp (sym e, h)
+
+module _ (N : NumberedStudy) (a : Allowance) (o : Outputs) where
   abbrev given : List Float
   given = given_of N.study
 
@@ -155,16 +206,16 @@ module _ (N : NumberedStudy) (a : Allowance) (o : Outputs) (k : ℕ) (e : k ≡ 
   unfolding after_compute ward_refusal
   told_is t q = ap (studied (in_rows N) a o) q
 
-  pub answered-refused : (k ≡ 0 → ⊥) → after_ward (Refused k) o.y-ward o.p-ward o.q-ward o.work ≡ after_compute N a o
-  answered-refused h = refused (in_rows N) a o k h ∙ told_is k (given-before k (ward_shape_refusal N o) given e h)
+  pub answered-refused : (r : Refusal) → number r ≡ ward_shape_refusal N o → after_ward (Err r) o.y-ward o.p-ward o.q-ward o.work ≡ after_compute N a o
+  answered-refused r e = refused (in_rows N) a o r ∙ told_is (number r) (given-after r (ward_shape_refusal N o) given e)
 
-  pub answered-lost : k ≡ 0 → all_finite (given_of N.study) ≡ false → after_ward (Refused 19) o.y-ward o.p-ward o.q-ward o.work ≡ after_compute N a o
-  answered-lost z h = refused (in_rows N) a o 19 (λ (q : ◌≡◌ {A = ℕ} 19 0). omega arith) ∙ told_is 19 (given-not k (ward_shape_refusal N o) given e z h)
+  pub answered-lost : 0 ≡ ward_shape_refusal N o → all_finite (given_of N.study) ≡ false → after_ward (Err GivenNotFinite) o.y-ward o.p-ward o.q-ward o.work ≡ after_compute N a o
+  answered-lost z h = refused (in_rows N) a o GivenNotFinite ∙ told_is 19 (given-not (ward_shape_refusal N o) given z h)
 
-  pub answered : k ≡ 0 → all_finite (given_of N.study) ≡ true → studied (in_rows N) a o 0 ≡ after_compute N a o
-  answered z h = told_is 0 (given-all k (ward_shape_refusal N o) given e z h)
+  pub answered_done : 0 ≡ ward_shape_refusal N o → all_finite (given_of N.study) ≡ true → studied (in_rows N) a o 0 ≡ after_compute N a o
+  answered_done z h = told_is 0 (given-all (ward_shape_refusal N o) given z h)
 
-module _ (X : NumberedExtended) (a : Allowance) (o : ExtendedOutputs) (k : ℕ) (e : k ≡ extended_shape_refusal X o) where
+module _ (X : NumberedExtended) (a : Allowance) (o : ExtendedOutputs) where
   abbrev given_x : List Float
   given_x = given_of X.study.study ++ X.v-ext
 
@@ -172,11 +223,11 @@ module _ (X : NumberedExtended) (a : Allowance) (o : ExtendedOutputs) (k : ℕ) 
   unfolding after_compute_extended extended_refusal
   told-is_x t q = ap (studied_extended (extended_in_rows X) a o) q
 
-  pub answered-refused_x : (k ≡ 0 → ⊥) → after_extended (Refused k) o.outputs o.correction o.compensation ≡ after_compute_extended X a o
-  answered-refused_x h = refused_x (extended_in_rows X) a o k h ∙ told-is_x k (given-before k (extended_shape_refusal X o) given_x e h)
+  pub answered-refused_x : (r : Refusal) → number r ≡ extended_shape_refusal X o → after_extended (Err r) o.outputs o.correction o.compensation ≡ after_compute_extended X a o
+  answered-refused_x r e = refused_x (extended_in_rows X) a o r ∙ told-is_x (number r) (given-after r (extended_shape_refusal X o) given_x e)
 
-  pub answered-lost_x : k ≡ 0 → all_finite (given_of X.study.study ++ X.v-ext) ≡ false → after_extended (Refused 19) o.outputs o.correction o.compensation ≡ after_compute_extended X a o
-  answered-lost_x z h = refused_x (extended_in_rows X) a o 19 (λ (q : ◌≡◌ {A = ℕ} 19 0). omega arith) ∙ told-is_x 19 (given-not k (extended_shape_refusal X o) given_x e z h)
+  pub answered-lost_x : 0 ≡ extended_shape_refusal X o → all_finite (given_of X.study.study ++ X.v-ext) ≡ false → after_extended (Err GivenNotFinite) o.outputs o.correction o.compensation ≡ after_compute_extended X a o
+  answered-lost_x z h = refused_x (extended_in_rows X) a o GivenNotFinite ∙ told-is_x 19 (given-not (extended_shape_refusal X o) given_x z h)
 
-  pub answered_x : k ≡ 0 → all_finite (given_of X.study.study ++ X.v-ext) ≡ true → studied_extended (extended_in_rows X) a o 0 ≡ after_compute_extended X a o
-  answered_x z h = told-is_x 0 (given-all k (extended_shape_refusal X o) given_x e z h)
+  pub answered-done_x : 0 ≡ extended_shape_refusal X o → all_finite (given_of X.study.study ++ X.v-ext) ≡ true → studied_extended (extended_in_rows X) a o 0 ≡ after_compute_extended X a o
+  answered-done_x z h = told-is_x 0 (given-all (extended_shape_refusal X o) given_x z h)

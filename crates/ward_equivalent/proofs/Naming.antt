@@ -58,18 +58,18 @@ there ns ks xs b e h = sym (below-within ns ks) ∙ ap (all_below (length ns)) (
 twice-is : (ns ks xs : List ℕ) (b : Bool) → xs ≡ rows_in ns ks → within ns ks ≡ true → repeats xs ≡ b → repeats ks ≡ b
 twice-is ns ks xs b e w h = sym (repeats-rows ns ks (subst T (sym w) tt)) ∙ ap repeats (sym e) ∙ h
 
-pub named-lacks : (ns ks xs : List ℕ) → xs ≡ rows_in ns ks → all_below (length ns) xs ≡ false → 7 ≡ bus_refusal ns ks
+pub named-lacks : (ns ks xs : List ℕ) → xs ≡ rows_in ns ks → all_below (length ns) xs ≡ false → bus_refusal ns ks ≡ 7
 unfolding bus_refusal
 named-lacks ns ks xs e h = rw (there ns ks xs false e h)
 
-pub named-number-twice : (ns ks xs : List ℕ) → xs ≡ rows_in ns ks → all_below (length ns) xs ≡ true → repeats ns ≡ true → 8 ≡ bus_refusal ns ks
+pub named-number-twice : (ns ks xs : List ℕ) → xs ≡ rows_in ns ks → all_below (length ns) xs ≡ true → repeats ns ≡ true → bus_refusal ns ks ≡ 8
 unfolding bus_refusal
 named-number-twice ns ks xs e h d = rw (there ns ks xs true e h, d)
 
-pub named-twice : (ns ks xs : List ℕ) → xs ≡ rows_in ns ks → all_below (length ns) xs ≡ true → repeats ns ≡ false → repeats xs ≡ true → 8 ≡ bus_refusal ns ks
+pub named-twice : (ns ks xs : List ℕ) → xs ≡ rows_in ns ks → all_below (length ns) xs ≡ true → repeats ns ≡ false → repeats xs ≡ true → bus_refusal ns ks ≡ 8
 unfolding bus_refusal
 named-twice ns ks xs e h d r = rw (there ns ks xs true e h, d, twice-is ns ks xs true e (there ns ks xs true e h) r)
 
-pub named_none : (ns ks xs : List ℕ) → xs ≡ rows_in ns ks → all_below (length ns) xs ≡ true → repeats ns ≡ false → repeats xs ≡ false → 0 ≡ bus_refusal ns ks
+pub named_none : (ns ks xs : List ℕ) → xs ≡ rows_in ns ks → all_below (length ns) xs ≡ true → repeats ns ≡ false → repeats xs ≡ false → bus_refusal ns ks ≡ 0
 unfolding bus_refusal
 named_none ns ks xs e h d r = rw (there ns ks xs true e h, d, twice-is ns ks xs false e (there ns ks xs true e h) r)

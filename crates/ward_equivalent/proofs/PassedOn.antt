@@ -2,8 +2,7 @@
 use Rattle.prelude.proofs.Prelude.{◌≡◌, refl, sym, ap, ◌∙◌, Bool, true, false, not, cond, List, [], ◌++◌, append_assoc, ℕ, zero, suc, T, eqb, Float}
 use Rattle.binary64.specs.Values.{all_finite}
 use Rattle.complex.specs.{Complex, cadd, cmul, csub, of_sum, of_product}
-use Rattle.complex.specs.declared.Pair.{Pair}
-use Rattle.complex.specs.declared.Pair.TheVariants.{Finite}
+use Rattle.std.proofs.Common.{Option, Some}
 use Rattle.complex.specs.Leaves.{pair, product, sum, difference, passing}
 use Rattle.complex.proofs.LeafSteps.{passes_on}
 use Rattle.ward_equivalent.specs.Arithmetic.{sum_up}
@@ -20,7 +19,7 @@ more-passed xs s a x =
     passes_on xs s _ (of_product a x ++ of_sum s p) (cadd s p) (passes_on (of_product a x) p (λ (p : Complex). sum s p) (of_sum s p) (cadd s p) refl)
     ∙ ap (λ (l : List Float). pair l (cadd s p)) (sym (append_assoc xs (of_product a x) (of_sum s p)))
 
-none_passed : (c : Complex) → Finite c ≡ pair [] c
+none_passed : (c : Complex) → Some c ≡ pair [] c
 unfolding pair all_finite
 none_passed c = refl
 
@@ -28,7 +27,7 @@ sum-passed : (n : ℕ) (a x : ℕ → Complex) → sum_answer n a x ≡ pair (of
 unfolding sum_answer of_products sum_up
 sum-passed zero a x = none_passed _
 sum-passed (suc n) a x =
-    ap (λ (c : Pair). passing c (λ (s : Complex). passing (product (a n) (x n)) (λ (p : Complex). sum s p))) (sum-passed n a x)
+    ap (λ (c : Option Complex). passing c (λ (s : Complex). passing (product (a n) (x n)) (λ (p : Complex). sum s p))) (sum-passed n a x)
     ∙ more-passed (of_products n a x) (sum_up n (λ (k : ℕ). cmul (a k) (x k))) (a n) (x n)
 
 row-passed : (S : Study) (i : ℕ) (x : ℕ → Complex) → row_answer S i x ≡ pair (of_row_times S i x) (row_times S i x)
@@ -39,7 +38,7 @@ entry-passed : (S : Study) → T (not (eqb (externals S) 0)) → (i j : ℕ)
     → passing (row_answer S i (solved_column S j)) (λ (s : Complex). difference (admittance S i j) s) ≡ pair (of_equivalent_entry S i j) (equivalent S i j)
 unfolding of_equivalent_entry equivalent difference
 entry-passed S some i j =
-    ap (λ (c : Pair). passing c (λ (s : Complex). difference (admittance S i j) s)) (row-passed S i (solved_column S j))
+    ap (λ (c : Option Complex). passing c (λ (s : Complex). difference (admittance S i j) s)) (row-passed S i (solved_column S j))
     ∙ passes_on (of_row_times S i (solved_column S j)) (row_times S i (solved_column S j)) _ _ _ refl
     ∙ ap (pair _) (go (eqb (externals S) 0) some)
   where

@@ -36,13 +36,11 @@ pub product-more : (n : ℕ) (ys : List Float) (es : List ℕ) (w : ℕ) (ws : L
 unfolding product_to sum_up
 product-more n ys es w ws bus c k = rw add-one refl
 
--- an entry of the equivalent from its parts, X from column 0 on
-pub less_product-is : (n : ℕ) (ys : List Float) (es ks : List ℕ) (w : ℕ) (ws : List Float) (i q : ℕ) (own sum : Complex)
-    → own ≡ entry_at n ys i (get_or ks q 0) → sum ≡ product n ys es w ws i q → csub own sum ≡ less_product n ys es ks w ws 0 i q
+-- an entry of the equivalent from its parts
+pub less_product-is : (n : ℕ) (ys : List Float) (es ks : List ℕ) (w : ℕ) (ws : List Float) (first i q : ℕ) (own sum : Complex)
+    → own ≡ entry_at n ys i (get_or ks q 0) → sum ≡ product n ys es w ws i (first + q) → csub own sum ≡ less_product n ys es ks w ws first i q
 unfolding less_product
-less_product-is n ys es ks w ws i q own sum a b =
-    let at : q ≡ 0 + q = omega arith in
-    ap (λ (z : Complex). csub z sum) a ∙ ap (csub (entry_at n ys i (get_or ks q 0))) (b ∙ ap (product n ys es w ws i) at)
+less_product-is n ys es ks w ws first i q own sum a b = ap (λ (z : Complex). csub z sum) a ∙ ap (csub (entry_at n ys i (get_or ks q 0))) b
 
 -- a row filled: the listed columns, and c behind them
 pub filled_row : (Y : Matrix) (bus : ℕ) (bs : List ℕ) (vs rest zs : List Float) (c : Complex) → vs ≡ row Y bus bs → 2 * length bs + 1 < length (vs ++ rest) → zs ≡ put (vs ++ rest) (length bs) c

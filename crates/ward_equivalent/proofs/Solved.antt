@@ -17,14 +17,12 @@ use Rattle.ward_equivalent.proofs.Steps.{rows_of_solve}
 -- ---- parts of a listing
 
 below-take : (n k : ℕ) (bs : List ℕ) → T (all_below n bs) → T (all_below n (take k bs))
-unfolding all_below
 below-take n zero bs h = tt
 below-take n (suc k) [] h = tt
 below-take n (suc k) (x ∷ bs) h =
     and_i (ltb x n) (all_below n (take k bs)) (and_l (ltb x n) (all_below n bs) h) (below-take n k bs (and_r (ltb x n) (all_below n bs) h))
 
 below-drop : (n k : ℕ) (bs : List ℕ) → T (all_below n bs) → T (all_below n (drop k bs))
-unfolding all_below
 below-drop n zero bs h = h
 below-drop n (suc k) [] h = tt
 below-drop n (suc k) (x ∷ bs) h = below-drop n k bs (and_r (ltb x n) (all_below n bs) h)

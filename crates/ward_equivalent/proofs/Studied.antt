@@ -1,15 +1,18 @@
 -- What a study with right lists leaves: refused, or the equivalent that the solutions in the work slice give.
-use Rattle.prelude.proofs.Prelude.{◌≡◌, refl, sym, ap, ◌∙◌, subst, false, List, [], ◌∷◌, ◌++◌, ℕ, zero, suc, ◌+◌, ◌-◌, ◌*◌, ◌≤◌, ◌<◌, arith, eqb, length, get_or, take, drop, Float, map, ne_eqb, length-drop, take-append-drop, length-take-le, get_or-drop, drop-drop}
-use lib.Dec.{eqb-suc-zero}
+use Rattle.prelude.proofs.Prelude.{◌≡◌, refl, sym, ap, ◌∙◌, subst, false, List, [], ◌∷◌, ◌++◌, ℕ, ◌+◌, ◌-◌, ◌*◌, ◌≤◌, ◌<◌, arith, eqb, length, get_or, take, drop, Float, map, ne_eqb, length-drop, take-append-drop, length-take-le, get_or-drop, drop-drop}
 use Rattle.complex.specs.{plus0, csub, Matrix, entry_at, rows, grid, zeros}
 use Rattle.complex.proofs.Matrices.{entry-grid, rows_ext, length-grid, grid-ext, length-rows, entry-rows}
 use Rattle.refusals.specs.declared.Allowance.TheVariants.{Rows}
 use Rattle.refusals.specs.Work.{reductions, meets, granted, work_refusal, then_work}
-use Rattle.ward_equivalent.specs.declared.answers.WardAnswer.{WardAnswer}
-use Rattle.ward_equivalent.specs.declared.answers.WardAnswer.TheVariants.{Done, Refused}
+use Rattle.std.proofs.Common.{Result, Ok, Err}
+use Rattle.refusals.specs.declared.Refusal.{Refusal}
+use Rattle.refusals.specs.Refusals.{answered, number}
+use Rattle.refusals.proofs.Answering.{answered-number}
+use Rattle.solver.proofs.Told.{some_number}
+use Rattle.ward_equivalent.specs.declared.answers.WardSummary.{WardSummary}
 use Rattle.ward_equivalent.specs.Arithmetic.{injected_p, injected_q}
 use Rattle.ward_equivalent.specs.Ward.{Study, Outputs, externals, retained, admittance, equivalent, row_times, solved_column, boundary_current, injection_p, injection_q, ratio}
-use Rattle.ward_equivalent.specs.Studied.{summary, ward_answer, accepted_outputs, work_after, outputs_after, AfterWard, studied}
+use Rattle.ward_equivalent.specs.Studied.{summary, accepted_outputs, work_after, outputs_after, AfterWard, studied}
 use Rattle.ward_equivalent.specs.Inner.Work.{product, less_product}
 use Rattle.ward_equivalent.specs.Calls.{after_ward}
 use Rattle.ward_equivalent.specs.Steps.{steps_of}
@@ -17,20 +20,23 @@ use Rattle.ward_equivalent.specs.Inner.Listed.{cut, outputs_from}
 
 -- ---- by what the work meets
 
+-- a refusal has a number other than 0
+pub numbered : (r : Refusal) → eqb (number r) 0 ≡ false
+numbered r = ne_eqb (number r) 0 (some_number (Err r) refl)
+
 abbrev pub accepted : Study → List Float → AfterWard
-accepted S ws = record { answer = Done (summary S); outputs = accepted_outputs S (zeros (length ws)) }
+accepted S ws = record { answer = Ok (summary S); outputs = accepted_outputs S (zeros (length ws)) }
 
 module _ (S : Study) (m : ℕ) (o : Outputs) where
-  pub studied-refused : (k : ℕ) → meets m (steps_of S) ≡ k → (k ≡ 0 → ⊥) → studied S (Rows m) o 0 ≡ after_ward (Refused k) o.y-ward o.p-ward o.q-ward (zeros (length o.work))
-  unfolding studied then_work work_refusal granted ward_answer outputs_after work_after
-  studied-refused zero h some = absurd (some refl)
-  studied-refused (suc k) h some = simp (h, eqb-suc-zero)
+  pub studied-refused : (r : Refusal) → number r ≡ meets m (steps_of S) → studied S (Rows m) o 0 ≡ after_ward (Err r) o.y-ward o.p-ward o.q-ward (zeros (length o.work))
+  unfolding studied then_work work_refusal granted outputs_after work_after
+  studied-refused r h = simp (sym h, answered-number (summary S) r, numbered r)
 
   pub studied-done : meets m (steps_of S) ≡ 0 → studied S (Rows m) o 0 ≡ accepted S o.work
-  unfolding studied then_work work_refusal granted ward_answer outputs_after work_after
+  unfolding studied then_work work_refusal granted answered outputs_after work_after
   studied-done h = rw h
 
-pub same_after : {r r' : WardAnswer} {yw yw' pw pw' qw qw' ws ws' : List Float} → r ≡ r' → yw ≡ yw' → pw ≡ pw' → qw ≡ qw' → ws ≡ ws' → after_ward r yw pw qw ws ≡ after_ward r' yw' pw' qw' ws'
+pub same_after : {r r' : Result WardSummary Refusal} {yw yw' pw pw' qw qw' ws ws' : List Float} → r ≡ r' → yw ≡ yw' → pw ≡ pw' → qw ≡ qw' → ws ≡ ws' → after_ward r yw pw qw ws ≡ after_ward r' yw' pw' qw' ws'
 same_after a b c d e = λ i. record { answer = a i; outputs = record { y-ward = b i; p-ward = c i; q-ward = d i; work = e i } }
 
 -- ---- the lists of a cut list
@@ -99,7 +105,7 @@ module _ (n : ℕ) (ys : List Float) (bs : List ℕ) (e f : ℕ) (base : Float) 
     unfolding outputs_from accepted_outputs
     filled-ward long os l reduced q =
         same_after
-        (ap (λ (m : ℕ). Done (record { n_buses_reduced = n; n_buses_equivalent = length bs - e; reduction_ratio = ratio (length bs - e) n; rows_reduced = m })) q ∙ ap Done (sym summary-cut))
+        (ap (λ (m : ℕ). Ok (record { n_buses_reduced = n; n_buses_equivalent = length bs - e; reduction_ratio = ratio (length bs - e) n; rows_reduced = m })) q ∙ ap Ok (sym summary-cut))
         matrix-ward
         (map_same (λ (i : ℕ). injected_p base (product n ys (take e bs) w us i c)) (injection_p (cut n ys bs e f base ps qs)) (drop f bs) active-ward)
         (map_same (λ (i : ℕ). injected_q base (product n ys (take e bs) w us i c)) (injection_q (cut n ys bs e f base ps qs)) (drop f bs) reactive-ward)
@@ -159,9 +165,9 @@ module _ (n : ℕ) (ys : List Float) (bs : List ℕ) (f : ℕ) (base : Float) (p
 
   pub studied-none : (m : ℕ) (o : Outputs) (yw pw qw : List Float) → yw ≡ rows (entry_at n ys) bs bs → pw ≡ zeros (length o.p-ward) → qw ≡ zeros (length o.q-ward)
       → length o.p-ward ≡ length bs - f → length o.q-ward ≡ length bs - f → length o.work ≡ 0
-      → after_ward (Done (record { n_buses_reduced = n; n_buses_equivalent = length bs; reduction_ratio = plus0; rows_reduced = 0 })) yw pw qw o.work ≡ studied (cut n ys bs 0 f base ps qs) (Rows m) o 0
+      → after_ward (Ok (record { n_buses_reduced = n; n_buses_equivalent = length bs; reduction_ratio = plus0; rows_reduced = 0 })) yw pw qw o.work ≡ studied (cut n ys bs 0 f base ps qs) (Rows m) o 0
   unfolding accepted_outputs
   studied-none m o yw pw qw y p q lp lq lw =
-      same_after (ap Done summary-none) (y ∙ matrix-none)
+      same_after (ap Ok summary-none) (y ∙ matrix-none)
       (p ∙ ap zeros (lp ∙ sym (length-drop f bs)) ∙ active-none) (q ∙ ap zeros (lq ∙ sym (length-drop f bs)) ∙ reactive-none) (none-zeros o.work lw)
       ∙ sym (studied-done (cut n ys bs 0 f base ps qs) m o (none-met m))

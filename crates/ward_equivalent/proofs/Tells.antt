@@ -27,14 +27,14 @@ each-finite f [] h = none
 each-finite f (i ∷ is) h = all_join (f i) (of_each f is) (h 0 (omega arith)) (each-finite f is (λ (t : ℕ) (l : t < length is). h (suc t) (omega arith)))
 
 -- of the numbers given
-pub both-finite : (xs ys : List Float) → all_finite (xs ++ ys) ≡ (all_finite xs && all_finite ys)
-both-finite xs ys =
+pub both_finite : (xs ys : List Float) → all_finite (xs ++ ys) ≡ (all_finite xs && all_finite ys)
+both_finite xs ys =
     same_test _ _ (λ (h : T (all_finite (xs ++ ys))). and_i (all_finite xs) (all_finite ys) (all_left xs ys h) (all_right xs ys h))
     (λ (h : T (all_finite xs && all_finite ys)). all_join xs ys (and_l (all_finite xs) (all_finite ys) h) (and_r (all_finite xs) (all_finite ys) h))
 
 pub given_is : (ys : List Float) (base : Float) (ps qs : List Float) → all_finite (ys ++ (base ∷ (ps ++ qs))) ≡ (all_finite ys && (finite base && (all_finite ps && all_finite qs)))
 unfolding all_finite
-given_is ys base ps qs = both-finite ys (base ∷ (ps ++ qs)) ∙ ap (λ (b : Bool). all_finite ys && (finite base && b)) (both-finite ps qs)
+given_is ys base ps qs = both_finite ys (base ∷ (ps ++ qs)) ∙ ap (λ (b : Bool). all_finite ys && (finite base && b)) (both_finite ps qs)
 
 pub lost-first : (a b : Bool) → a ≡ false → false ≡ (a && b)
 lost-first a b h = sym (ap (λ (t : Bool). t && b) h)

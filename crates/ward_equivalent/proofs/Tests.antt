@@ -1,8 +1,7 @@
 -- A loop that tests one after the other, and what its answer tells.
-use Rattle.prelude.proofs.Prelude.{◌≡◌, sym, ap, ◌∙◌, subst, Bool, true, false, not, inl, inr, ℕ, ◌+◌, ◌<◌, arith, T, Float, finite, not-true, not-false, eq-or-lt_of_le}
-use Rattle.ward_equivalent.specs.declared.sequence.Tried.{Tried}
-use Rattle.ward_equivalent.specs.declared.sequence.Tried.TheVariants.{Left, Wild}
-use Rattle.ward_equivalent.specs.Inner.Sequence.{Tells}
+use Rattle.prelude.proofs.Prelude.{◌≡◌, sym, ap, ◌∙◌, subst, Bool, true, false, not, ◌&&◌, and_i, and_l, and_r, inl, inr, ℕ, ◌+◌, ◌<◌, arith, T, finite, not-false, eq-or-lt_of_le}
+use Rattle.complex.specs.{Complex}
+use Rattle.ward_equivalent.specs.Inner.Sequence.{Tells, FinitePair}
 
 pub tells-lost : (claim : Type 0) → (claim → ⊥) → Tells false claim
 tells-lost claim h = record { holds = λ t. absurd t; fails = λ _. h }
@@ -18,30 +17,18 @@ every_more P q h last j l =
       | inl e ↦ subst P (sym e) last
     ]
 
--- a test by `finite`, as the code has it
-module _ (b : Bool) (x z : Float) (told : b ≡ finite x) (same : x ≡ z) where
-  pub test-lost : not b ≡ true → T (finite z) → ⊥
-  test-lost n h = subst T (sym (ap finite same) ∙ sym told ∙ not-true b n) h
+-- a test that both parts are finite, as the code has it
+module _ (b : Bool) (x z : Complex) (told : b ≡ (finite x.re && finite x.im)) (same : x ≡ z) where
+  tested : b ≡ (finite z.re && finite z.im)
+  tested = told ∙ ap (λ (c : Complex). finite c.re && finite c.im) same
 
-  pub test-held : not b ≡ false → T (finite z)
-  test-held n = subst T (sym (sym (ap finite same) ∙ sym told ∙ not-false b n)) tt
+  pub pair-lost : b ≡ false → FinitePair z → ⊥
+  pair-lost n h = absurd (subst T (sym tested ∙ n) (and_i (finite z.re) (finite z.im) h.0 h.1))
+
+  pub pair-held : b ≡ true → FinitePair z
+  pair-held n =
+      let both : T (finite z.re && finite z.im) = subst T (sym (sym tested ∙ n)) tt in
+      (and_l (finite z.re) (finite z.im) both, and_r (finite z.re) (finite z.im) both)
 
 pub told-true : (b : Bool) → not b ≡ false → T b
 told-true b n = subst T (sym (not-false b n)) tt
-
--- the answers of `Tried`
-is_left : Tried → Bool
-is_left (Left left) = true
-is_left Wild = false
-
-left_in : Tried → ℕ
-left_in (Left left) = left
-left_in Wild = 0
-
-pub wild-left : {left : ℕ} → Wild ≡ Left left → ⊥
-unfolding is_left
-wild-left e = subst T (sym (ap is_left e)) tt
-
-pub same-tried : {k m : ℕ} → Left k ≡ Left m → k ≡ m
-unfolding left_in
-same-tried e = ap left_in e

@@ -9,9 +9,13 @@ use Rattle.complex.proofs.Matrices.{length-grid}
 use Rattle.complex.proofs.Sticky.{Finite}
 use Rattle.complex.proofs.Sizes.{Both}
 use Rattle.complex.proofs.FiniteEntries.{slice-entries}
+use Rattle.refusals.specs.Refusals.{limit}
 use Rattle.refusals.specs.Work.{Step, computing, numbers_in, reductions, meets}
 use Rattle.refusals.proofs.Work.{all-finite, finite-unlost, numbers-both, numbers-back, numbers-alone}
 use Rattle.refusals.proofs.Refusing.{product-fits}
+use Rattle.std.proofs.Common.{Result, Ok, Err}
+use Rattle.refusals.specs.declared.Refusal.{Refusal}
+use Rattle.refusals.specs.declared.Refusal.TheVariants.{BeyondAllowance}
 use Rattle.solver.specs.GaussJordan.{augmented, pairs}
 use Rattle.solver.specs.Solving.{operations, solve}
 use Rattle.solver.specs.Steps.{workings, steps_of_run, steps_of_solve}
@@ -20,12 +24,14 @@ use Rattle.solver.proofs.Steps.{run-count, run-met}
 use Rattle.solver.proofs.Pairs.{pairs-bound}
 use Rattle.solver.proofs.ChosenSteps.{alone-numbers}
 use Rattle.ward_equivalent.specs.declared.sequence.Decided.{Decided}
-use Rattle.ward_equivalent.specs.declared.sequence.Decided.TheVariants.{Together, Refused}
+use Rattle.ward_equivalent.specs.declared.sequence.Decided.TheVariants.{Together}
 use Rattle.ward_equivalent.specs.Arithmetic.{current}
 use Rattle.ward_equivalent.specs.Ward.{Study, externals, external_at, retained, admittance, y_ee, row_times, solved_column, solved_currents, boundary_current}
 use Rattle.ward_equivalent.specs.Steps.{of_each, steps_of_column, of_equivalent, of_currents, steps_of_currents, of_injections, of_ratio, steps_of, of_study}
 use Rattle.ward_equivalent.specs.Inner.Work.{work_row, work_matrix}
-use Rattle.ward_equivalent.specs.Inner.Listed.{cut, StudyGiven}
+use Rattle.ward_equivalent.specs.Inner.Work.{Listing}
+use Rattle.ward_equivalent.specs.Inner.Listed.{cut}
+use Rattle.ward_equivalent.specs.declared.listing.ListedStudy.{ListedStudy}
 use Rattle.ward_equivalent.specs.Inner.Sequence.{AllTogether, TogetherDone, Decides}
 use Rattle.ward_equivalent.proofs.Places.{listed_below}
 use Rattle.ward_equivalent.proofs.Solved.{rights, augmented-beside, pivots-of, pairs_of, column-of, listing-take, listing-drop}
@@ -48,6 +54,22 @@ each-steps : (f : ℕ → List Step) (is : List ℕ) → ((t : ℕ) → t < leng
 unfolding of_each numbers_in
 each-steps f [] h = none
 each-steps f (i ∷ is) h = steps-finite (f i) (of_each f is) (h 0 (omega arith)) (each-steps f is (λ (t : ℕ) (l : t < length is). h (suc t) (omega arith)))
+
+-- what the work reads and the slice that it uses
+pub record StudyGiven (n : ℕ) (ys : List Float) (bs : List ℕ) (e f : ℕ) (ps qs ws : List Float) : Type 0 where
+  pub listing : Listing n ys bs
+  pub few : n ≤ limit
+  pub distinct : length bs ≤ n
+  pub first : e ≤ f
+  pub last : f ≤ length bs
+  pub p-ext : length ps ≡ e
+  pub q-ext : length qs ≡ e
+  pub finite : T (all_finite ys)
+  pub work : length ws ≡ 2 * (e * (length bs + 1))
+
+pub given-of : (s : ListedStudy) (ws : List Float) → length ws ≡ 2 * (s.e * (length s.buses.now + 1)) → StudyGiven s.matrix.n s.matrix.y.now s.buses.now s.e s.f s.injections.p.now s.injections.q.now ws
+given-of s ws work =
+    record { listing = s.listing; few = s.few; distinct = s.distinct; first = s.first; last = s.last; p-ext = s.p_each; q-ext = s.q_each; finite = s.finite; work = work }
 
 module _ (n : ℕ) (ys : List Float) (bs : List ℕ) (e f : ℕ) (base : Float) (ps qs ws : List Float) (some : 0 < e) (G : StudyGiven n ys bs e f ps qs ws)
     (allowed left : ℕ) (after : List Float) (done : TogetherDone n ys bs e base ps qs allowed left after) where
@@ -242,13 +264,13 @@ module _ (n : ℕ) (ys : List Float) (bs : List ℕ) (e f : ℕ) (base : Float) 
       let each : allowed - left ≤ 65536 = omega (arith, rows_are) in
       product-fits (length bs + 1 - e) (allowed - left) 257 65536 solves each tt
 
-  pub decided-beyond : allowed < (length bs + 1 - e) * (allowed - left) → (r : Decided) → r ≡ Refused 18 → (last : List Float) → length last ≡ length after → last ≡ zeros (length after)
+  pub decided-beyond : allowed < (length bs + 1 - e) * (allowed - left) → (r : Result Decided Refusal) → r ≡ Err BeyondAllowance → (last : List Float) → length last ≡ length after → last ≡ zeros (length after)
       → Decides n ys (take e bs) (drop e bs) bs (cut n ys bs e f base ps qs) allowed r last
   decided-beyond h r said last long clear =
-      refused-decided n ys bs e f base ps qs G.first allowed last 17
+      refused-decided n ys bs e f base ps qs G.first allowed last BeyondAllowance
       (sym (met-is ∙ ap (λ (b : Bool). cond b 18 0) (lt-ltb allowed ((length (retained S) + 1) * rows_of_solve S) (subst (λ (k : ℕ). allowed < k) total h)))) r said (length after) long clear
 
-  pub decided-done : (length bs + 1 - e) * (allowed - left) ≤ allowed → Decides n ys (take e bs) (drop e bs) bs (cut n ys bs e f base ps qs) allowed (Together ((length bs + 1 - e) * (allowed - left))) after
+  pub decided-done : (length bs + 1 - e) * (allowed - left) ≤ allowed → Decides n ys (take e bs) (drop e bs) bs (cut n ys bs e f base ps qs) allowed (Ok (Together ((length bs + 1 - e) * (allowed - left)))) after
   decided-done h =
       together-decided n ys bs e f base ps qs G.first allowed after ((length bs + 1 - e) * (allowed - left))
       (met-is ∙ ap (λ (b : Bool). cond b 18 0) (le-ltb allowed ((length (retained S) + 1) * rows_of_solve S) (subst (λ (k : ℕ). k ≤ allowed) total h)))

@@ -1,14 +1,14 @@
 -- What a study counts, what it meets under an allowance, and what an allowance alters.
-use Rattle.std.specs.Prelude.{ℕ, ◌+◌, ◌*◌, ◌-◌, ◌≤◌, ◌≡◌, not, cond, T, eqb, ltb, length}
+use Rattle.std.specs.Prelude.{ℕ, ◌+◌, ◌*◌, ◌-◌, ◌≤◌, ◌≡◌, not, cond, T, eqb, ltb, length, Ok, Err}
 use Rattle.binary64.specs.Values.{all_finite}
 use Rattle.refusals.specs.declared.Allowance.{Allowance}
+use Rattle.refusals.specs.declared.Refusal.TheVariants.{BeyondAllowance}
 use Rattle.refusals.specs.declared.Allowance.TheVariants.{Unlimited, Rows}
 use Rattle.refusals.specs.Refusals.{singular, beyond_allowance, computed_not_finite, refuse}
 use Rattle.refusals.specs.Work.{reductions, work_refusal, ◌no_more_than◌}
 use Rattle.solver.specs.GaussJordan.{pairs}
 use Rattle.solver.specs.Solving.{operations, is_singular}
 use Rattle.ward_equivalent.specs.declared.answers.WardSummary.{WardSummary}
-use Rattle.ward_equivalent.specs.declared.answers.WardAnswer.TheVariants.{Done, Refused}
 use Rattle.ward_equivalent.specs.Ward.{Study, Outputs, externals, retained, y_ee}
 use Rattle.ward_equivalent.specs.Extended.{ExtendedStudy, ExtendedOutputs}
 use Rattle.ward_equivalent.specs.Steps.{of_each, steps_of, of_correction, steps_of_extended}
@@ -37,26 +37,26 @@ pub record StudyAllowances : Type 0 where
       → work_refusal (Rows allowed) (steps_of S) ≡ first_met S allowed 0
   -- an accepted study reduces no more rows than are allowed
   pub within : (N : NumberedStudy) (allowed : ℕ) (o : Outputs) (s : WardSummary)
-      → (after_compute N (Rows allowed) o).answer ≡ Done s → s.rows_reduced ≤ allowed
+      → (after_compute N (Rows allowed) o).answer ≡ Ok s → s.rows_reduced ≤ allowed
   -- a larger allowance alters no answer but 18: neither number nor summary nor any slice
   pub larger : (N : NumberedStudy) (less more : Allowance) (o : Outputs) → less no_more_than more
-      → ((after_compute N less o).answer ≡ Refused beyond_allowance → ⊥) → after_compute N more o ≡ after_compute N less o
+      → ((after_compute N less o).answer ≡ Err BeyondAllowance → ⊥) → after_compute N more o ≡ after_compute N less o
   -- from the bound on an allowance limits nothing
   pub from-bound : (N : NumberedStudy) (allowed : ℕ) (o : Outputs) → most_rows N.study ≤ allowed
       → after_compute N (Rows allowed) o ≡ after_compute N Unlimited o
   -- without a limit there is no 18
-  pub unlimited : (N : NumberedStudy) (o : Outputs) → (after_compute N Unlimited o).answer ≡ Refused beyond_allowance → ⊥
+  pub unlimited : (N : NumberedStudy) (o : Outputs) → (after_compute N Unlimited o).answer ≡ Err BeyondAllowance → ⊥
   -- the same of an extended study, where 20 of a correction stands behind its own work
   pub meets-first-extended : (X : ExtendedStudy) (allowed : ℕ) → T (not (eqb (externals X.study) 0))
       → (work_refusal Unlimited (steps_of X.study) ≡ computed_not_finite → ⊥)
       → work_refusal (Rows allowed) (steps_of_extended X)
       ≡ first_met X.study allowed (refuse (not (all_finite (of_each (of_correction X) X.study.boundary))) computed_not_finite 0)
   pub within-extended : (X : NumberedExtended) (allowed : ℕ) (o : ExtendedOutputs) (s : WardSummary)
-      → (after_compute_extended X (Rows allowed) o).answer ≡ Done s → s.rows_reduced ≤ allowed
+      → (after_compute_extended X (Rows allowed) o).answer ≡ Ok s → s.rows_reduced ≤ allowed
   pub larger-extended : (X : NumberedExtended) (less more : Allowance) (o : ExtendedOutputs) → less no_more_than more
-      → ((after_compute_extended X less o).answer ≡ Refused beyond_allowance → ⊥)
+      → ((after_compute_extended X less o).answer ≡ Err BeyondAllowance → ⊥)
       → after_compute_extended X more o ≡ after_compute_extended X less o
   pub from-bound-extended : (X : NumberedExtended) (allowed : ℕ) (o : ExtendedOutputs) → most_rows X.study.study ≤ allowed
       → after_compute_extended X (Rows allowed) o ≡ after_compute_extended X Unlimited o
   pub unlimited-extended : (X : NumberedExtended) (o : ExtendedOutputs)
-      → (after_compute_extended X Unlimited o).answer ≡ Refused beyond_allowance → ⊥
+      → (after_compute_extended X Unlimited o).answer ≡ Err BeyondAllowance → ⊥

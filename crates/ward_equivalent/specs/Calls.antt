@@ -1,6 +1,7 @@
 -- A study's slices and what it leaves, gathered into its records.
-use Rattle.std.specs.Prelude.{ℕ, List, Float}
-use Rattle.ward_equivalent.specs.declared.answers.WardAnswer.{WardAnswer}
+use Rattle.std.specs.Prelude.{ℕ, List, Float, Result}
+use Rattle.refusals.specs.declared.Refusal.{Refusal}
+use Rattle.ward_equivalent.specs.declared.answers.WardSummary.{WardSummary}
 use Rattle.ward_equivalent.specs.Ward.{Study, Outputs}
 use Rattle.ward_equivalent.specs.Extended.{ExtendedOutputs}
 use Rattle.ward_equivalent.specs.Studied.{AfterWard, AfterExtended}
@@ -13,11 +14,11 @@ abbrev pub outputs_of : List Float → List Float → List Float → List Float 
 outputs_of yw pw qw ws = record { y-ward = yw; p-ward = pw; q-ward = qw; work = ws }
 
 -- an answer, and the slices at exit
-abbrev pub after_ward : WardAnswer → List Float → List Float → List Float → List Float → AfterWard
+abbrev pub after_ward : Result WardSummary Refusal → List Float → List Float → List Float → List Float → AfterWard
 after_ward r yw pw qw ws = record { answer = r; outputs = outputs_of yw pw qw ws }
 
 abbrev pub extended_outputs_of : Outputs → List Float → List Float → ExtendedOutputs
 extended_outputs_of o cs ks = record { outputs = o; correction = cs; compensation = ks }
 
-abbrev pub after_extended : WardAnswer → Outputs → List Float → List Float → AfterExtended
+abbrev pub after_extended : Result WardSummary Refusal → Outputs → List Float → List Float → AfterExtended
 after_extended r o cs ks = record { answer = r; outputs = extended_outputs_of o cs ks }

@@ -1,3 +1,4 @@
 pub mod Work
 pub mod Listed
 pub mod Sequence
+pub mod Views

@@ -1,17 +1,17 @@
 -- What a Ward study and an extended one answer and leave. Buses are rows here.
-use Rattle.std.specs.Prelude.{ℕ, zero, suc, cond, List, map, eqb, length, Float}
+use Rattle.std.specs.Prelude.{ℕ, cond, List, map, eqb, length, Float, Result}
 use Rattle.complex.specs.Constants.{plus0}
 use Rattle.complex.specs.Matrices.{rows, zeros}
 use Rattle.refusals.specs.declared.Allowance.{Allowance}
+use Rattle.refusals.specs.declared.Refusal.{Refusal}
+use Rattle.refusals.specs.Refusals.{answered}
 use Rattle.refusals.specs.Work.{reductions, then_work}
 use Rattle.ward_equivalent.specs.declared.answers.WardSummary.{WardSummary}
-use Rattle.ward_equivalent.specs.declared.answers.WardAnswer.{WardAnswer}
-use Rattle.ward_equivalent.specs.declared.answers.WardAnswer.TheVariants.{Done, Refused}
 use Rattle.ward_equivalent.specs.Ward.{Study, Outputs, externals, retained, equivalent, injection_p, injection_q, ratio}
 use Rattle.ward_equivalent.specs.Extended.{ExtendedStudy, ExtendedOutputs, voltage_correction, q_compensation}
 use Rattle.ward_equivalent.specs.Steps.{steps_of, steps_of_extended}
 
--- ---- the answer
+-- ---- the answer of an accepted study
 
 -- the original size, the size of the equivalent, the share left out, and how many rows the solves reduce
 unfoldable pub summary : Study → WardSummary
@@ -23,16 +23,6 @@ summary S =
       reduction_ratio = cond (eqb (externals S) 0) plus0 (ratio (length (retained S)) S.size);
       rows_reduced = reductions (steps_of S);
     }
-
--- the answer of a study with this refusal
-unfoldable pub ward_answer : ℕ → WardSummary → WardAnswer
-ward_answer zero s = Done s
-ward_answer (suc k) s = Refused (suc k)
-
--- the number of an answer
-unfoldable pub ward_number : WardAnswer → ℕ
-ward_number (Done s) = 0
-ward_number (Refused k) = k
 
 -- ---- the slices
 
@@ -72,21 +62,21 @@ extended_outputs_after S told number o =
 -- ---- both, after the refusal `told` from the input
 
 pub record AfterWard : Type 0 where
-  pub answer : WardAnswer
+  pub answer : Result WardSummary Refusal
   pub outputs : Outputs
 
 unfoldable pub studied : Study → Allowance → Outputs → ℕ → AfterWard
-unfolding then_work steps_of ward_answer summary outputs_after
+unfolding then_work steps_of summary outputs_after
 studied S allowance o told =
     let number = then_work told allowance (steps_of S) in
-    record { answer = ward_answer number (summary S); outputs = outputs_after S told number o }
+    record { answer = answered (summary S) number; outputs = outputs_after S told number o }
 
 pub record AfterExtended : Type 0 where
-  pub answer : WardAnswer
+  pub answer : Result WardSummary Refusal
   pub outputs : ExtendedOutputs
 
 unfoldable pub studied_extended : ExtendedStudy → Allowance → ExtendedOutputs → ℕ → AfterExtended
-unfolding then_work steps_of_extended ward_answer summary extended_outputs_after
+unfolding then_work steps_of_extended summary extended_outputs_after
 studied_extended X allowance o told =
     let number = then_work told allowance (steps_of_extended X) in
-    record { answer = ward_answer number (summary X.study); outputs = extended_outputs_after X told number o }
+    record { answer = answered (summary X.study) number; outputs = extended_outputs_after X told number o }

@@ -7,17 +7,16 @@ ghost use Rattle.ward_equivalent.specs.Inner.Listed as listed;
 ghost use Rattle.ward_equivalent.specs.Extended as ward;
 ghost use Rattle.refusals.specs.declared.Allowance.TheVariants.{Rows};
 ghost use Rattle.ward_equivalent.specs.Studied as studied;
-ghost use Rattle.ward_equivalent.specs.Inner.Work.{Listing};
+ghost use Rattle.ward_equivalent.specs.Inner.Views as view;
 ghost use Rattle.ward_equivalent.specs.Inner.Sequence as sequence;
 
-use crate::answers::WardAnswer;
-use crate::rows::at;
+use crate::answers::WardSummary;
+use crate::listing::{ListedStudy, Ties};
 use crate::study;
 use binary64::finite::finite;
 use complex::constants::SMALL_MAGNITUDE;
 use complex::raw::magnitude;
-use refusals::LIMIT;
-use solver::rows::copy;
+use refusals::{LIMIT, Refusal};
 
 // Over the ties of one boundary bus: the magnitudes, the deviations weighted with them, and the reactive power in MVAr.
 #[derive(Clone, Copy)]
@@ -27,32 +26,23 @@ pub struct TieSums {
     pub reactive: f64,
 }
 
-fn over_ties(
-    y: &[f64],
-    n: usize,
-    bus: usize,
-    outer: &[usize],
-    voltages: &[f64],
-    base: f64,
-) -> TieSums
-    requires { (Listing n y.now outer.now) × (bus < n) × (length voltages.now ≡ length outer.now) }
-    ensures { (result.weights ≡ ward.weight_sum (listed.correction_input n y.now outer.now voltages.now base) bus)
-        × (result.weighted ≡ ward.weighted_sum (listed.correction_input n y.now outer.now voltages.now base) bus)
-        × (result.reactive ≡ ward.q_compensation (listed.correction_input n y.now outer.now voltages.now base)
+fn over_ties(ties: Ties, bus: usize) -> TieSums
+    requires { bus < ties.matrix.n }
+    ensures { (result.weights ≡ ward.weight_sum (view.correction_input ties.entry) bus)
+        × (result.weighted ≡ ward.weighted_sum (view.correction_input ties.entry) bus)
+        × (result.reactive ≡ ward.q_compensation (view.correction_input ties.entry)
         bus) }
 {
     let mut weights = 0.0;
     let mut weighted = 0.0;
     let mut reactive = 0.0;
-    let mut k = 0;
-    while k < outer.len() {
-        let g = at(y, n, bus, outer[k]);
+    for (k, external) in ties.outer.iter().enumerate() {
+        let g = ties.matrix.at(bus, *external);
         let w = magnitude(g);
-        let d = voltages[k] - 1.0;
-        weights = weights + w;
-        weighted = weighted + w * d;
-        reactive = reactive + -g.im * d * base;
-        k += 1;
+        let d = ties.voltages[k] - 1.0;
+        weights += w;
+        weighted += w * d;
+        reactive += -g.im * d * ties.base;
     }
     TieSums {
         weights,
@@ -65,63 +55,48 @@ fn over_ties(
 fn finite_tie(s: TieSums, mean: f64) -> bool
     ensures { result ≡ (scale.finite s.weights && (scale.finite s.weighted && (scale.finite s.reactive && scale.finite mean))) }
 {
-    if !finite(s.weights) {
-        return false;
-    }
-    if !finite(s.weighted) {
-        return false;
-    }
-    if !finite(s.reactive) {
-        return false;
-    }
-    finite(mean)
+    finite(s.weights) && finite(s.weighted) && finite(s.reactive) && finite(mean)
 }
 
 // The mean of the deviations. A weight sum not above 1e-12 leaves 0.
+#[tactic(auto, unfolding(crate::specs::Extended::mean_of, complex::specs::Constants::small_magnitude, complex::specs::Constants::plus0))]
 fn mean(weights: f64, weighted: f64) -> f64
     ensures { result ≡ ward.mean_of weights weighted }
 {
     if weights > SMALL_MAGNITUDE {
-        return weighted / weights;
+        weighted / weights
+    } else {
+        0.0
     }
-    0.0
 }
 
 // The corrections and compensations of the boundary buses, in their order, as long as all are finite. The sums tell of the numbers in them.
 fn corrections(
-    y: &[f64],
-    n: usize,
-    outer: &[usize],
+    ties: Ties,
     boundary: &[usize],
-    voltages: &[f64],
-    base: f64,
     correction: &mut [f64],
     compensation: &mut [f64],
 ) -> bool
-    requires { (Listing n y.now outer.now)
-        × (Listing n y.now boundary.now)
-        × (length voltages.now ≡ length outer.now)
+    requires { (view.Lists ties.matrix boundary.now)
         × (length correction.old ≡ length boundary.now)
         × (length compensation.old ≡ length boundary.now) }
     ensures { (sequence.Tells result ((t : ℕ) → t < length boundary.now → listed.CorrectionFinite
-        (listed.correction_input n y.now outer.now voltages.now base) (get_or boundary.now t 0)))
+        (view.correction_input ties.entry) (get_or boundary.now t 0)))
         × (T result → correction.new
-        ≡ map (ward.voltage_correction (listed.correction_input n y.now outer.now voltages.now base))
+        ≡ map (ward.voltage_correction (view.correction_input ties.entry))
         boundary.now)
         × (T result → compensation.new
-        ≡ map (ward.q_compensation (listed.correction_input n y.now outer.now voltages.now base))
+        ≡ map (ward.q_compensation (view.correction_input ties.entry))
         boundary.now) }
 {
-    let mut t = 0;
-    while t < boundary.len() {
-        let s = over_ties(y, n, boundary[t], outer, voltages, base);
+    for (t, bus) in boundary.iter().enumerate() {
+        let s = over_ties(ties, *bus);
         let m = mean(s.weights, s.weighted);
         if !finite_tie(s, m) {
             return false;
         }
         correction[t] = m;
         compensation[t] = s.reactive;
-        t += 1;
     }
     true
 }
@@ -129,14 +104,7 @@ fn corrections(
 // The study on one list of rows, as `study::study`; where it is accepted, the corrections and compensations too. They are computed into cs
 // and ks before an output is written, and where they are not finite the study's own refusal comes first.
 fn corrected_in(
-    n: usize,
-    y: &[f64],
-    buses: &[usize],
-    e: usize,
-    f: usize,
-    base: f64,
-    p: &[f64],
-    q: &[f64],
+    study: ListedStudy,
     voltages: &[f64],
     allowed: usize,
     to: &mut [f64],
@@ -147,47 +115,41 @@ fn corrected_in(
     work: &mut [f64],
     cs: &mut [f64],
     ks: &mut [f64],
-) -> WardAnswer
-    requires { (listed.CheckedStudy n y.now buses.now e f p.now q.now (spec.outputs_of to.old active.old reactive.old work.old))
-        × (length voltages.now ≡ e)
-        × (length correction.old ≡ length buses.now - f)
-        × (length compensation.old ≡ length buses.now - f)
-        × (length cs.old ≡ length buses.now - f)
-        × (length ks.old ≡ length buses.now - f) }
+) -> Result<WardSummary, Refusal>
+    requires { (listed.StudySlices (length study.buses.now) study.e study.f (spec.outputs_of to.old active.old reactive.old work.old))
+        × (length voltages.now ≡ study.e)
+        × (length correction.old ≡ length study.buses.now - study.f)
+        × (length compensation.old ≡ length study.buses.now - study.f)
+        × (length cs.old ≡ length study.buses.now - study.f)
+        × (length ks.old ≡ length study.buses.now - study.f) }
     ensures { spec.after_extended result (spec.outputs_of to.new active.new reactive.new work.new)
         correction.new compensation.new
         ≡ studied.studied_extended
-        (listed.extended_of (listed.cut n y.now buses.now e f base p.now q.now)
+        (listed.extended_of (view.cut study.entry)
         voltages.now) (Rows allowed)
         (spec.extended_outputs_of (spec.outputs_of to.old active.old reactive.old work.old)
         correction.old compensation.old) 0 }
 {
-    let k = buses.len();
-    let fine = corrections(y, n, &buses[0..e], &buses[f..k], voltages, base, cs, ks);
-    if !fine {
-        return study::uncorrected(n, y, buses, e, f, base, p, q, allowed, work);
-    }
-    let answer = study::study(
-        n, y, buses, e, f, base, p, q, allowed, to, active, reactive, work,
-    );
-    let WardAnswer::Done(summary) = answer else {
-        return answer;
+    let k = study.buses.len();
+    let ties = Ties {
+        matrix: study.matrix,
+        outer: &study.buses[0..study.e],
+        voltages,
+        base: study.injections.base,
     };
-    copy(cs, correction);
-    copy(ks, compensation);
-    WardAnswer::Done(summary)
+    let fine = corrections(ties, &study.buses[study.f..k], cs, ks);
+    if !fine {
+        return Err(study::uncorrected(study, allowed, work));
+    }
+    let summary = study::study(study, allowed, to, active, reactive, work)?;
+    correction.copy_from_slice(cs);
+    compensation.copy_from_slice(ks);
+    Ok(summary)
 }
 
 // The same, with room for the corrections.
 pub fn corrected(
-    n: usize,
-    y: &[f64],
-    buses: &[usize],
-    e: usize,
-    f: usize,
-    base: f64,
-    p: &[f64],
-    q: &[f64],
+    study: ListedStudy,
     voltages: &[f64],
     allowed: usize,
     to: &mut [f64],
@@ -196,31 +158,25 @@ pub fn corrected(
     correction: &mut [f64],
     compensation: &mut [f64],
     work: &mut [f64],
-) -> WardAnswer
-    requires { (listed.CheckedStudy n y.now buses.now e f p.now q.now (spec.outputs_of to.old active.old reactive.old work.old))
-        × (length voltages.now ≡ e)
-        × (length correction.old ≡ length buses.now - f)
-        × (length compensation.old ≡ length buses.now - f) }
+) -> Result<WardSummary, Refusal>
+    requires { (listed.StudySlices (length study.buses.now) study.e study.f (spec.outputs_of to.old active.old reactive.old work.old))
+        × (length voltages.now ≡ study.e)
+        × (length correction.old ≡ length study.buses.now - study.f)
+        × (length compensation.old ≡ length study.buses.now - study.f) }
     ensures { spec.after_extended result (spec.outputs_of to.new active.new reactive.new work.new)
         correction.new compensation.new
         ≡ studied.studied_extended
-        (listed.extended_of (listed.cut n y.now buses.now e f base p.now q.now)
+        (listed.extended_of (view.cut study.entry)
         voltages.now) (Rows allowed)
         (spec.extended_outputs_of (spec.outputs_of to.old active.old reactive.old work.old)
         correction.old compensation.old) 0 }
 {
-    let b = buses.len() - f;
+    let b = study.buses.len() - study.f;
+    // fixed memory, as no library crate takes any from the heap
     let mut cs = [0.0; LIMIT];
     let mut ks = [0.0; LIMIT];
     corrected_in(
-        n,
-        y,
-        buses,
-        e,
-        f,
-        base,
-        p,
-        q,
+        study,
         voltages,
         allowed,
         to,

@@ -1,9 +1,10 @@
-// The refusals of a Ward study that the size and the lengths tell, lowest number first; 0 is none.
+// The refusals of a Ward study that the size and the lengths tell, lowest number first.
 // Nothing is multiplied before the lengths are known to be within the limit.
 ghost use Rattle.std.specs.Prelude.{◌≡◌, false};
+ghost use Rattle.refusals.specs.Refusals.{outcome};
 ghost use Rattle.ward_equivalent.specs.Lengths as spec;
 
-use refusals::{LIMIT, LISTS_DIFFER, TOO_MANY, WRONG_LENGTH};
+use refusals::{LIMIT, Refusal};
 
 // The size of a study, in buses, and the lengths of its lists and slices, in numbers: what is given, then what is written.
 #[derive(Clone, Copy)]
@@ -26,34 +27,22 @@ pub struct Lengths {
 }
 
 // More buses than the limit, or a longer list.
+#[tactic(auto, unfolding(crate::specs::Lengths::over_limit))]
 fn over_limit(l: Lengths) -> bool
     ensures { result ≡ spec.over_limit l }
 {
-    if l.size > LIMIT {
-        return true;
-    }
-    if l.numbers > LIMIT {
-        return true;
-    }
-    if l.internal > LIMIT {
-        return true;
-    }
-    if l.external > LIMIT {
-        return true;
-    }
-    if l.boundary > LIMIT {
-        return true;
-    }
-    if l.p_ext > LIMIT {
-        return true;
-    }
-    if l.q_ext > LIMIT {
-        return true;
-    }
-    l.v_ext > LIMIT
+    l.size > LIMIT
+        || l.numbers > LIMIT
+        || l.internal > LIMIT
+        || l.external > LIMIT
+        || l.boundary > LIMIT
+        || l.p_ext > LIMIT
+        || l.q_ext > LIMIT
+        || l.v_ext > LIMIT
 }
 
 // A slice not of its exact length, or not one number a bus.
+#[tactic(auto, unfolding(crate::specs::Lengths::wrong_lengths))]
 fn wrong_lengths(l: Lengths) -> bool
     requires { spec.over_limit l ≡ false }
     ensures { result ≡ spec.wrong_lengths l }
@@ -64,55 +53,37 @@ fn wrong_lengths(l: Lengths) -> bool
     let given = 2 * (n * n);
     let y_ward = 2 * (r * r);
     let work = 2 * (e * (e + r + 1));
-    if l.given != given {
-        return true;
-    }
-    if l.numbers != n {
-        return true;
-    }
-    if l.y_ward != y_ward {
-        return true;
-    }
-    if l.p_ward != l.boundary {
-        return true;
-    }
-    if l.q_ward != l.boundary {
-        return true;
-    }
-    if l.correction != l.boundary {
-        return true;
-    }
-    if l.compensation != l.boundary {
-        return true;
-    }
-    l.work != work
+    l.given != given
+        || l.numbers != n
+        || l.y_ward != y_ward
+        || l.p_ward != l.boundary
+        || l.q_ward != l.boundary
+        || l.correction != l.boundary
+        || l.compensation != l.boundary
+        || l.work != work
 }
 
 // Injections or voltages that don't match the external list.
+#[tactic(auto, unfolding(crate::specs::Lengths::unmatched))]
 fn unmatched(l: Lengths) -> bool
     ensures { result ≡ spec.unmatched l }
 {
-    if l.p_ext != l.external {
-        return true;
-    }
-    if l.q_ext != l.external {
-        return true;
-    }
-    l.v_ext != l.external
+    l.p_ext != l.external || l.q_ext != l.external || l.v_ext != l.external
 }
 
-// The refusals 1, 2 and 3, or 0.
-pub fn length_refusal(l: Lengths) -> u32
-    ensures { result ≡ spec.length_refusal l 0 }
+// Refused with 1, 2 or 3.
+#[tactic(auto, unfolding(crate::specs::Lengths::length_refusal, refusals::specs::Refusals::answered))]
+pub fn length_refusal(l: Lengths) -> Result<(), Refusal>
+    ensures { result ≡ outcome (spec.length_refusal l 0) }
 {
     if over_limit(l) {
-        return TOO_MANY;
+        return Err(Refusal::TooMany);
     }
     if wrong_lengths(l) {
-        return WRONG_LENGTH;
+        return Err(Refusal::WrongLength);
     }
     if unmatched(l) {
-        return LISTS_DIFFER;
+        return Err(Refusal::ListsDiffer);
     }
-    0
+    Ok(())
 }

@@ -6,14 +6,17 @@ ghost use Rattle.binary64.specs.Values.{F64s};
 ghost use Rattle.ward_equivalent.specs.Calls as spec;
 ghost use Rattle.ward_equivalent.specs.Numbers as ward;
 
-use crate::answers::WardAnswer;
+use crate::answers::WardSummary;
 use crate::lengths::{Lengths, length_refusal};
-use refusals::{Allowance, GIVEN_NOT_FINITE, LIMIT, allowed_rows};
+use crate::listing::ListedStudy;
+use crate::rows::{BusMatrix, ExternalInjections};
+use refusals::{Allowance, LIMIT, Refusal, allowed_rows};
 
 pub mod answers;
 mod corrections;
 mod given;
 mod lengths;
+mod listing;
 mod numbers;
 mod rows;
 mod sequence;
@@ -27,6 +30,7 @@ mod study;
 // that would exceed the allowance over the whole study, 20 where a number computed is not finite, whichever the work meets first; then no
 // output is written. The work slice has 2 e (e + r + 1) numbers, all +0 unless the input was refused. External buses without
 // a tie to a retained bus are mostly not refused, and what is fed in there is lost.
+// The parameters, here and below, stay as the C interface has them, one for each list and slice.
 pub fn compute(
     n: usize,
     y: &[f64],
@@ -42,7 +46,7 @@ pub fn compute(
     p_ward: &mut [f64],
     q_ward: &mut [f64],
     work: &mut [f64],
-) -> WardAnswer
+) -> Result<WardSummary, Refusal>
     ensures { (spec.after_ward result y_ward.new p_ward.new q_ward.new work.new
         ≡ ward.after_compute (ward.numbered_of numbers.now
         (spec.study_of n y.now internal.now external.now boundary.now base_mva
@@ -50,7 +54,7 @@ pub fn compute(
         (spec.outputs_of y_ward.old p_ward.old q_ward.old work.old))
         × F64s y.now }
 {
-    let told = length_refusal(Lengths {
+    length_refusal(Lengths {
         size: n,
         given: y.len(),
         numbers: numbers.len(),
@@ -66,36 +70,28 @@ pub fn compute(
         correction: boundary.len(),
         compensation: boundary.len(),
         work: work.len(),
-    });
-    if told != 0 {
-        return WardAnswer::Refused(told);
-    }
+    })?;
+    // fixed memory, as no library crate takes any from the heap
     let mut rows = [0; 3 * LIMIT];
-    let unplaced = numbers::placed(numbers, internal, external, boundary, &mut rows);
-    if unplaced != 0 {
-        return WardAnswer::Refused(unplaced);
-    }
+    numbers::placed(numbers, internal, external, boundary, &mut rows)?;
     if !given::given_finite(y, base_mva, p_ext, q_ext) {
-        return WardAnswer::Refused(GIVEN_NOT_FINITE);
+        return Err(Refusal::GivenNotFinite);
     }
     let e = external.len();
     let f = e + internal.len();
     let k = f + boundary.len();
-    study::study(
-        n,
-        y,
-        &rows[0..k],
+    let study = ListedStudy {
+        matrix: BusMatrix { n, y },
+        buses: &rows[0..k],
         e,
         f,
-        base_mva,
-        p_ext,
-        q_ext,
-        allowed_rows(allowance),
-        y_ward,
-        p_ward,
-        q_ward,
-        work,
-    )
+        injections: ExternalInjections {
+            base: base_mva,
+            p: p_ext,
+            q: q_ext,
+        },
+    };
+    study::study(study, allowed_rows(allowance), y_ward, p_ward, q_ward, work)
 }
 
 // The study with the voltages at the external buses, per unit: beside Ward's equivalent, each boundary bus's voltage correction, per unit,
@@ -119,7 +115,7 @@ pub fn compute_extended(
     voltage_correction: &mut [f64],
     q_compensation: &mut [f64],
     work: &mut [f64],
-) -> WardAnswer
+) -> Result<WardSummary, Refusal>
     ensures { (spec.after_extended result (spec.outputs_of y_ward.new p_ward.new q_ward.new work.new)
         voltage_correction.new q_compensation.new
         ≡ ward.after_compute_extended
@@ -131,7 +127,7 @@ pub fn compute_extended(
         voltage_correction.old q_compensation.old))
         × F64s y.now }
 {
-    let told = length_refusal(Lengths {
+    length_refusal(Lengths {
         size: n,
         given: y.len(),
         numbers: numbers.len(),
@@ -147,30 +143,29 @@ pub fn compute_extended(
         correction: voltage_correction.len(),
         compensation: q_compensation.len(),
         work: work.len(),
-    });
-    if told != 0 {
-        return WardAnswer::Refused(told);
-    }
+    })?;
+    // fixed memory, as no library crate takes any from the heap
     let mut rows = [0; 3 * LIMIT];
-    let unplaced = numbers::placed(numbers, internal, external, boundary, &mut rows);
-    if unplaced != 0 {
-        return WardAnswer::Refused(unplaced);
-    }
+    numbers::placed(numbers, internal, external, boundary, &mut rows)?;
     if !given::extended_finite(y, base_mva, p_ext, q_ext, v_ext) {
-        return WardAnswer::Refused(GIVEN_NOT_FINITE);
+        return Err(Refusal::GivenNotFinite);
     }
     let e = external.len();
     let f = e + internal.len();
     let k = f + boundary.len();
-    corrections::corrected(
-        n,
-        y,
-        &rows[0..k],
+    let study = ListedStudy {
+        matrix: BusMatrix { n, y },
+        buses: &rows[0..k],
         e,
         f,
-        base_mva,
-        p_ext,
-        q_ext,
+        injections: ExternalInjections {
+            base: base_mva,
+            p: p_ext,
+            q: q_ext,
+        },
+    };
+    corrections::corrected(
+        study,
         v_ext,
         allowed_rows(allowance),
         y_ward,

@@ -1,6 +1,7 @@
 // A Ward study whose slices have their exact lengths and whose buses are rows. The functions here have a `requires`, which their callers
 // prove.
-ghost use Rattle.std.specs.Prelude.{◌≡◌, ◌<◌, ◌≤◌, length, take, drop};
+// The slices that are written are parameters each: tried as one struct, which gets no generated proof where it is passed on to a call.
+ghost use Rattle.std.specs.Prelude.{◌≡◌, ℕ, ◌<◌, ◌≤◌, length};
 ghost use Rattle.complex.specs.Matrices.{zeros};
 ghost use Rattle.refusals.specs.Refusals.{limit};
 ghost use Rattle.refusals.specs.Work.{meets};
@@ -10,42 +11,38 @@ ghost use Rattle.ward_equivalent.specs.Steps.{steps_of};
 ghost use Rattle.ward_equivalent.specs.Studied as ward;
 ghost use Rattle.ward_equivalent.specs.Calls as spec;
 ghost use Rattle.ward_equivalent.specs.Inner.Listed as listed;
+ghost use Rattle.ward_equivalent.specs.Inner.Views as view;
 
-use crate::answers::{WardAnswer, WardSummary};
+use crate::answers::WardSummary;
+use crate::listing::ListedStudy;
+use crate::rows::Solved;
 use crate::sequence::Decided;
 use crate::{rows, sequence};
 use complex::slices::clear;
-use refusals::COMPUTED_NOT_FINITE;
+use refusals::Refusal;
 
 // No external bus: the given matrix in the rows and columns of the listed buses, no injections, ratio 0.
 fn unreduced(
-    n: usize,
-    y: &[f64],
-    buses: &[usize],
-    f: usize,
-    base: f64,
-    p: &[f64],
-    q: &[f64],
-    allowed: usize,
+    study: ListedStudy,
     to: &mut [f64],
     active: &mut [f64],
     reactive: &mut [f64],
     work: &mut [f64],
-) -> WardAnswer
-    requires { listed.CheckedStudy n y.now buses.now 0 f p.now q.now (spec.outputs_of to.old active.old reactive.old work.old) }
-    ensures { spec.after_ward result to.new active.new reactive.new work.new
-        ≡ ward.studied (listed.cut n y.now buses.now 0 f base p.now q.now) (Rows allowed)
-        (spec.outputs_of to.old active.old reactive.old work.old) 0 }
+) -> WardSummary
+    requires { (study.e ≡ 0)
+        × (listed.StudySlices (length study.buses.now) study.e study.f (spec.outputs_of to.old active.old reactive.old work.old)) }
+    ensures { (allowed : ℕ) → spec.after_ward (Ok result) to.new active.new reactive.new work.new
+        ≡ ward.studied (view.cut study.entry) (Rows allowed) (spec.outputs_of to.old active.old reactive.old work.old) 0 }
 {
-    rows::submatrix(y, n, buses, to);
+    rows::submatrix(study.matrix, study.buses, to);
     clear(active);
     clear(reactive);
-    WardAnswer::Done(WardSummary {
-        n_buses_reduced: n,
-        n_buses_equivalent: buses.len(),
+    WardSummary {
+        n_buses_reduced: study.matrix.n,
+        n_buses_equivalent: study.buses.len(),
         reduction_ratio: 0.0,
         rows_reduced: 0,
-    })
+    }
 }
 
 // The share of the buses that the equivalent leaves out.
@@ -70,87 +67,73 @@ pub struct Held {
 
 // The solutions in the work slice become the equivalent, and the work slice +0.
 fn filled(
-    n: usize,
-    y: &[f64],
-    buses: &[usize],
-    e: usize,
-    f: usize,
-    base: f64,
+    study: ListedStudy,
     reduced: usize,
     held: Held,
     to: &mut [f64],
     active: &mut [f64],
     reactive: &mut [f64],
     work: &mut [f64],
-) -> WardAnswer
-    requires { (listed.StudySlices n y.now buses.now e f (spec.outputs_of to.old active.old reactive.old work.old))
-        × (listed.HeldIn (length buses.now) e held (length work.old)) }
-    ensures { spec.after_ward result to.new active.new reactive.new work.new
-        ≡ listed.outputs_from n y.now buses.now e f base reduced (length work.old)
-        (drop held.start work.old) held.v held.first (take held.end work.old) held.w held.c }
+) -> WardSummary
+    requires { (listed.StudySlices (length study.buses.now) study.e study.f (spec.outputs_of to.old active.old reactive.old work.old))
+        × (listed.HeldIn (length study.buses.now) study.e held (length work.old)) }
+    ensures { spec.after_ward (Ok result) to.new active.new reactive.new work.new
+        ≡ view.outputs_from study.entry reduced held work.old }
 {
-    let k = buses.len();
+    let matrix = study.matrix;
+    let e = study.e;
+    let k = study.buses.len();
     let z = work.len();
-    let start = held.start;
-    let end = held.end;
-    rows::reduced(
-        y,
-        n,
-        &buses[0..e],
-        &buses[e..k],
-        &work[start..z],
-        held.v,
-        held.first,
-        to,
-    );
+    let columns = Solved {
+        work: &work[held.start..z],
+        w: held.v,
+        column: held.first,
+    };
+    rows::reduced(matrix, &study.buses[0..e], &study.buses[e..k], columns, to);
+    let currents = Solved {
+        work: &work[0..held.end],
+        w: held.w,
+        column: held.c,
+    };
     rows::injections(
-        y,
-        n,
-        &buses[0..e],
-        &buses[f..k],
-        base,
-        &work[0..end],
-        held.w,
-        held.c,
+        matrix,
+        &study.buses[0..e],
+        &study.buses[study.f..k],
+        study.injections.base,
+        currents,
         active,
         reactive,
     );
     clear(work);
-    let reduction_ratio = ratio(k - e, n);
-    WardAnswer::Done(WardSummary {
-        n_buses_reduced: n,
+    let reduction_ratio = ratio(k - e, matrix.n);
+    WardSummary {
+        n_buses_reduced: matrix.n,
         n_buses_equivalent: k - e,
         reduction_ratio,
         rows_reduced: reduced,
-    })
+    }
 }
 
 // The external buses, the first e of the list, are eliminated. Outputs are written only once the work is known to be carried out.
 fn eliminated(
-    n: usize,
-    y: &[f64],
-    buses: &[usize],
-    e: usize,
-    f: usize,
-    base: f64,
-    p: &[f64],
-    q: &[f64],
+    study: ListedStudy,
     allowed: usize,
     to: &mut [f64],
     active: &mut [f64],
     reactive: &mut [f64],
     work: &mut [f64],
-) -> WardAnswer
-    requires { (0 < e)
-        × (listed.CheckedStudy n y.now buses.now e f p.now q.now (spec.outputs_of to.old active.old reactive.old work.old)) }
+) -> Result<WardSummary, Refusal>
+    requires { (0 < study.e)
+        × (listed.StudySlices (length study.buses.now) study.e study.f (spec.outputs_of to.old active.old reactive.old work.old)) }
     ensures { spec.after_ward result to.new active.new reactive.new work.new
-        ≡ ward.studied (listed.cut n y.now buses.now e f base p.now q.now) (Rows allowed)
+        ≡ ward.studied (view.cut study.entry) (Rows allowed)
         (spec.outputs_of to.old active.old reactive.old work.old) 0 }
 {
-    let k = buses.len();
+    let e = study.e;
+    let k = study.buses.len();
     let a = 2 * (e * (e + 1));
     let z = work.len();
-    match sequence::decide(n, y, buses, e, f, base, p, q, allowed, work) {
+    match sequence::decide(study, allowed, work)? {
         Decided::Together(reduced) => {
             let held = Held {
                 start: 0,
@@ -160,9 +143,7 @@ fn eliminated(
                 w: k + 1,
                 c: k,
             };
-            filled(
-                n, y, buses, e, f, base, reduced, held, to, active, reactive, work,
-            )
+            Ok(filled(study, reduced, held, to, active, reactive, work))
         }
         Decided::Apart(reduced) => {
             let held = Held {
@@ -173,72 +154,43 @@ fn eliminated(
                 w: e + 1,
                 c: e,
             };
-            filled(
-                n, y, buses, e, f, base, reduced, held, to, active, reactive, work,
-            )
+            Ok(filled(study, reduced, held, to, active, reactive, work))
         }
-        Decided::Refused(met) => WardAnswer::Refused(met),
     }
 }
 
 // A study whose corrections are not finite: its own refusal, else 20. No output is written.
-pub fn uncorrected(
-    n: usize,
-    y: &[f64],
-    buses: &[usize],
-    e: usize,
-    f: usize,
-    base: f64,
-    p: &[f64],
-    q: &[f64],
-    allowed: usize,
-    work: &mut [f64],
-) -> WardAnswer
-    requires { listed.StudyGiven n y.now buses.now e f p.now q.now work.old }
+pub fn uncorrected(study: ListedStudy, allowed: usize, work: &mut [f64]) -> Refusal
+    requires { length work.old ≡ view.work_length study }
     ensures { (result ≡ listed.uncorrected_answer
-        (meets allowed (steps_of (listed.cut n y.now buses.now e f base p.now q.now))))
+        (meets allowed (steps_of (view.cut study.entry))))
         × (work.new ≡ zeros (length work.old)) }
 {
-    if e == 0 {
+    if study.e == 0 {
         clear(work);
-        return WardAnswer::Refused(COMPUTED_NOT_FINITE);
+        return Refusal::ComputedNotFinite;
     }
-    let decided = sequence::decide(n, y, buses, e, f, base, p, q, allowed, work);
+    let decided = sequence::decide(study, allowed, work);
     clear(work);
-    match decided {
-        Decided::Together(_) => WardAnswer::Refused(COMPUTED_NOT_FINITE),
-        Decided::Apart(_) => WardAnswer::Refused(COMPUTED_NOT_FINITE),
-        Decided::Refused(number) => WardAnswer::Refused(number),
-    }
+    decided.err().unwrap_or(Refusal::ComputedNotFinite)
 }
 
 // A study on one list of rows, none twice: the first e are external, those from f on boundary.
 pub fn study(
-    n: usize,
-    y: &[f64],
-    buses: &[usize],
-    e: usize,
-    f: usize,
-    base: f64,
-    p: &[f64],
-    q: &[f64],
+    study: ListedStudy,
     allowed: usize,
     to: &mut [f64],
     active: &mut [f64],
     reactive: &mut [f64],
     work: &mut [f64],
-) -> WardAnswer
-    requires { listed.CheckedStudy n y.now buses.now e f p.now q.now (spec.outputs_of to.old active.old reactive.old work.old) }
+) -> Result<WardSummary, Refusal>
+    requires { listed.StudySlices (length study.buses.now) study.e study.f (spec.outputs_of to.old active.old reactive.old work.old) }
     ensures { spec.after_ward result to.new active.new reactive.new work.new
-        ≡ ward.studied (listed.cut n y.now buses.now e f base p.now q.now) (Rows allowed)
+        ≡ ward.studied (view.cut study.entry) (Rows allowed)
         (spec.outputs_of to.old active.old reactive.old work.old) 0 }
 {
-    if e == 0 {
-        return unreduced(
-            n, y, buses, f, base, p, q, allowed, to, active, reactive, work,
-        );
+    if study.e == 0 {
+        return Ok(unreduced(study, to, active, reactive, work));
     }
-    eliminated(
-        n, y, buses, e, f, base, p, q, allowed, to, active, reactive, work,
-    )
+    eliminated(study, allowed, to, active, reactive, work)
 }

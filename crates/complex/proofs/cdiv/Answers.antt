@@ -6,16 +6,16 @@ use Rattle.complex.specs.Leaves.{quotient}
 use Rattle.complex.proofs.Leaves.{tested, pair-none, divided, undivided}
 use Rattle.complex.proofs.cdiv.Goals as goal
 
-pub returns-then-finite : goal.returns-then-finite
-unfolding quotient
-returns-then-finite c =
-    let a = c.args.a in let b = c.args.b in
-    let d = ap finite (sym c.sqmag.ensures) ∙ sym c.finite.ensures ∙ c.if-finite.true in
-    tested _ _ (cdiv a b) (of_quotient a b) c.cdiv.ensures c.if_finite.ensures (divided a b d)
-
 pub returns : goal.returns
 unfolding quotient
 returns c =
     let a = c.args.a in let b = c.args.b in
-    let d = ap finite (sym c.sqmag.ensures) ∙ sym c.finite.ensures ∙ c.if-finite.false in
+    let d = ap finite (sym c.sqmag.ensures) ∙ sym c.finite.ensures ∙ c.if-not-finite.false in
+    tested _ _ (cdiv a b) (of_quotient a b) c.cdiv.ensures c.if_finite.ensures (divided a b d)
+
+pub returns-then-not-finite : goal.returns-then-not-finite
+unfolding quotient
+returns-then-not-finite c =
+    let a = c.args.a in let b = c.args.b in
+    let d = ap finite (sym c.sqmag.ensures) ∙ sym c.finite.ensures ∙ c.if-not-finite.true in
     pair-none (of_quotient a b) (cdiv a b) (undivided a b d)

@@ -17,18 +17,18 @@ all-numbers c = search rules
 room : (c : Start) → c.args.r.n_buses ≤ limit
 room c = (sound-has c.args.r c.requires.1).room
 
-pub bounds-active-i : goal.bounds-active-i
-bounds-active-i c = omega (arith, room (goal.at.bounds-active-i c).Start, full (goal.at.bounds-active-i c).Start, c.loop-i-test.true)
+pub bounds-r-i : goal.bounds-r-i
+bounds-r-i c = omega (arith, room (goal.at.bounds-r-i c).Start, full (goal.at.bounds-r-i c).Start, c.loop-i-test.true)
 
-pub offset_bounds-numbers-row : goal.offset_bounds-numbers-row
-offset_bounds-numbers-row c =
-    let low = row_below c.args.r (full (goal.at.offset_bounds-numbers-row c).Start) c.requires.1 c.loop-i.i c.loop-i-test.true in
+pub offset_bounds-r-row : goal.offset_bounds-r-row
+offset_bounds-r-row c =
+    let low = row_below c.args.r (full (goal.at.offset_bounds-r-row c).Start) c.requires.1 c.loop-i.i c.loop-i-test.true in
     search rules
 
-pub bounds-numbers-row : goal.bounds-numbers-row
-bounds-numbers-row c =
-    let low = row_below c.args.r (full (goal.at.bounds-numbers-row c).Start) c.requires.1 c.loop-i.i c.loop-i-test.true in
-    omega (arith, c.requires.0, all-numbers (goal.at.bounds-numbers-row c).Start, low)
+pub bounds-r-row : goal.bounds-r-row
+bounds-r-row c =
+    let low = row_below c.args.r (full (goal.at.bounds-r-row c).Start) c.requires.1 c.loop-i.i c.loop-i-test.true in
+    omega (arith, c.requires.0, all-numbers (goal.at.bounds-r-row c).Start, low)
 
 pub bounds-list-i : goal.bounds-list-i
 bounds-list-i c = omega (arith, room (goal.at.bounds-list-i c).Start, c.loop-i-test.true)

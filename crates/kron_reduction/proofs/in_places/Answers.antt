@@ -1,14 +1,10 @@
--- `kron_reduction::in_places` meets its contract. The loop's invariant: the numbers passed stand in their places, 0 in the others.
-use Rattle.prelude.proofs.Prelude.{refl}
-use Rattle.lists.proofs.Fronts.{filling-start}
-use Rattle.kron_reduction.proofs.Showing.{places-more, places-end}
+-- `kron_reduction::in_places` meets its contract: what stands behind the numbers is what is left of the zeros.
+use Rattle.prelude.proofs.Prelude.{ap, ap₂, ◌∙◌, List, ◌++◌, ℕ, length, drop, replicate, sub-zero}
+use Rattle.refusals.specs.Refusals.{limit}
+use Rattle.lists.proofs.Fronts.{drop-replicate}
 use Rattle.kron_reduction.proofs.in_places.Goals as goal
 
-pub loop-i-preserved : goal.loop-i-preserved
-loop-i-preserved c = places-more _ _ _ _ refl c.loop-i.invariant _ c.requires c.loop-i-test.true refl
-
-pub loop-i-init : goal.loop-i-init
-loop-i-init c = filling-start _ _
-
 pub returns : goal.returns
-returns c = places-end _ _ _ _ refl c.loop-i.invariant c.loop-i-test.false
+returns c =
+    let n = length c.args.numbers.now in
+    ap₂ (λ (a b : List ℕ). a ++ b) c.copy_from_slice.ensures.after (ap (λ (w : ℕ). drop w (replicate limit 0)) (sub-zero n) ∙ drop-replicate limit n 0)

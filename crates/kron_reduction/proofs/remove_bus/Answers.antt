@@ -1,10 +1,11 @@
 -- `kron_reduction::remove_bus` meets its contract: it is a list of one.
-use Rattle.prelude.proofs.Prelude.{ap}
-use Rattle.kron_reduction.specs.declared.AfterRemovals.{AfterRemovals}
+use Rattle.prelude.proofs.Prelude.{ap₂}
+use Rattle.kron_reduction.specs.declared.KronReducer.{KronReducer}
+use Rattle.kron_reduction.specs.declared.Removals.{Removals}
 use Rattle.kron_reduction.specs.Reducer.{after_bus, after_buses}
 use Rattle.kron_reduction.proofs.remove_bus.Goals as goal
 
 pub returns : goal.returns
 unfolding after_bus after_buses
 returns c =
-    (ap (λ (t : AfterRemovals). record { answer = t.removals.answer; rec = t.rec }) c.remove_buses-out.ensures.0, c.remove_buses-out.ensures.1)
+    (ap₂ (λ (ran : Removals) (r : KronReducer). record { answer = ran.answer; rec = r }) c.remove-answer.ensures.0 c.remove-answer.ensures.1, c.remove-answer.ensures.2)

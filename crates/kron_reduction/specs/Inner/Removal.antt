@@ -1,15 +1,18 @@
 -- Removal by rows and columns, as the code does it: what a slice shows, where a row stood, and what each step answers and leaves.
-use Rattle.std.specs.Prelude.{ℕ, suc, ◌*◌, ◌-◌, ◌≤◌, ◌<◌, ◌≡◌, Bool, cond, List, [], ◌∷◌, ◌++◌, T, ltb, length, get_or, take, drop, Float}
+use Rattle.std.specs.Prelude.{Float, Result, Ok, Err}
+use Rattle.std.specs.Prelude.{ℕ, suc, ◌*◌, ◌-◌, ◌≤◌, ◌<◌, ◌≡◌, Bool, cond, List, [], ◌∷◌, ◌++◌, T, ltb, length, get_or, drop}
 use Rattle.binary64.specs.Values.{all_finite}
 use Rattle.complex.specs.declared.Complex.{Complex}
 use Rattle.complex.specs.Arithmetic.{cmul}
 use Rattle.complex.specs.Computed.{of_parts, of_product, of_quotient}
 use Rattle.complex.specs.Entries.{entry}
 use Rattle.complex.specs.Matrices.{Matrix, entry_at, rows}
-use Rattle.refusals.specs.Refusals.{limit}
-use Rattle.kron_reduction.specs.declared.removal.Ran.{Ran}
+use Rattle.refusals.specs.Refusals.{limit, outcome}
+use Rattle.refusals.specs.declared.Refusal.{Refusal}
+use Rattle.kron_reduction.specs.declared.Removals.{Removals}
 use Rattle.lists.specs.Buses.{rising}
-use Rattle.kron_reduction.specs.Reducer.{padded, state_in}
+use Rattle.kron_reduction.specs.declared.KronReducer.{KronReducer}
+use Rattle.kron_reduction.specs.Reducer.{padded, reducer_of, active_of, state_in}
 use Rattle.kron_reduction.specs.Kron.{State, new_entry, of_new_entry, remove, removal_refusal, eliminate, carried_out, stopped_by}
 
 -- when row k drops out: the old row of what is now row p
@@ -43,26 +46,30 @@ left_by s ys (k ∷ ks) =
     let t = remove s k in
     left_by t (rows t.entries t.active t.active ++ drop (2 * (length t.active * length t.active)) ys) ks
 
--- n active buses in the places bs, and room in ys for their rows
-pub record Holds (n : ℕ) (bs : List ℕ) (ys : List Float) : Type 0 where
-  pub room : n ≤ limit
-  pub places : bs ≡ padded (take n bs)
-  pub rises : T (rising (take n bs))
-  pub fits : 2 * (n * n) ≤ length ys
+-- a record whose rows have room in ys
+pub record Holds (r : KronReducer) (ys : List Float) : Type 0 where
+  pub room : r.n_buses ≤ limit
+  pub places : r.active_buses ≡ padded (active_of r)
+  pub rises : T (rising (active_of r))
+  pub fits : 2 * (r.n_buses * r.n_buses) ≤ length ys
 
--- what is answered for bus k, and the places and the slice after it
-pub record RemovedOne (n : ℕ) (bs : List ℕ) (ys : List Float) (k : ℕ) (answer : ℕ) (bs' : List ℕ) (ys' : List Float) : Type 0 where
-  pub says : answer ≡ removal_refusal (state_in n (take n bs) ys) k
-  pub refused : (answer ≡ 0 → ⊥) → (bs' ≡ bs) × (ys' ≡ ys)
-  pub places : answer ≡ 0 → bs' ≡ padded (remove (state_in n (take n bs) ys) k).active
-  pub shows : answer ≡ 0 → StandsIn (remove (state_in n (take n bs) ys) k) ys'
-  pub behind : answer ≡ 0 → (t : ℕ) → (n - 1) * (n - 1) ≤ t → entry ys' t ≡ entry ys t
+-- what is answered for the bus of row k, and the record and the slice after it
+pub record RemovedOne (r : KronReducer) (ys : List Float) (k : ℕ) (answer : Result (Unit {0}) Refusal)
+    (r' : KronReducer) (ys' : List Float) : Type 0 where
+  pub says : answer ≡ outcome (removal_refusal (state_in r.n_buses (active_of r) ys) k)
+  pub refused : (refusal : Refusal) → answer ≡ Err refusal → (r' ≡ r) × (ys' ≡ ys)
+  pub left : answer ≡ Ok tt
+      → r' ≡ reducer_of r.made (r.n_buses - 1) (padded (remove (state_in r.n_buses (active_of r) ys) k).active) r.numbers
+  pub shows : answer ≡ Ok tt → StandsIn (remove (state_in r.n_buses (active_of r) ys) k) ys'
+  pub behind : answer ≡ Ok tt → (t : ℕ) → (r.n_buses - 1) * (r.n_buses - 1) ≤ t → entry ys' t ≡ entry ys t
 
--- and for the buses ks
-pub record RemovedAll (n : ℕ) (bs : List ℕ) (ys : List Float) (ks : List ℕ) (answer : Ran) (bs' : List ℕ) (ys' : List Float) : Type 0 where
-  pub says : answer.stopped ≡ stopped_by (state_in n (take n bs) ys) ks
-  pub count : answer.done ≡ length (carried_out (state_in n (take n bs) ys) ks)
-  pub within : answer.done ≤ n
-  pub places : bs' ≡ padded (eliminate (state_in n (take n bs) ys) (carried_out (state_in n (take n bs) ys) ks)).active
-  pub shows : StandsIn (eliminate (state_in n (take n bs) ys) (carried_out (state_in n (take n bs) ys) ks)) ys'
-  pub slice : ys' ≡ left_by (state_in n (take n bs) ys) ys (carried_out (state_in n (take n bs) ys) ks)
+-- and for the buses of the rows ks
+pub record RemovedAll (r : KronReducer) (ys : List Float) (ks : List ℕ) (ran : Removals)
+    (r' : KronReducer) (ys' : List Float) : Type 0 where
+  pub says : ran.answer ≡ outcome (stopped_by (state_in r.n_buses (active_of r) ys) ks)
+  pub count : ran.removed ≡ length (carried_out (state_in r.n_buses (active_of r) ys) ks)
+  pub within : ran.removed ≤ r.n_buses
+  pub left : r' ≡ reducer_of r.made (r.n_buses - ran.removed)
+      (padded (eliminate (state_in r.n_buses (active_of r) ys) (carried_out (state_in r.n_buses (active_of r) ys) ks)).active) r.numbers
+  pub shows : StandsIn (eliminate (state_in r.n_buses (active_of r) ys) (carried_out (state_in r.n_buses (active_of r) ys) ks)) ys'
+  pub slice : ys' ≡ left_by (state_in r.n_buses (active_of r) ys) ys (carried_out (state_in r.n_buses (active_of r) ys) ks)

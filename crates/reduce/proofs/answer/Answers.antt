@@ -1,13 +1,8 @@
--- The buffers have the lengths that are asked for, so the answer is written, and not refused.
-use Rattle.reduce.proofs.AnswerLaws.{never-refused, answer-front}
+-- The buffers have the lengths that are asked for, so the answer is how many bytes are written, and no refusal.
+use Rattle.reduce.proofs.AnswerLaws.{answer-front}
 use Rattle.reduce.proofs.answer.Goals as goal
 
-pub returns-in-Written : goal.returns-in-Written
-returns-in-Written c =
-    answer-front c.args.input.now c.args.output.now c.args.matrix.now c.requires.0 c.requires.1 c.reduce-told.result
-    c.reduce-told.new.output c.in-Written.n c.reduce-told.ensures.0 c.reduce-told.ensures.1 c.in-Written.is
-
-pub returns-in-Refused : goal.returns-in-Refused
-returns-in-Refused c =
-    absurd (never-refused c.args.input.now c.args.output.now c.args.matrix.now c.requires.0 c.requires.1 c.reduce-told.result
-    c.in-Refused.field-0 c.reduce-told.ensures.0 c.in-Refused.is)
+pub returns : goal.returns
+returns c =
+    answer-front c.args.input.now c.args.output.now c.args.matrix.now c.requires.0 c.requires.1 c.reduce.new.output c.unwrap_or.result
+    (rw c.reduce.ensures.0 at c.unwrap_or.ensures) c.reduce.ensures.1

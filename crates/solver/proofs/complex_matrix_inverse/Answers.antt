@@ -1,30 +1,22 @@
 -- `solver::complex_matrix_inverse` meets its contract.
-use Rattle.prelude.proofs.Prelude.{refl, sym, ◌∙◌, ne_eqb}
-use Rattle.refusals.specs.Refusals.{outcome}
-use Rattle.refusals.proofs.Answering.{outcome-refused}
-use Rattle.refusals.proofs.Work.{work-told, work-met}
-use Rattle.solver.specs.Calls.{after_elimination, after_inverse}
+use Rattle.prelude.proofs.Prelude.{length}
+use Rattle.std.proofs.lemmas.Result.{err_from_is_err_and}
+use Rattle.refusals.proofs.Answering.{accepted}
 use Rattle.solver.proofs.Accepted.{inverse-accepted}
+use Rattle.solver.proofs.Allowances.{inverse-told, inverse-after}
 use Rattle.solver.proofs.complex_matrix_inverse.Goals as goal
 
-pub returns-then-told-ne0 : goal.returns-then-told-ne0
-unfolding after_inverse after_elimination
-returns-then-told-ne0 c =
-    rw (← c.inverse_refusal-told.ensures, work-told _ _ _ c.if-told-ne0.true, ne_eqb _ 0 c.if-told-ne0.true) (outcome-refused _ _ refl c.if-told-ne0.true, refl, refl)
+pub returns-in_err-inverse_refusal : goal.returns-in_err-inverse_refusal
+returns-in_err-inverse_refusal c =
+    let p = err_from_is_err_and c.from_residual.result c.from_residual.ensures.1 in
+    rw (p.1, p.2) (inverse-told c.args.n c.args.mat.now c.args.inverse.now c.args.work.now _ c.in_err-inverse_refusal.ensures)
 
-pub inverted-met-requires : goal.inverted-met-requires
-inverted-met-requires c =
-    let (k, f) = inverse-accepted _ _ _ _ (sym c.inverse_refusal-told.ensures ∙ c.if-told-ne0.false) in
+pub inverted-requires : goal.inverted-requires
+inverted-requires c =
+    let (k, f) = inverse-accepted c.args.n c.args.mat.now (length c.args.inverse.now) (length c.args.work.now) (accepted (tt {0}) tt _ tt c.in_ok-inverse_refusal.ensures).0 in
     (k.size, k.room, k.matrix, k.out, f)
 
-pub returns-then-met-ne0 : goal.returns-then-met-ne0
-unfolding after_inverse after_elimination
-returns-then-met-ne0 c =
-    let told = sym c.inverse_refusal-told.ensures ∙ c.if-told-ne0.false in
-    rw (work-met _ _ _ told, told, ← c.inverted-met.ensures.0) (outcome-refused _ _ refl c.if-met-ne0.true, c.inverted-met.ensures.1, c.inverted-met.ensures.2)
-
 pub returns : goal.returns
-unfolding after_inverse after_elimination outcome
 returns c =
-    let told = sym c.inverse_refusal-told.ensures ∙ c.if-told-ne0.false in
-    rw (work-met _ _ _ told, told, ← c.inverted-met.ensures.0) (rw c.if-met-ne0.false refl, c.inverted-met.ensures.1, c.inverted-met.ensures.2)
+    inverse-after c.args.n c.args.mat.now c.args.inverse.now c.args.work.now (accepted (tt {0}) tt _ tt c.in_ok-inverse_refusal.ensures).0 c.inverted.result c.inverted.new.inverse c.inverted.new.work
+    c.inverted.ensures.0 c.inverted.ensures.1 c.inverted.ensures.2

@@ -1,8 +1,7 @@
 -- `text_numbers::hexadecimal` meets its contract: what is read so far, and the digits left, make the word.
 use Rattle.prelude.proofs.Prelude.{◌≡◌, sym, ◌∙◌, subst, ℕ, ◌+◌, ◌*◌, ◌<◌, arith, ◌^◌, lt_of_lt_of_le}
 use lib.Pow.{pow_mono, pow-add}
-use Rattle.text_numbers.proofs.WordLaws.{hex-short, hex-long, hex-no, hex-more, hex-end}
-use Rattle.text_numbers.proofs.hexadecimal.Goals.{Else-d-ge16}
+use Rattle.text_numbers.proofs.WordLaws.{digit-some, digit-none, hex-short, hex-long, hex-no, hex-more, hex-end}
 use Rattle.text_numbers.proofs.hexadecimal.Goals as goal
 
 -- i digits make a number below 2^(4 i), and one more fits
@@ -18,35 +17,33 @@ grows i v d b h =
 pub returns-then-word-ne16 : goal.returns-then-word-ne16
 returns-then-word-ne16 c = sym (hex-short _ c.if-word-ne16.true)
 
-pub loop-i-init : goal.loop-i-init
-loop-i-init c = (omega arith, omega arith, hex-long _ c.if-word-ne16.false)
+pub loop-b-init : goal.loop-b-init
+loop-b-init c = (omega arith, hex-long _ c.if-word-ne16.false)
 
-pub returns-then-d-ge16 : goal.returns-then-d-ge16
-returns-then-d-ge16 c =
-    let l = c.loop-i in
-    sym (l.invariant.2 ∙ hex-no _ l.i l.v c.loop-i-test.true (omega (arith, c.digit-d.ensures)))
+pub overflow_mul-v : goal.overflow_mul-v
+overflow_mul-v c =
+    let s = small c.loop-b.b-index c.loop-b.v (omega arith) c.loop-b.invariant.0 in omega arith
 
-bound : (c : Else-d-ge16) → c.loop-i.v < 2 ^ 60
-bound c =
-    let t = c.before.before.before in let l = t.loop-i in
-    small l.i l.v (omega (arith, t.if-word-ne16.false)) l.invariant.1
+pub returns-in_err-to_digit : goal.returns-in_err-to_digit
+returns-in_err-to_digit c =
+    let l = c.loop-b in
+    c.from_residual.ensures
+    ∙ sym (l.invariant.1 ∙ hex-no _ l.b-index l.v c.loop-b-test.true (digit-none _ _ 16 c.from.ensures (omega arith) c.in_err-to_digit.ensures.value))
 
-pub loop-i-preserved : goal.loop-i-preserved
-loop-i-preserved c =
-    let l = c.loop-i in
-    let e = c.digit-d.ensures in (
-      omega arith,
-      grows l.i l.v c.digit-d.result l.invariant.1 c.if-d-ge16.false,
-      l.invariant.2 ∙ hex-more _ l.i l.v c.loop-i-test.true (omega (arith, e)) ∙ rw (← e),
-    )
+pub overflow_add-v : goal.overflow_add-v
+overflow_add-v c =
+    let s = small c.loop-b.b-index c.loop-b.v (omega arith) c.loop-b.invariant.0 in
+    let d = c.in_ok-to_digit.ensures.value in
+    omega arith
+
+pub loop-b-preserved : goal.loop-b-preserved
+loop-b-preserved c =
+    let l = c.loop-b in
+    let d = c.in_ok-to_digit.ensures.value in
+    let e = digit-some _ _ c.in_ok-to_digit.field-0 16 c.from.ensures (omega arith) d in
+    (grows l.b-index l.v c.from-in-loop-b.result l.invariant.0 (omega arith), l.invariant.1 ∙ hex-more _ l.b-index l.v c.loop-b-test.true (omega arith) ∙ cc)
 
 pub returns : goal.returns
 returns c =
-    let l = c.loop-i in
-    sym (l.invariant.2 ∙ hex-end _ l.i l.v l.invariant.0 c.loop-i-test.false)
-
-pub overflow_mul-v : goal.overflow_mul-v
-overflow_mul-v c = omega (arith, bound c)
-
-pub overflow_add-v : goal.overflow_add-v
-overflow_add-v c = omega (arith, bound c)
+    let l = c.loop-b in
+    sym (l.invariant.1 ∙ hex-end _ l.b-index l.v (omega arith) c.loop-b-test.false)

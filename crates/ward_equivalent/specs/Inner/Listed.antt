@@ -1,18 +1,17 @@
 -- A study on one list of rows: what is known of its slices, and the equivalent that its solutions give.
-use Rattle.std.specs.Prelude.{ℕ, zero, suc, ◌+◌, ◌*◌, ◌-◌, ◌≤◌, ◌<◌, ◌≡◌, List, [], map, T, length, get_or, take, drop, Float}
+use Rattle.std.specs.Prelude.{ℕ, zero, suc, ◌+◌, ◌*◌, ◌-◌, ◌≤◌, ◌<◌, ◌≡◌, List, [], map, T, length, get_or, take, drop, Float, Ok}
 use Rattle.std.specs.Float.Ieee.Scale.{finite}
-use Rattle.refusals.specs.Refusals.{limit, computed_not_finite}
-use Rattle.binary64.specs.Values.{all_finite}
+use Rattle.refusals.specs.Refusals.{refusal}
 use Rattle.complex.specs.Matrices.{grid, zeros}
-use Rattle.ward_equivalent.specs.declared.answers.WardAnswer.{WardAnswer}
-use Rattle.ward_equivalent.specs.declared.answers.WardAnswer.TheVariants.{Done, Refused}
+use Rattle.refusals.specs.declared.Refusal.{Refusal}
+use Rattle.refusals.specs.declared.Refusal.TheVariants.{ComputedNotFinite}
 use Rattle.ward_equivalent.specs.declared.study.Held.{Held}
 use Rattle.ward_equivalent.specs.Arithmetic.{injected_p, injected_q}
 use Rattle.ward_equivalent.specs.Ward.{Study, Outputs, ratio}
 use Rattle.ward_equivalent.specs.Studied.{AfterWard}
 use Rattle.ward_equivalent.specs.Extended.{ExtendedStudy, weight_sum, weighted_sum, voltage_correction, q_compensation}
 use Rattle.ward_equivalent.specs.Calls.{study_of}
-use Rattle.ward_equivalent.specs.Inner.Work.{Listing, product_to, product, less_product}
+use Rattle.ward_equivalent.specs.Inner.Work.{product_to, product, less_product}
 
 -- ---- a study whose lists are right, the external buses first, then the internal, then the boundary ones
 
@@ -20,36 +19,12 @@ use Rattle.ward_equivalent.specs.Inner.Work.{Listing, product_to, product, less_
 abbrev pub cut : ℕ → List Float → List ℕ → ℕ → ℕ → Float → List Float → List Float → Study
 cut n ys bs e f base ps qs = study_of n ys (take (f - e) (drop e bs)) (take e bs) (drop f bs) base ps qs
 
--- its lengths, which are needed also once the work slice is reduced
-pub record StudySlices (n : ℕ) (ys : List Float) (bs : List ℕ) (e f : ℕ) (o : Outputs) : Type 0 where
-  pub listing : Listing n ys bs
-  pub few : n ≤ limit
-  pub distinct : length bs ≤ n
-  pub first : e ≤ f
-  pub last : f ≤ length bs
-  pub y-ward : length o.y-ward ≡ 2 * ((length bs - e) * (length bs - e))
-  pub p-ward : length o.p-ward ≡ length bs - f
-  pub q-ward : length o.q-ward ≡ length bs - f
-  pub work : length o.work ≡ 2 * (e * (length bs + 1))
-
--- what the work reads and the slice that it uses
-pub record StudyGiven (n : ℕ) (ys : List Float) (bs : List ℕ) (e f : ℕ) (ps qs ws : List Float) : Type 0 where
-  pub listing : Listing n ys bs
-  pub few : n ≤ limit
-  pub distinct : length bs ≤ n
-  pub first : e ≤ f
-  pub last : f ≤ length bs
-  pub p-ext : length ps ≡ e
-  pub q-ext : length qs ≡ e
-  pub finite : T (all_finite ys)
-  pub work : length ws ≡ 2 * (e * (length bs + 1))
-
--- and the slices that are written
-pub record CheckedStudy (n : ℕ) (ys : List Float) (bs : List ℕ) (e f : ℕ) (ps qs : List Float) (o : Outputs) : Type 0 where
-  pub slices : StudySlices n ys bs e f o
-  pub p-ext : length ps ≡ e
-  pub q-ext : length qs ≡ e
-  pub finite : T (all_finite ys)
+-- the slices that are written, where k buses are listed
+pub record StudySlices (k e f : ℕ) (o : Outputs) : Type 0 where
+  pub y-ward : length o.y-ward ≡ 2 * ((k - e) * (k - e))
+  pub p-ward : length o.p-ward ≡ k - f
+  pub q-ward : length o.q-ward ≡ k - f
+  pub work : length o.work ≡ 2 * (e * (k + 1))
 
 -- where a slice of this length holds the solutions of e external buses of k listed ones
 pub record HeldIn (k e : ℕ) (held : Held) (long : ℕ) : Type 0 where
@@ -67,7 +42,7 @@ outputs_from n ys bs e f base reduced long xs v first ws w c =
     let es = take e bs in
     let r = length bs - e in
     record {
-      answer = Done (record { n_buses_reduced = n; n_buses_equivalent = r; reduction_ratio = ratio r n; rows_reduced = reduced });
+      answer = Ok (record { n_buses_reduced = n; n_buses_equivalent = r; reduction_ratio = ratio r n; rows_reduced = reduced });
       outputs = record {
         y-ward = grid r r (λ (p : ℕ). less_product n ys es (drop e bs) v xs first (get_or (drop e bs) p 0));
         p-ward = map (λ (i : ℕ). injected_p base (product n ys es w ws i c)) (drop f bs);
@@ -78,10 +53,10 @@ outputs_from n ys bs e f base reduced long xs v first ws w c =
 
 -- ---- extended
 
--- the answer of a study whose corrections are not finite, by what its own work meets
-unfoldable pub uncorrected_answer : ℕ → WardAnswer
-uncorrected_answer zero = Refused computed_not_finite
-uncorrected_answer (suc k) = Refused (suc k)
+-- the refusal of a study whose corrections are not finite, by what its own work meets
+unfoldable pub uncorrected_answer : ℕ → Refusal
+uncorrected_answer zero = ComputedNotFinite
+uncorrected_answer (suc k) = refusal (suc k)
 
 abbrev pub extended_of : Study → List Float → ExtendedStudy
 extended_of S vs = record { study = S; v-ext = vs }

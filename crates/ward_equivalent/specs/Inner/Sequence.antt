@@ -2,6 +2,7 @@
 -- of the e external buses beside one right side, e rows of e + 1 entries; behind it stand the columns of X, e rows of r entries.
 use Rattle.std.specs.Prelude.{ℕ, ◌+◌, ◌*◌, ◌-◌, ◌<◌, ◌≡◌}
 use Rattle.std.specs.Prelude.{Bool, false, ◌&&◌, cond, List, [], ◌++◌, T, eqb, length, get_or, take, drop, Float}
+use Rattle.std.specs.Prelude.{Option, Some, None, Result, Ok, Err}
 use Rattle.std.specs.Float.{nan}
 use Rattle.std.specs.Float.Ieee.Scale.{finite}
 use Rattle.binary64.specs.Values.{all_finite}
@@ -9,16 +10,14 @@ use Rattle.complex.specs.declared.Complex.{Complex}
 use Rattle.complex.specs.Matrices.{Matrix, entry_at, grid, zeros}
 use Rattle.refusals.specs.Work.{Step, computing, meets, reductions}
 use Rattle.complex.specs.Inner.Ordinary.{ordinary, all_ordinary}
-use Rattle.solver.specs.declared.elimination.Eliminated.{Eliminated}
-use Rattle.solver.specs.declared.elimination.Eliminated.TheVariants.{Done, Small, Exceeded, NotFinite}
+use Rattle.refusals.specs.declared.Refusal.{Refusal}
+use Rattle.refusals.specs.Refusals.{number_of}
 use Rattle.solver.specs.Inner.Work.{Met}
 use Rattle.solver.specs.Solving.{operations, solve}
 use Rattle.solver.specs.Steps.{workings, steps_of_run}
 use Rattle.solver.specs.GaussJordan.{gauss_jordan}
-use Rattle.ward_equivalent.specs.declared.sequence.Tried.{Tried}
-use Rattle.ward_equivalent.specs.declared.sequence.Tried.TheVariants.{Left, Wild}
 use Rattle.ward_equivalent.specs.declared.sequence.Decided.{Decided}
-use Rattle.ward_equivalent.specs.declared.sequence.Decided.TheVariants.{Together, Apart, Refused}
+use Rattle.ward_equivalent.specs.declared.sequence.Decided.TheVariants.{Together, Apart}
 use Rattle.ward_equivalent.specs.Arithmetic.{current}
 use Rattle.ward_equivalent.specs.Ward.{Study, externals, retained}
 use Rattle.ward_equivalent.specs.Steps.{of_equivalent, of_currents, steps_of_currents, of_injections, of_ratio, steps_of}
@@ -121,46 +120,34 @@ decides_all base ys e w allowed xs =
     && (eqb (meets allowed (steps_of_run operations workings e w (entry_at w xs))) 0
     && made_ordinary e w xs))
 
--- what its end alone tells
-unfoldable pub left_of : Eliminated → Tried
-left_of (Done left) = Left left
-left_of Small = Wild
-left_of Exceeded = Wild
-left_of NotFinite = Wild
-
 -- How it is tried: what is answered, and the slice after it: as it was, filled, or as the elimination leaves it.
-pub record Tries (n : ℕ) (ys : List Float) (bs : List ℕ) (e : ℕ) (base : Float) (ps qs : List Float) (allowed : ℕ) (answered : Tried)
+pub record Tries (n : ℕ) (ys : List Float) (bs : List ℕ) (e : ℕ) (base : Float) (ps qs : List Float) (allowed : ℕ) (answered : Option ℕ)
     (before after : List Float)
     : Type 0 where
   pub answer : answered
       ≡ cond (decides_all base ys e (length bs + 1) allowed (filled_rows n ys bs e base ps qs))
-      (Left
+      (Some
       (allowed
       - reductions (steps_of_run operations workings e (length bs + 1) (entry_at (length bs + 1) (filled_rows n ys bs e base ps qs)))))
-      Wild
+      None
   pub untouched : (ordinary base && all_ordinary ys) ≡ false → after ≡ before
   pub filled : T (ordinary base && all_ordinary ys) → all_finite (filled_rows n ys bs e base ps qs) ≡ false
       → after ≡ filled_rows n ys bs e base ps qs
-  pub end : Eliminated
+  pub end : Result ℕ Refusal
   pub eliminated : T (ordinary base && all_ordinary ys) → T (all_finite (filled_rows n ys bs e base ps qs))
       → Met e (length bs + 1) allowed end (filled_rows n ys bs e base ps qs) after
 
 -- ---- the decision
 
-unfoldable pub decided_number : Decided → ℕ
-decided_number (Together rows) = 0
-decided_number (Apart rows) = 0
-decided_number (Refused k) = k
-
 -- Whether a study S of the first e buses of bs is refused, the slice then +0; how many rows its solves reduce, and where the slice holds
 -- their solutions.
-pub record Decides (n : ℕ) (ys : List Float) (es ks bs : List ℕ) (S : Study) (allowed : ℕ) (answered : Decided) (after : List Float)
+pub record Decides (n : ℕ) (ys : List Float) (es ks bs : List ℕ) (S : Study) (allowed : ℕ) (answered : Result Decided Refusal)
+    (after : List Float)
     : Type 0 where
-  pub number : decided_number answered ≡ meets allowed (steps_of S)
-  pub refuses : (k : ℕ) → answered ≡ Refused k → k ≡ 0 → ⊥
-  pub cleared : (k : ℕ) → answered ≡ Refused k → after ≡ zeros (length after)
-  pub together : (rows : ℕ) → answered ≡ Together rows
+  pub number : number_of answered ≡ meets allowed (steps_of S)
+  pub cleared : (r : Refusal) → answered ≡ Err r → after ≡ zeros (length after)
+  pub together : (rows : ℕ) → answered ≡ Ok (Together rows)
       → (rows ≡ reductions (steps_of S)) × AllTogether n ys bs (length es) S.base S.p-ext S.q-ext after
-  pub apart : (rows : ℕ) → answered ≡ Apart rows
+  pub apart : (rows : ℕ) → answered ≡ Ok (Apart rows)
       → (rows ≡ reductions (steps_of S)) × ColumnsApart n ys es ks (length ks) after
       × CurrentsApart n ys es S.base S.p-ext S.q-ext after

@@ -4,16 +4,14 @@ use Rattle.binary64.specs.Values.{all_finite}
 use Rattle.binary64.proofs.Flags.{flag-next, flag-ended}
 use Rattle.binary64.proofs.finite.all_finite.Goals as goal
 
-pub loop-i-preserved : goal.loop-i-preserved
+pub loop-x-preserved : goal.loop-x-preserved
 unfolding all_finite
-loop-i-preserved c =
-    let s = c.args.s.now in let i = c.loop-i.i in (
-      omega arith,
-      flag-next finite all_finite (λ (x : Float) (xs : List Float). refl) s c.loop-i.all _ i (omega arith) c.and_finite-all.ensures
-          c.loop-i.invariant.1,
-    )
+loop-x-preserved c = (
+  omega arith,
+  flag-next finite all_finite (λ (x : Float) (xs : List Float). refl) c.args.s.now c.loop-x.all _ c.loop-x.x-index c.loop-x-test.true (cc)
+      c.loop-x.invariant.1,
+)
 
 pub returns : goal.returns
 unfolding all_finite
-returns c =
-    flag-ended all_finite refl c.args.s.now c.loop-i.all c.loop-i.i (omega arith) c.loop-i.invariant.1
+returns c = flag-ended all_finite refl c.args.s.now c.loop-x.all c.loop-x.x-index c.loop-x-test.false c.loop-x.invariant.1

@@ -1,6 +1,7 @@
 -- `binary64::steps::special` meets its contract.
 use Rattle.prelude.proofs.Prelude.{div, of_bits}
 use Rattle.binary64.proofs.RootSpecial.{below-zero, above_zero, not_finite, neither}
+use Rattle.binary64.proofs.steps.special.Goals.{else-x-2-via-then-x-2+else-x-3, else-x-2-via-else-x-2}
 use Rattle.binary64.proofs.steps.special.Goals as goal
 
 pub returns-then-x : goal.returns-then-x
@@ -11,10 +12,10 @@ pub returns-then-x-3 : goal.returns-then-x-3
 unfolding div of_bits
 returns-then-x-3 c = above_zero c.args.x c.if-x-2.true c.if-x-3.true
 
-pub returns-else-x-3 : goal.returns-else-x-3
+pub returns : goal.returns
 unfolding div of_bits
-returns-else-x-3 c = not_finite c.args.x c.if-x.false c.if-x-3.false
-
-pub returns-else-x-2 : goal.returns-else-x-2
-unfolding of_bits
-returns-else-x-2 c = neither c.args.x c.if-x.false c.if-x-2.false
+returns c =
+    elim c.else-x-2.branch [
+      | else-x-2-via-then-x-2+else-x-3 w ↦ not_finite c.args.x c.if-x.false w.if-x-3.false
+      | else-x-2-via-else-x-2 w ↦ neither c.args.x c.if-x.false w.if-x-2.false
+    ]

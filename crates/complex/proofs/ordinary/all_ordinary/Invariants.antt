@@ -1,10 +1,6 @@
-use Rattle.prelude.proofs.Prelude.{◌-◌, length}
+use Rattle.std.proofs.Common.{◌≡◌, take}
 use Rattle.complex.specs.Inner.Ordinary.{all_ordinary}
-use Rattle.binary64.proofs.Flags.{Flagged}
 use Rattle.complex.proofs.ordinary.all_ordinary.Given as goal
 
-abbrev pub invariant-loop-i : goal.invariant-loop-i
-invariant-loop-i l = Flagged all_ordinary l.s l.all l.i
-
-abbrev pub decreases-loop-i : goal.decreases-loop-i
-decreases-loop-i l = length l.s - l.i
+abbrev pub invariant-loop-x : goal.invariant-loop-x
+invariant-loop-x l = l.all ≡ all_ordinary (take l.x-index l.s)

@@ -7,6 +7,6 @@ pub returns-then-x : goal.returns-then-x
 unfolding neg of_bits ordinary ordinary_limit
 returns-then-x c = rw c.if-x.true
 
-pub returns : goal.returns
+pub returns-else-x : goal.returns-else-x
 unfolding neg of_bits ordinary ordinary_limit
-returns c = rw c.if-x.false
+returns-else-x c = rw c.if-x.false

@@ -1,4 +1,4 @@
-use Rattle.prelude.proofs.Prelude.{◌≡◌, ◌+◌, ◌-◌, ◌≤◌, length, drop, sets}
+use Rattle.prelude.proofs.Prelude.{◌≡◌, ◌+◌, ◌≤◌, length, drop, sets}
 use Rattle.lists.specs.Buses.{up_to, others}
 use Rattle.dc_flow.specs.Dc.{retained_of}
 use Rattle.dc_flow.proofs.retaining.keep.Given as goal
@@ -6,12 +6,7 @@ use Rattle.dc_flow.proofs.retaining.keep.Given as goal
 abbrev pub invariant-loop-k : goal.invariant-loop-k
 invariant-loop-k l =
     let left = others l.interior (drop l.k (up_to l.n)) in
-    (l.k ≤ l.n)
-    × (l.count ≤ l.k)
+    (l.count ≤ l.k)
     × (length l.retained ≡ l.n)
-    × (length l.initial.retained ≡ l.n)
     × (l.count + length left ≡ length (retained_of l.n l.interior))
     × (sets l.retained l.count left ≡ sets l.initial.retained 0 (retained_of l.n l.interior))
-
-abbrev pub decreases-loop-k : goal.decreases-loop-k
-decreases-loop-k l = l.n - l.k

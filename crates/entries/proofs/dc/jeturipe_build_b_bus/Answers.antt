@@ -2,4 +2,4 @@
 use Rattle.entries.proofs.dc.jeturipe_build_b_bus.Goals as goal
 
 pub returns : goal.returns
-returns c = (rw (← c.build_b_bus.ensures.answer) c.number.ensures, c.build_b_bus.ensures.output)
+returns c = (rw (← c.build_b_bus.ensures.answer) c.number_of.ensures, c.build_b_bus.ensures.output)

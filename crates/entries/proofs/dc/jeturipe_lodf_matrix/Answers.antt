@@ -2,4 +2,4 @@
 use Rattle.entries.proofs.dc.jeturipe_lodf_matrix.Goals as goal
 
 pub returns : goal.returns
-returns c = (rw (← c.lodf_matrix.ensures.answer) c.number.ensures, c.lodf_matrix.ensures.output)
+returns c = (rw (← c.lodf_matrix.ensures.answer) c.number_of.ensures, c.lodf_matrix.ensures.output)

@@ -3,7 +3,7 @@ use Rattle.entries.proofs.KronLaws.{fitted}
 use Rattle.entries.proofs.kron.jeturipe_eliminate_buses.Goals as goal
 
 pub returns-then-rec-ne-RECORD : goal.returns-then-rec-ne-RECORD
-returns-then-rec-ne-RECORD c = search fitted depth 12
+returns-then-rec-ne-RECORD c = rw c.number.ensures (search fitted depth 12)
 
 pub returns : goal.returns
 returns c = search fitted depth 12

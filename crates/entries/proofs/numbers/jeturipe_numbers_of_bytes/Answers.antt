@@ -1,12 +1,10 @@
 -- `entries::numbers::jeturipe_numbers_of_bytes` meets its contract.
-use Rattle.entries.proofs.NumbersLaws.{converting}
+use Rattle.prelude.proofs.Prelude.{ap, ◌∙◌}
+use Rattle.refusals.specs.Refusals.{number_of}
+use Rattle.entries.proofs.NumbersLaws.{told}
 use Rattle.entries.proofs.numbers.jeturipe_numbers_of_bytes.Goals as goal
 
-pub returns-then-refusal-ne0 : goal.returns-then-refusal-ne0
-returns-then-refusal-ne0 c = search converting
-
-pub read_floats-requires : goal.read_floats-requires
-read_floats-requires c = search converting
-
 pub returns : goal.returns
-returns c = search converting
+returns c =
+    let n = c.number_of.ensures ∙ ap number_of c.numbers_of.ensures.answer ∙ told 8 _ _ in
+    (n, rw n c.numbers_of.ensures.output)

@@ -1,12 +1,11 @@
 -- `entries::numbers::jeturipe_words_of_bytes` meets its contract.
-use Rattle.entries.proofs.NumbersLaws.{converting}
+use Rattle.prelude.proofs.Prelude.{ap, ◌∙◌}
+use Rattle.std.proofs.lemmas.List.{map-id}
+use Rattle.refusals.specs.Refusals.{number_of}
+use Rattle.entries.proofs.NumbersLaws.{told}
 use Rattle.entries.proofs.numbers.jeturipe_words_of_bytes.Goals as goal
 
-pub returns-then-refusal-ne0 : goal.returns-then-refusal-ne0
-returns-then-refusal-ne0 c = search converting
-
-pub read_words-requires : goal.read_words-requires
-read_words-requires c = search converting
-
 pub returns : goal.returns
-returns c = search converting
+returns c =
+    let n = c.number_of.ensures ∙ ap number_of c.numbers_of.ensures.answer ∙ told 8 _ _ in
+    (n, rw n (rw map-id at c.numbers_of.ensures.output))

@@ -1,13 +1,13 @@
 -- `entries::scalars::give_pair` meets its contract.
-use Rattle.prelude.proofs.Prelude.{refl}
+use Rattle.prelude.proofs.Prelude.{refl, ◌∙◌}
 use Rattle.complex.specs.Leaves.{pair_number}
 use Rattle.entries.specs.Singles.{pair_after}
 use Rattle.entries.proofs.scalars.give_pair.Goals as goal
 
-pub returns-in-Finite : goal.returns-in-Finite
+pub returns-in_default : goal.returns-in_default
 unfolding pair_number pair_after
-returns-in-Finite c = rw c.in-Finite.is (refl, refl)
+returns-in_default c = rw c.in_default.is (c.number.ensures ∙ c.none_finite.ensures, refl)
 
-pub returns-in-NotFinite : goal.returns-in-NotFinite
+pub returns : goal.returns
 unfolding pair_number pair_after
-returns-in-NotFinite c = rw c.in-NotFinite.is (c.none_finite.ensures, refl)
+returns c = rw c.in-Some.is (refl, refl)

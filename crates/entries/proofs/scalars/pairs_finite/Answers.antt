@@ -16,7 +16,7 @@ returns-then-both_finite c =
     rw (four (finite c.args.a.re) (finite c.args.a.im) (finite c.args.b.re) (finite c.args.b.im), sym c.both_finite.ensures ∙ c.if-both_finite.true)
     c.both_finite-then-both_finite.ensures
 
-pub returns : goal.returns
+pub returns-else-both_finite : goal.returns-else-both_finite
 unfolding all_finite
-returns c =
-    rw (four (finite c.args.a.re) (finite c.args.a.im) (finite c.args.b.re) (finite c.args.b.im), sym c.both_finite.ensures ∙ c.if-both_finite.false)
+returns-else-both_finite c =
+    rw (four (finite c.args.a.re) (finite c.args.a.im) (finite c.args.b.re) (finite c.args.b.im), sym c.both_finite.ensures ∙ c.if-both_finite.false) c.if-both_finite.false

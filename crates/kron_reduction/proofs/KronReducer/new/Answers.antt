@@ -1,19 +1,19 @@
--- `kron_reduction::KronReducer::new` meets its contract: each test picks a case of `after_new`.
-use Rattle.prelude.proofs.Prelude.{sym, ◌∙◌, arith}
-use Rattle.lists.specs.Buses.{up_to}
+-- `kron_reduction::KronReducer::new` meets its contract.
+use Rattle.prelude.proofs.Prelude.{arith, rules}
+use Rattle.std.proofs.lemmas.Result.{err_from_is_err_and}
+use Rattle.refusals.proofs.Answering.{accepted}
 use Rattle.kron_reduction.proofs.Making.{makes-has, new-refused, new-done}
 use Rattle.kron_reduction.proofs.KronReducer.new.Goals as goal
 
-pub returns-then-f-ne0 : goal.returns-then-f-ne0
-unfolding up_to
-returns-then-f-ne0 c =
-    (new-refused c.args.n c.args.y.now c.args.numbers.now c.record_of.result c.making_refusal-f.result c.if-f-ne0.true c.making_refusal-f.ensures c.record_of.ensures, c.shared_slice_known-1.given)
+pub returns-in_err-making_refusal : goal.returns-in_err-making_refusal
+returns-in_err-making_refusal c =
+    let p = err_from_is_err_and c.from_residual.result c.from_residual.ensures.1 in
+    (rw (p.1, p.2) (new-refused _ _ _ _ c.in_err-making_refusal.ensures), search rules)
 
-pub record_of-requires-2 : goal.record_of-requires-2
-record_of-requires-2 c =
-    let h = makes-has c.args.n c.args.y.now c.args.numbers.now (sym c.making_refusal-f.ensures ∙ c.if-f-ne0.false) in
+pub of_numbers-requires : goal.of_numbers-requires
+of_numbers-requires c =
+    let h = makes-has c.args.n c.args.y.now c.args.numbers.now (accepted (tt {0}) (tt {0}) _ _ c.in_ok-making_refusal.ensures).0 in
     omega (arith, h.size, h.many)
 
 pub returns : goal.returns
-returns c =
-    (new-done c.args.n c.args.y.now c.args.numbers.now c.record_of-2.result (sym c.making_refusal-f.ensures ∙ c.if-f-ne0.false) c.record_of-2.ensures, c.shared_slice_known-1.given)
+returns c = (new-done _ _ _ c.of_numbers.result c.in_ok-making_refusal.ensures c.of_numbers.ensures, search rules)

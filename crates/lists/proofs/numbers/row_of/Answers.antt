@@ -1,10 +1,7 @@
--- `lists::numbers::row_of` meets its contract: the row that was found, or the count of rows.
-use Rattle.prelude.proofs.Prelude.{sym, ◌∙◌}
-use Rattle.lists.proofs.Lookups.{found_at, found_nowhere}
+-- `lists::numbers::row_of` meets its contract.
+use Rattle.std.proofs.Common.{ap, ◌∙◌, length, unwrap_or}
+use Rattle.lists.proofs.Chains.{place-or}
 use Rattle.lists.proofs.numbers.row_of.Goals as goal
 
-pub returns-in_default : goal.returns-in_default
-returns-in_default c = sym (found_nowhere _ _ (sym c.find.ensures ∙ c.in_default.is))
-
 pub returns : goal.returns
-returns c = sym (found_at _ _ _ (sym c.find.ensures ∙ c.in-At.is)).1
+returns c = c.unwrap_or.ensures ∙ ap (λ o. unwrap_or o (length c.args.numbers.now)) c.find.ensures ∙ place-or _ _

@@ -1,6 +1,6 @@
 -- `lists::numbers::rows_of` meets its contract. The loop's invariant: the rows of the buses passed are written.
 use Rattle.prelude.proofs.Prelude.{sym, ◌∙◌, arith}
-use Rattle.lists.proofs.Fronts.{filling-start, filling-more, filling-whole}
+use Rattle.lists.proofs.Fronts.{filling-more, filling-whole}
 use Rattle.lists.proofs.Lookups.{length-rows_in, get_or-rows_in}
 use Rattle.lists.proofs.numbers.rows_of.Goals as goal
 
@@ -12,6 +12,3 @@ loop-i-preserved c =
 pub returns : goal.returns
 returns c =
     filling-whole _ _ _ _ c.loop-i.invariant (length-rows_in _ _ ∙ c.requires) (omega (arith, c.loop-i.invariant.long, c.requires, c.loop-i-test.false))
-
-pub loop-i-init : goal.loop-i-init
-loop-i-init c = filling-start _ _

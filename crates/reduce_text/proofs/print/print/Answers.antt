@@ -1,36 +1,19 @@
--- `reduce_text::print::print` meets its contract: one text for each end.
-use Rattle.prelude.proofs.Prelude.{subst}
-use Rattle.reduce_text.specs.declared.read.End.{End}
-use Rattle.text_numbers.specs.Inner.Writing.{HasRoom}
-use Rattle.reduce_text.specs.Printing.{text_of, bad_text}
+-- `reduce_text::print::print` meets its contract: what is kept, or the trouble.
+use Rattle.reduce_text.specs.Printing.{text_of}
 use Rattle.reduce_text.proofs.print.print.Goals as goal
 
 pub put_kept-requires : goal.put_kept-requires
-unfolding text_of bad_text
-put_kept-requires c =
-    (c.requires.0, subst (λ (e : End). HasRoom c.args.out.now 0 (text_of e c.args.reading.rec c.args.ys.now)) c.in-Kept.is c.requires.1)
+unfolding text_of
+put_kept-requires c = (c.requires.0, rw c.in-Ok.is at c.requires.1)
 
-pub put_refused-requires : goal.put_refused-requires
-unfolding text_of bad_text
-put_refused-requires c =
-    subst (λ (e : End). HasRoom c.args.out.now 0 (text_of e c.args.reading.rec c.args.ys.now)) c.in-RefusedDrop.is c.requires.1
+pub put_trouble-requires : goal.put_trouble-requires
+unfolding text_of
+put_trouble-requires c = rw c.in-Err.is at c.requires.1
 
-pub put_line-requires : goal.put_line-requires
-unfolding text_of bad_text
-put_line-requires c =
-    subst (λ (e : End). HasRoom c.args.out.now 0 (text_of e c.args.reading.rec c.args.ys.now)) c.in-BadLine.is c.requires.1
+pub returns-in-Ok : goal.returns-in-Ok
+unfolding text_of
+returns-in-Ok c = rw c.in-Ok.is c.put_kept.ensures
 
-pub returns-in-Kept : goal.returns-in-Kept
-unfolding text_of bad_text
-returns-in-Kept c =
-    rw c.in-Kept.is c.put_kept.ensures
-
-pub returns-in-RefusedDrop : goal.returns-in-RefusedDrop
-unfolding text_of bad_text
-returns-in-RefusedDrop c =
-    rw c.in-RefusedDrop.is c.put_refused.ensures
-
-pub returns-in-BadLine : goal.returns-in-BadLine
-unfolding text_of bad_text
-returns-in-BadLine c =
-    rw c.in-BadLine.is c.put_line.ensures
+pub returns-in-Err : goal.returns-in-Err
+unfolding text_of
+returns-in-Err c = rw c.in-Err.is c.put_trouble.ensures

@@ -1,5 +1,5 @@
 -- `reduce_text::print::put_kept` meets its contract: the count, the buses and the entries, one behind the other.
-use Rattle.prelude.proofs.Prelude.{◌≡◌, ap, ◌∙◌, subst, ◌*◌, arith, rules, length}
+use Rattle.prelude.proofs.Prelude.{◌≡◌, ap, sym, subst, ◌*◌, ◌≤◌, arith, rules, length, take, length-take-le}
 use Rattle.refusals.specs.Refusals.{limit}
 use Rattle.kron_reduction.specs.Reading.{active_numbers}
 use Rattle.kron_reduction.proofs.Reducer.{sound-has}
@@ -19,16 +19,26 @@ put_line-a-requires c =
     omega (arith, c.requires.1, length-kept c.args.rec c.args.ys.now)
 
 -- the lines of the numbers that the record's active buses have
-printed : (c : After-active_numbers-buses) → bus_lines c.args.rec.n_buses c.active_numbers-buses.result ≡ bus_lines c.args.rec.n_buses (active_numbers c.args.rec)
+printed : (c : After-active_numbers-buses) → bus_lines (length (take c.args.rec.n_buses c.active_numbers-buses.result)) (take c.args.rec.n_buses c.active_numbers-buses.result) ≡ bus_lines c.args.rec.n_buses (active_numbers c.args.rec)
 printed c =
     let l : length c.args.rec.active_buses ≡ limit = search rules in
-    ap (bus_lines c.args.rec.n_buses) c.active_numbers-buses.ensures ∙ kept-lines c.args.rec (omega (arith, l, (sound-has c.args.rec c.requires.0.1).room))
+    kept-lines c.args.rec c.active_numbers-buses.result c.active_numbers-buses.ensures (omega (arith, (sound-has c.args.rec c.requires.0.1).room))
+
+few : (c : After-active_numbers-buses) → c.args.rec.n_buses ≤ length c.active_numbers-buses.result
+few c =
+    let l : length c.active_numbers-buses.result ≡ limit = search rules in omega (arith, (sound-has c.args.rec c.requires.0.1).room)
+
+pub slice_bounds-buses-end : goal.slice_bounds-buses-end
+slice_bounds-buses-end c = few (goal.at.slice_bounds-buses-end c).After-active_numbers-buses
+
+pub slice_bounds-put_buses-end : goal.slice_bounds-put_buses-end
+slice_bounds-put_buses-end c =
+    sym (length-take-le c.args.rec.n_buses c.active_numbers-buses.result (few (goal.at.slice_bounds-put_buses-end c).After-active_numbers-buses))
 
 pub put_buses-b-requires : goal.put_buses-b-requires
 put_buses-b-requires c =
-    let l : length c.active_numbers-buses.result ≡ limit = search rules in
     let e = ap length (printed (goal.at.put_buses-b-requires c).After-active_numbers-buses) in
-    (omega (arith, l, (sound-has c.args.rec c.requires.0.1).room), omega (arith, c.requires.1, length-kept c.args.rec c.args.ys.now, e, c.put_line-a.ensures.here, c.put_line-a.auto.out))
+    omega (arith, c.requires.1, length-kept c.args.rec c.args.ys.now, e, c.put_line-a.ensures.here, c.put_line-a.auto.out)
 
 pub overflow_mul-n : goal.overflow_mul-n
 overflow_mul-n c =

@@ -1,10 +1,8 @@
-use Rattle.prelude.proofs.Prelude.{◌≡◌, ◌-◌, ◌≤◌, length, drop}
+use Rattle.prelude.proofs.Prelude.{◌≡◌, drop}
 use mathlib.Core.List.{foldl}
-use Rattle.complex.specs.{plus0, ◌⊕◌}
+use Rattle.complex.specs.{◌⊕◌}
+use Rattle.rei_equivalent.specs.Rei.{total}
 use Rattle.rei_equivalent.proofs.inputs.sum.Given as goal
 
-abbrev pub invariant-loop-i : goal.invariant-loop-i
-invariant-loop-i l = (l.i ≤ length l.xs) × (foldl ◌⊕◌ l.s (drop l.i l.xs) ≡ foldl ◌⊕◌ plus0 l.xs)
-
-abbrev pub decreases-loop-i : goal.decreases-loop-i
-decreases-loop-i l = length l.xs - l.i
+abbrev pub invariant-loop-x : goal.invariant-loop-x
+invariant-loop-x l = foldl ◌⊕◌ l.sum (drop l.x-index l.xs) ≡ total l.xs

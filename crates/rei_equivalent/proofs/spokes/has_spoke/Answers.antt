@@ -1,5 +1,5 @@
 -- `rei_equivalent::spokes::has_spoke` meets its contract: the root of a number above 2 ^ -78 is not below 2 ^ -39, which is above 1e-12.
-use Rattle.prelude.proofs.Prelude.{◌≡◌, refl, sym, true, false, zero, suc, ◌*◌, ◌≤◌, ◌<◌, arith, T, Float, nan, true≢false, ◌^◌, ltb-true, lt→ltb, inf, fin, binary64, up, down, fits, lt, of_bits}
+use Rattle.prelude.proofs.Prelude.{◌≡◌, refl, sym, ◌∙◌, true, false, zero, suc, ◌*◌, ◌≤◌, ◌<◌, arith, T, Float, nan, true≢false, ◌^◌, ltb-true, lt→ltb, inf, fin, binary64, up, down, fits, lt, of_bits}
 use lib.IntN.{negsuc}
 use lib.Ieee.Fits.{add-fits}
 use lib.Ieee.Positive.{num, den}
@@ -35,8 +35,8 @@ sqmag-fits y = add-fits binary64 (y.re ⊗ y.re) (y.im ⊗ y.im)
 
 pub returns-then-sqmag : goal.returns-then-sqmag
 unfolding magnitude small_magnitude
-returns-then-sqmag c = sym (strong _ (sqmag-fits c.args.y) (rw c.sqmag.ensures at c.if-sqmag.true))
+returns-then-sqmag c = c.if-sqmag.true ∙ sym (strong _ (sqmag-fits c.args.y) (rw c.sqmag.ensures at c.if-sqmag.true))
 
-pub returns : goal.returns
+pub returns-else-sqmag : goal.returns-else-sqmag
 unfolding magnitude small_magnitude
-returns c = rw c.magnitude.ensures
+returns-else-sqmag c = rw c.magnitude.ensures

@@ -3,10 +3,10 @@ use Rattle.complex.specs.{small_magnitude, plus0}
 use Rattle.rei_equivalent.specs.Rei.{spoke}
 use Rattle.rei_equivalent.proofs.spokes.spoke.Goals as goal
 
-pub returns-then-has_spoke : goal.returns-then-has_spoke
+pub returns-then-not-has_spoke : goal.returns-then-not-has_spoke
 unfolding spoke small_magnitude plus0
-returns-then-has_spoke c = rw (← c.has_spoke.ensures, c.if-has_spoke.true)
+returns-then-not-has_spoke c = rw (← c.has_spoke.ensures, c.if-not-has_spoke.true)
 
 pub returns : goal.returns
 unfolding spoke small_magnitude plus0
-returns c = rw (← c.has_spoke.ensures, c.if-has_spoke.false)
+returns c = rw (← c.has_spoke.ensures, c.if-not-has_spoke.false)

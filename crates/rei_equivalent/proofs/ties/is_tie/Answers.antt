@@ -7,6 +7,6 @@ pub returns-then-abs : goal.returns-then-abs
 unfolding is_tie tie_threshold
 returns-then-abs c = rw (← c.abs.ensures, c.if-abs.true)
 
-pub returns : goal.returns
+pub returns-else-abs : goal.returns-else-abs
 unfolding is_tie tie_threshold
-returns c = rw (← c.abs.ensures, c.if-abs.false, ← c.abs-2.ensures)
+returns-else-abs c = rw (← c.abs.ensures, c.if-abs.false, ← c.abs-else-abs.ensures)

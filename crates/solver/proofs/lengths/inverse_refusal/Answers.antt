@@ -1,17 +1,17 @@
 -- `solver::lengths::inverse_refusal` meets its contract.
-use Rattle.prelude.proofs.Prelude.{refl, sym, ◌∙◌}
-use Rattle.refusals.proofs.Numbers.{given-before, given-not, given-all}
+use Rattle.prelude.proofs.Prelude.{sym, ◌∙◌}
+use Rattle.std.proofs.lemmas.Result.{err_from_is_err_and}
+use Rattle.refusals.proofs.Numbers.{given-before, given-not}
 use Rattle.solver.specs.Calls.{inverse_refusal}
 use Rattle.solver.proofs.lengths.inverse_refusal.Goals as goal
 
-pub returns-then-shape-ne0 : goal.returns-then-shape-ne0
+pub returns-in_err-inverse_shape_refusal : goal.returns-in_err-inverse_shape_refusal
 unfolding inverse_refusal
-returns-then-shape-ne0 c = given-before _ _ c.args.mat.now c.inverse_shape_refusal-shape.ensures c.if-shape-ne0.true
+returns-in_err-inverse_shape_refusal c =
+    let p = err_from_is_err_and c.from_residual.result c.from_residual.ensures.1 in
+    rw (p.1, p.2) (given-before tt tt _ c.args.mat.now _ c.in_err-inverse_shape_refusal.ensures)
 
 pub returns-then-not-all_finite : goal.returns-then-not-all_finite
 unfolding inverse_refusal
-returns-then-not-all_finite c = given-not _ _ c.args.mat.now refl (sym c.inverse_shape_refusal-shape.ensures ∙ c.if-shape-ne0.false) (sym c.all_finite.ensures ∙ c.if-not-all_finite.true)
-
-pub returns : goal.returns
-unfolding inverse_refusal
-returns c = given-all _ _ c.args.mat.now refl (sym c.inverse_shape_refusal-shape.ensures ∙ c.if-shape-ne0.false) (sym c.all_finite.ensures ∙ c.if-not-all_finite.false)
+returns-then-not-all_finite c =
+    given-not tt tt _ c.args.mat.now tt c.in_ok-inverse_shape_refusal.ensures (sym c.all_finite.ensures ∙ c.if-not-all_finite.true)

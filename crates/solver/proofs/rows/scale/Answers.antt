@@ -1,11 +1,8 @@
 -- `solver::rows::scale` meets its contract.
 use Rattle.prelude.proofs.Prelude.{ap, ◌∙◌, List, ◌+◌, Float}
 use Rattle.complex.specs.{Complex, cmul, put}
-use Rattle.solver.proofs.TurnedRows.{scaled-none, scaled-next, scaled-all}
+use Rattle.solver.proofs.TurnedRows.{scaled-next}
 use Rattle.solver.proofs.rows.scale.Goals as goal
-
-pub loop-j-init : goal.loop-j-init
-loop-j-init c = scaled-none c.args.w c.args.by c.args.row.now c.args.to.now c.requires.0 c.requires.1
 
 pub loop-j-preserved : goal.loop-j-preserved
 loop-j-preserved c =
@@ -15,7 +12,3 @@ loop-j-preserved c =
     ∙ ap (put (put c.loop-j.row c.loop-j.j c.cmul-p.result) (c.args.w + c.loop-j.j)) c.turn.ensures)
     c.put-in-loop-j-2.ensures
     (c.cmul-p.ensures ∙ ap (λ (x : Complex). cmul x c.args.by) c.get.ensures)
-
-pub returns : goal.returns
-returns c =
-    scaled-all c.args.w c.args.by c.args.row.now c.loop-j.row c.loop-j.to c.loop-j.j c.loop-j-test.false c.loop-j.invariant

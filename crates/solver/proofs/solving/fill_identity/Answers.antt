@@ -13,5 +13,5 @@ returns c =
     λ (i j : ℕ) (h : i < c.args.n) (k : j < w).
     c.place_ones.ensures i j h k
     ∙ ap (λ (x : Complex). cond (eqb j (c.args.n + i)) unit x)
-    (c.place_block.ensures i j h k ∙ ap (λ (l : List Float). placed 0 c.args.n A (entry_at w l) i j) c.clear.ensures)
+    (c.place.ensures i j h k ∙ ap (λ (l : List Float). placed 0 c.args.n A (entry_at w l) i j) c.clear.ensures)
     ∙ identity-filled c.args.n (length c.args.work.now) A c.requires.1 i j h k

@@ -12,6 +12,6 @@ returns c =
     let A = entry_at c.args.n c.args.a.now in
     let W = entry_at w c.args.work.now in
     λ (i j : ℕ) (h : i < c.args.n) (k : j < w).
-    c.place_block-2.ensures i j h k
-    ∙ placed_same c.args.n 1 i w (entry_at 1 c.args.b.now) (entry_at w c.place_block.new.work) (placed 0 c.args.n A W) (λ (q : ℕ) (l : q < w). c.place_block.ensures i q h l) j k
+    c.place-2.ensures i j h k
+    ∙ placed_same c.args.n 1 i w (entry_at 1 c.args.b.now) (entry_at w c.place.new.work) (placed 0 c.args.n A W) (λ (q : ℕ) (l : q < w). c.place.ensures i q h l) j k
     ∙ system-filled c.args.n A W c.args.b.now i j k

@@ -1,18 +1,20 @@
 -- `solver::solving::inverted` meets its contract.
-use Rattle.prelude.proofs.Prelude.{◌≡◌, Bool, true, sym, ap, ◌∙◌, cond, ℕ, ◌+◌, arith, rules, eqb, ne_eqb}
+use Rattle.prelude.proofs.Prelude.{◌≡◌, Bool, true, sym, ap, ◌∙◌, cond, List, ℕ, ◌+◌, arith, rules, Float}
+use Rattle.std.proofs.Common.{is_ok}
+use Rattle.std.proofs.lemmas.Result.{MatchResult-at_err}
 use Rattle.complex.specs.{Matrix, entry_at, grid, zeros}
 use Rattle.complex.proofs.FiniteEntries.{slice-entries}
 use Rattle.complex.proofs.Matrices.{grid-same}
-use Rattle.refusals.proofs.Refusing.{products}
 use Rattle.refusals.specs.declared.Allowance.TheVariants.{Unlimited}
+use Rattle.refusals.specs.Refusals.{number_of}
 use Rattle.refusals.specs.Work.{work_refusal}
 use Rattle.solver.specs.Solving.{inverse, unit_column}
 use Rattle.solver.specs.Steps.{steps_of_inverse}
-use Rattle.solver.specs.Inner.Work.{is_done, right_sides}
-use Rattle.solver.proofs.Told.{done-left, number-none}
+use Rattle.solver.specs.Inner.Work.{right_sides}
+use Rattle.solver.proofs.Told.{done-left, same-number, by_number}
 use Rattle.solver.proofs.Allowances.{inverse-refused}
 use Rattle.solver.proofs.Solutions.{ended_is, solution-is, filled-finite, identity-finite}
-use Rattle.solver.proofs.solving.inverted.Goals.{After-eliminate-end, After-number_of-number, Start}
+use Rattle.solver.proofs.solving.inverted.Goals.{then-is_ok, else-is_ok, After-eliminate-end, Start}
 use Rattle.solver.proofs.solving.inverted.Goals as goal
 
 pub eliminate-end-requires : goal.eliminate-end-requires
@@ -24,43 +26,39 @@ eliminate-end-requires c = (
       (slice-entries c.args.n c.args.n c.args.mat.now c.requires.2 c.requires.4) (identity-finite c.args.n c.args.n),
 )
 
--- the slice is filled and eliminated, and its end has a number
-module _ (c : After-number_of-number) where
-  abbrev run : After-eliminate-end
-  run = (goal.at.After-number_of-number c).After-eliminate-end
-
+-- the slice is filled and eliminated
+module _ (c : After-eliminate-end) where
   abbrev start : Start
-  start = (goal.at.After-eliminate-end run).Start
+  start = (goal.at.After-eliminate-end c).Start
 
   abbrev A : Matrix
   A = entry_at start.args.n start.args.mat.now
 
-  told : c.number_of-number.result ≡ work_refusal Unlimited (steps_of_inverse start.args.n A)
+  abbrev solution : List Float
+  solution = grid start.args.n start.args.n (inverse start.args.n A)
+
+  told : number_of c.eliminate-end.result ≡ work_refusal Unlimited (steps_of_inverse start.args.n A)
   unfolding steps_of_inverse
-  told =
-      c.number_of-number.ensures
-      ∙ inverse-refused start.args.n A run.eliminate-end.result
-      (ended_is start.args.n start.args.n A (λ (r k : ℕ). unit_column k r) _ run.fill_identity.ensures _ _ run.eliminate-end.new.work run.eliminate-end.ensures)
+  told = inverse-refused start.args.n A c.eliminate-end.result
+      (ended_is start.args.n start.args.n A (λ (r k : ℕ). unit_column k r) _ c.fill_identity.ensures _ _ c.eliminate-end.new.work c.eliminate-end.ensures)
 
-  read : c.number_of-number.result ≡ 0 → grid start.args.n start.args.n (right_sides start.args.n (entry_at (start.args.n + start.args.n) run.eliminate-end.new.work))
-      ≡ grid start.args.n start.args.n (inverse start.args.n A)
-  read z =
-      let done : is_done run.eliminate-end.result ≡ true = sym (number-none run.eliminate-end.result) ∙ ap (λ (k : ℕ). eqb k 0) (sym c.number_of-number.ensures ∙ z) in
-      let (left, e) = done-left run.eliminate-end.result done in
+  read : is_ok c.eliminate-end.result ≡ true → grid start.args.n start.args.n (right_sides start.args.n (entry_at (start.args.n + start.args.n) c.eliminate-end.new.work)) ≡ solution
+  read d =
+      let (left, e) = done-left c.eliminate-end.result d in
       grid-same start.args.n start.args.n _ (inverse start.args.n A)
-      (λ (i j : ℕ) h k. solution-is start.args.n start.args.n A (λ (r k : ℕ). unit_column k r) _ run.fill_identity.ensures _ _ _ run.eliminate-end.ensures left e i j h k)
-
-pub returns-then-number-ne0 : goal.returns-then-number-ne0
-returns-then-number-ne0 c =
-    let g = run (goal.at.returns-then-number-ne0 c).After-number_of-number in (
-      told (goal.at.returns-then-number-ne0 c).After-number_of-number,
-      sym (ap (λ (t : Bool). cond t (grid (start (goal.at.returns-then-number-ne0 c).After-number_of-number).args.n (start (goal.at.returns-then-number-ne0 c).After-number_of-number).args.n (inverse (start (goal.at.returns-then-number-ne0 c).After-number_of-number).args.n (A (goal.at.returns-then-number-ne0 c).After-number_of-number))) (start (goal.at.returns-then-number-ne0 c).After-number_of-number).args.inverse.now) (ne_eqb _ 0 c.if-number-ne0.true)),
-      c.clear.ensures ∙ ap zeros (g.eliminate-end.auto.work ∙ g.fill_identity.auto.work),
-    )
+      (λ (i j : ℕ) h k. solution-is start.args.n start.args.n A (λ (r k : ℕ). unit_column k r) _ c.fill_identity.ensures _ _ _ c.eliminate-end.ensures left e i j h k)
 
 pub returns : goal.returns
 returns c =
-    let g = run (goal.at.returns c).After-number_of-number in (sym c.if-number-ne0.false ∙ told (goal.at.returns c).After-number_of-number, c.take.ensures ∙ read (goal.at.returns c).After-number_of-number c.if-number-ne0.false, c.clear-2.ensures ∙ ap zeros (g.eliminate-end.auto.work ∙ g.fill_identity.auto.work))
-
-pub overflow_mul-n : goal.overflow_mul-n
-overflow_mul-n c = search products
+    let run = (goal.at.returns c).After-eliminate-end in
+    let end = c.eliminate-end.result in
+    let same = same-number end c.map.result c.map.ensures.variant (λ e h. MatchResult-at_err _ _ e h c.map.ensures.cases) in
+    let written : c.if-is_ok.inverse ≡ cond (is_ok end) (solution run) c.args.inverse.now
+    = elim c.if-is_ok.branch [
+      | then-is_ok w ↦ let done = sym c.is_ok.ensures.value ∙ w.if-is_ok.true in w.inverse-is ∙ w.take.ensures ∙ read run done ∙ sym (ap (λ (t : Bool). cond t (solution run) c.args.inverse.now) done)
+      | else-is_ok w ↦ w.inverse-is ∙ sym (ap (λ (t : Bool). cond t (solution run) c.args.inverse.now) (sym c.is_ok.ensures.value ∙ w.if-is_ok.false))
+    ] in (
+      by_number c.map.result _ (same ∙ told run),
+      written ∙ sym (ap (λ (t : Bool). cond t (solution run) c.args.inverse.now) c.map.ensures.variant),
+      c.clear.ensures ∙ ap zeros (c.eliminate-end.auto.work ∙ c.fill_identity.auto.work),
+    )

@@ -1,14 +1,15 @@
 -- `solver::solving::solved` meets its contract.
 use Rattle.prelude.proofs.Prelude.{◌≡◌, Bool, true, sym, ap, ◌∙◌, cond, List, ℕ, ◌+◌, arith, rules, Float}
+use Rattle.std.proofs.Common.{is_ok}
 use Rattle.complex.specs.{entry, Matrix, entry_at, grid, zeros}
 use Rattle.complex.proofs.FiniteEntries.{slice-entries}
 use Rattle.complex.proofs.Matrices.{grid-same}
 use Rattle.solver.specs.Solving.{solve}
 use Rattle.solver.specs.Steps.{steps_of_solve}
-use Rattle.solver.specs.Inner.Work.{is_done, Ended, right_sides}
+use Rattle.solver.specs.Inner.Work.{Ended, right_sides}
 use Rattle.solver.proofs.Told.{done-left}
 use Rattle.solver.proofs.Solutions.{ended_is, solution-is, filled-finite, side-finite}
-use Rattle.solver.proofs.solving.solved.Goals.{After-eliminate-end, Start}
+use Rattle.solver.proofs.solving.solved.Goals.{then-is_ok, else-is_ok, After-eliminate-end, Start}
 use Rattle.solver.proofs.solving.solved.Goals as goal
 
 pub eliminate-end-requires : goal.eliminate-end-requires
@@ -35,23 +36,18 @@ module _ (c : After-eliminate-end) where
   unfolding steps_of_solve
   told = ended_is start.args.n 1 A (λ (r k : ℕ). entry start.args.b.now r) _ c.fill_system.ensures _ _ c.eliminate-end.new.work c.eliminate-end.ensures
 
-  read : is_done c.eliminate-end.result ≡ true → grid start.args.n 1 (right_sides start.args.n (entry_at (start.args.n + 1) c.eliminate-end.new.work)) ≡ solution
+  read : is_ok c.eliminate-end.result ≡ true → grid start.args.n 1 (right_sides start.args.n (entry_at (start.args.n + 1) c.eliminate-end.new.work)) ≡ solution
   read d =
       let (left, e) = done-left c.eliminate-end.result d in
       grid-same start.args.n 1 _ _
       (λ (i j : ℕ) h k. solution-is start.args.n 1 A (λ (r k : ℕ). entry start.args.b.now r) _ c.fill_system.ensures _ _ _ c.eliminate-end.ensures left e i j h k)
 
-pub returns-then-not-is_done : goal.returns-then-not-is_done
-returns-then-not-is_done c = (
-  told (goal.at.returns-then-not-is_done c).After-eliminate-end,
-  sym (ap (λ (t : Bool). cond t (solution (goal.at.returns-then-not-is_done c).After-eliminate-end) (start (goal.at.returns-then-not-is_done c).After-eliminate-end).args.x.now) (sym c.is_done.ensures ∙ c.if-not-is_done.true)),
-  c.clear.ensures ∙ ap zeros (c.eliminate-end.auto.work ∙ c.fill_system.auto.work),
-)
-
 pub returns : goal.returns
 returns c =
-    let done : is_done c.eliminate-end.result ≡ true = sym c.is_done.ensures ∙ c.if-not-is_done.false in (
-      told (goal.at.returns c).After-eliminate-end,
-      c.take.ensures ∙ read (goal.at.returns c).After-eliminate-end done ∙ sym (ap (λ (t : Bool). cond t (solution (goal.at.returns c).After-eliminate-end) (start (goal.at.returns c).After-eliminate-end).args.x.now) done),
-      c.clear-2.ensures ∙ ap zeros (c.eliminate-end.auto.work ∙ c.fill_system.auto.work),
-    )
+    let run = (goal.at.returns c).After-eliminate-end in
+    let written : c.if-is_ok.x ≡ cond (is_ok c.eliminate-end.result) (solution run) c.args.x.now
+    = elim c.if-is_ok.branch [
+      | then-is_ok w ↦ let done = sym c.is_ok.ensures.value ∙ w.if-is_ok.true in w.x-is ∙ w.take.ensures ∙ read run done ∙ sym (ap (λ (t : Bool). cond t (solution run) c.args.x.now) done)
+      | else-is_ok w ↦ w.x-is ∙ sym (ap (λ (t : Bool). cond t (solution run) c.args.x.now) (sym c.is_ok.ensures.value ∙ w.if-is_ok.false))
+    ] in
+    (told run, written, c.clear.ensures ∙ ap zeros (c.eliminate-end.auto.work ∙ c.fill_system.auto.work))

@@ -1,5 +1,5 @@
 -- `text_numbers::print::glyph` meets its contract.
-use Rattle.prelude.proofs.Prelude.{lt-ltb, le-ltb}
+use Rattle.prelude.proofs.Prelude.{arith, lt-ltb, le-ltb}
 use Rattle.text_numbers.specs.Words.{glyph}
 use Rattle.text_numbers.proofs.print.glyph.Goals as goal
 
@@ -7,6 +7,6 @@ pub returns-then-d-lt10 : goal.returns-then-d-lt10
 unfolding glyph
 returns-then-d-lt10 c = simp (lt-ltb _ _ c.if-d-lt10.true)
 
-pub returns : goal.returns
+pub returns-else-d-lt10 : goal.returns-else-d-lt10
 unfolding glyph
-returns c = simp (le-ltb _ _ c.if-d-lt10.false)
+returns-else-d-lt10 c = simp (le-ltb _ _ c.if-d-lt10.false) (omega arith)

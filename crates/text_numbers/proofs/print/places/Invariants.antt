@@ -1,9 +1,6 @@
-use Rattle.prelude.proofs.Prelude.{◌≡◌, ◌+◌, ◌-◌, ◌≤◌}
+use Rattle.prelude.proofs.Prelude.{◌≡◌, ◌+◌, ◌-◌}
 use Rattle.text_numbers.specs.Words.{places}
 use Rattle.text_numbers.proofs.print.places.Given as goal
 
 abbrev pub invariant-loop-k : goal.invariant-loop-k
-invariant-loop-k l = (1 ≤ l.k) × (l.k ≤ 20) × (places 20 l.n + 1 ≡ l.k + places (21 - l.k) l.rest)
-
-abbrev pub decreases-loop-k : goal.decreases-loop-k
-decreases-loop-k l = 20 - l.k
+invariant-loop-k l = places 20 l.n + 1 ≡ l.k + places (21 - l.k) l.rest

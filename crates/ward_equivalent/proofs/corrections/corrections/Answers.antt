@@ -11,10 +11,10 @@ use Rattle.ward_equivalent.proofs.corrections.corrections.Goals as goal
 
 pub loop-t-init : goal.loop-t-init
 loop-t-init c =
-    let X : ExtendedStudy = correction_input c.args.n c.args.y.now c.args.outer.now c.args.voltages.now c.args.base in (
+    let X : ExtendedStudy = correction_input c.args.ties.matrix.n c.args.ties.matrix.y.now c.args.ties.outer.now c.args.ties.voltages.now c.args.ties.base in (
       omega arith,
-      c.requires.3,
-      c.requires.4,
+      c.requires.1,
+      c.requires.2,
       stored-none c.args.correction.now (λ (k : ℕ). voltage_correction X (get_or c.args.boundary.now k 0)),
       stored-none c.args.compensation.now (λ (k : ℕ). q_compensation X (get_or c.args.boundary.now k 0)),
       λ (k : ℕ) l. absurd (omega arith),
@@ -22,11 +22,11 @@ loop-t-init c =
 
 pub over_ties-s-requires : goal.over_ties-s-requires
 over_ties-s-requires c =
-    (c.requires.0, listed_below c.args.n c.args.y.now c.args.boundary.now c.requires.1 c.loop-t.t c.loop-t-test.true, c.requires.2)
+    listed_below c.args.ties.matrix.n c.args.ties.matrix.y.now c.args.boundary.now c.requires.0 c.loop-t.t c.loop-t-test.true
 
 pub returns-then-not-finite_tie : goal.returns-then-not-finite_tie
 returns-then-not-finite_tie c =
-    let X : ExtendedStudy = correction_input c.args.n c.args.y.now c.args.outer.now c.args.voltages.now c.args.base in
+    let X : ExtendedStudy = correction_input c.args.ties.matrix.n c.args.ties.matrix.y.now c.args.ties.outer.now c.args.ties.voltages.now c.args.ties.base in
     let i = get_or c.args.boundary.now c.loop-t.t 0 in (
       tells-lost _ λ all. correction-lost X i _ _ _ _ c.over_ties-s.ensures.0 c.over_ties-s.ensures.1 c.over_ties-s.ensures.2 (c.mean-m.ensures ∙ mean-is X i c.over_ties-s.result.weights c.over_ties-s.result.weighted c.over_ties-s.ensures.0 c.over_ties-s.ensures.1) (sym c.finite_tie.ensures ∙ c.if-not-finite_tie.true) (all c.loop-t.t c.loop-t-test.true),
       λ h. absurd h,
@@ -35,7 +35,7 @@ returns-then-not-finite_tie c =
 
 pub loop-t-preserved : goal.loop-t-preserved
 loop-t-preserved c =
-    let X : ExtendedStudy = correction_input c.args.n c.args.y.now c.args.outer.now c.args.voltages.now c.args.base in
+    let X : ExtendedStudy = correction_input c.args.ties.matrix.n c.args.ties.matrix.y.now c.args.ties.outer.now c.args.ties.voltages.now c.args.ties.base in
     let i = get_or c.args.boundary.now c.loop-t.t 0 in
     let mean = c.mean-m.ensures ∙ mean-is X i c.over_ties-s.result.weights c.over_ties-s.result.weighted c.over_ties-s.ensures.0 c.over_ties-s.ensures.1 in (
       omega arith,
@@ -48,7 +48,7 @@ loop-t-preserved c =
 
 pub returns : goal.returns
 returns c =
-    let X : ExtendedStudy = correction_input c.args.n c.args.y.now c.args.outer.now c.args.voltages.now c.args.base in (
+    let X : ExtendedStudy = correction_input c.args.ties.matrix.n c.args.ties.matrix.y.now c.args.ties.outer.now c.args.ties.voltages.now c.args.ties.base in (
       tells-held _ λ (t : ℕ) h. c.loop-t.invariant.5 t (omega arith),
       λ _. stored-map (voltage_correction X) c.args.boundary.now c.loop-t.correction (λ (k : ℕ). get_or c.args.correction.now k nan) c.loop-t.t c.loop-t.invariant.1 (omega arith) c.loop-t.invariant.3,
       λ _. stored-map (q_compensation X) c.args.boundary.now c.loop-t.compensation (λ (k : ℕ). get_or c.args.compensation.now k nan) c.loop-t.t c.loop-t.invariant.2 (omega arith) c.loop-t.invariant.4,

@@ -8,20 +8,20 @@ use Rattle.ward_equivalent.proofs.corrections.over_ties.Goals as goal
 pub loop-k-init : goal.loop-k-init
 unfolding plus0
 loop-k-init c =
-    (omega arith, ties-none c.args.n c.args.y.now c.args.outer.now c.args.voltages.now c.args.base c.args.bus)
+    (omega arith, ties-none c.args.ties.matrix.n c.args.ties.matrix.y.now c.args.ties.outer.now c.args.ties.voltages.now c.args.ties.base c.args.bus)
 
 pub at-g-requires : goal.at-g-requires
 at-g-requires c =
-    entry-index c.args.n c.args.y.now c.requires.0.full c.args.bus (get_or c.args.outer.now c.loop-k.k 0) c.requires.1
-    (listed_below c.args.n c.args.y.now c.args.outer.now c.requires.0 c.loop-k.k c.loop-k-test.true)
+    entry-index c.args.ties.matrix.n c.args.ties.matrix.y.now c.args.ties.external.full c.args.bus (get_or c.args.ties.outer.now c.loop-k.k 0) c.requires
+    (listed_below c.args.ties.matrix.n c.args.ties.matrix.y.now c.args.ties.outer.now c.args.ties.external c.loop-k.k c.loop-k-test.true)
 
 pub loop-k-preserved : goal.loop-k-preserved
 unfolding one
 loop-k-preserved c = (
   omega arith,
-  ties-more c.args.n c.args.y.now c.args.outer.now c.args.voltages.now c.args.base c.args.bus c.loop-k.k c.loop-k.weights c.loop-k.weighted c.loop-k.reactive c.magnitude-w.result c.at-g.result c.loop-k.invariant.1 c.at-g.ensures c.magnitude-w.ensures,
+  ties-more c.args.ties.matrix.n c.args.ties.matrix.y.now c.args.ties.outer.now c.args.ties.voltages.now c.args.ties.base c.args.bus c.loop-k.k c.loop-k.weights c.loop-k.weighted c.loop-k.reactive c.magnitude-w.result c.at-g.result c.loop-k.invariant.1 c.at-g.ensures c.magnitude-w.ensures,
 )
 
 pub returns : goal.returns
 returns c =
-    ties-all c.args.n c.args.y.now c.args.outer.now c.args.voltages.now c.args.base c.args.bus c.loop-k.k c.loop-k.weights c.loop-k.weighted c.loop-k.reactive c.loop-k.invariant.1 (omega arith)
+    ties-all c.args.ties.matrix.n c.args.ties.matrix.y.now c.args.ties.outer.now c.args.ties.voltages.now c.args.ties.base c.args.bus c.loop-k.k c.loop-k.weights c.loop-k.weighted c.loop-k.reactive c.loop-k.invariant.1 (omega arith)

@@ -1,9 +1,7 @@
 -- `ward_equivalent::lengths::wrong_lengths` meets its contract.
 use Rattle.prelude.proofs.Prelude.{◌+◌, ◌*◌, ◌≤◌, arith, mul-le-mul}
 use Rattle.refusals.specs.Refusals.{limit}
-use Rattle.refusals.proofs.Refusing.{refusing}
 use Rattle.ward_equivalent.specs.declared.lengths.Lengths.{Lengths}
-use Rattle.ward_equivalent.specs.Lengths.{wrong_lengths}
 use Rattle.ward_equivalent.proofs.Told.{Few, few}
 use Rattle.ward_equivalent.proofs.lengths.wrong_lengths.Goals.{After-struct_known-1}
 use Rattle.ward_equivalent.proofs.lengths.wrong_lengths.Goals as goal
@@ -28,69 +26,28 @@ module _ (c : After-struct_known-1) where
   system = mul-le-mul within.external (let w : l.external + (l.internal + l.boundary) + 1 ≤ limit + (limit + limit) + 1 = omega (arith, within.external, retained) in w)
 
 pub overflow_add-r : goal.overflow_add-r
-unfolding wrong_lengths
 overflow_add-r c = omega (arith, retained c)
 
 pub overflow_mul-given : goal.overflow_mul-given
-unfolding wrong_lengths
 overflow_mul-given c = omega (arith, square c)
 
 pub overflow_mul-given-2 : goal.overflow_mul-given-2
-unfolding wrong_lengths
 overflow_mul-given-2 c = omega (arith, square c)
 
 pub overflow_mul-y_ward : goal.overflow_mul-y_ward
-unfolding wrong_lengths
 overflow_mul-y_ward c = omega (arith, reduced c)
 
 pub overflow_mul-y_ward-2 : goal.overflow_mul-y_ward-2
-unfolding wrong_lengths
 overflow_mul-y_ward-2 c = omega (arith, reduced c)
 
 pub overflow_add-work : goal.overflow_add-work
-unfolding wrong_lengths
 overflow_add-work c = omega (arith, retained c, (within c).external)
 
 pub overflow_add-work-2 : goal.overflow_add-work-2
-unfolding wrong_lengths
 overflow_add-work-2 c = omega (arith, retained c, (within c).external)
 
 pub overflow_mul-work : goal.overflow_mul-work
-unfolding wrong_lengths
 overflow_mul-work c = omega (arith, system c)
 
 pub overflow_mul-work-2 : goal.overflow_mul-work-2
-unfolding wrong_lengths
 overflow_mul-work-2 c = omega (arith, system c)
-
-pub returns-then-l-given : goal.returns-then-l-given
-unfolding wrong_lengths
-returns-then-l-given c = search refusing depth 12
-
-pub returns-then-l-n : goal.returns-then-l-n
-unfolding wrong_lengths
-returns-then-l-n c = search refusing depth 12
-
-pub returns-then-l-y_ward : goal.returns-then-l-y_ward
-unfolding wrong_lengths
-returns-then-l-y_ward c = search refusing depth 12
-
-pub returns-then-l : goal.returns-then-l
-unfolding wrong_lengths
-returns-then-l c = search refusing depth 12
-
-pub returns-then-l-2 : goal.returns-then-l-2
-unfolding wrong_lengths
-returns-then-l-2 c = search refusing depth 12
-
-pub returns-then-l-3 : goal.returns-then-l-3
-unfolding wrong_lengths
-returns-then-l-3 c = search refusing depth 12
-
-pub returns-then-l-4 : goal.returns-then-l-4
-unfolding wrong_lengths
-returns-then-l-4 c = search refusing depth 12
-
-pub returns : goal.returns
-unfolding wrong_lengths
-returns c = search refusing depth 12

@@ -19,11 +19,11 @@ loop-k-preserved c = (
   c.add_term.auto.to ∙ c.loop-k.invariant.1,
   λ (q : ℕ) (h : q < c.args.r).
       c.add_term.ensures q h
-      ∙ ap (λ (u : Complex). cadd u (cmul (entry_at c.args.n c.args.y.now c.args.bus (get_or c.args.outer.now c.loop-k.k 0)) (entry_at c.args.w c.args.work.now c.loop-k.k (c.args.first + q)))) (c.loop-k.invariant.2 q h)
-      ∙ sym (product-more c.args.n c.args.y.now c.args.outer.now c.args.w c.args.work.now c.args.bus (c.args.first + q) c.loop-k.k),
+      ∙ ap (λ (u : Complex). cadd u (cmul (entry_at c.args.matrix.n c.args.matrix.y.now c.args.bus (get_or c.args.outer.now c.loop-k.k 0)) (entry_at c.args.solved.w c.args.solved.work.now c.loop-k.k (c.args.solved.column + q)))) (c.loop-k.invariant.2 q h)
+      ∙ sym (product-more c.args.matrix.n c.args.matrix.y.now c.args.outer.now c.args.solved.w c.args.solved.work.now c.args.bus (c.args.solved.column + q) c.loop-k.k),
 )
 
 pub returns : goal.returns
 returns c =
     let end : c.loop-k.k ≡ length c.args.outer.now = omega arith in
-    λ (q : ℕ) (h : q < c.args.r). c.loop-k.invariant.2 q h ∙ ap (product_to c.args.n c.args.y.now c.args.outer.now c.args.w c.args.work.now c.args.bus (c.args.first + q)) end
+    λ (q : ℕ) (h : q < c.args.r). c.loop-k.invariant.2 q h ∙ ap (product_to c.args.matrix.n c.args.matrix.y.now c.args.outer.now c.args.solved.w c.args.solved.work.now c.args.bus (c.args.solved.column + q)) end

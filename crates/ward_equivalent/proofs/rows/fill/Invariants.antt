@@ -1,4 +1,4 @@
-use Rattle.prelude.proofs.Prelude.{◌≡◌, ◌+◌, ◌-◌, ◌*◌, ◌≤◌, length}
+use Rattle.prelude.proofs.Prelude.{◌≡◌, ◌+◌, ◌*◌, ◌≤◌, length}
 use Rattle.complex.specs.{entry_at}
 use Rattle.solver.proofs.Passed.{RowsPassed}
 use Rattle.ward_equivalent.specs.Inner.Work.{work_matrix}
@@ -6,7 +6,4 @@ use Rattle.ward_equivalent.proofs.rows.fill.Given as goal
 
 abbrev pub invariant-loop-k : goal.invariant-loop-k
 invariant-loop-k l =
-    (l.k ≤ l.e) × (length l.work ≡ 2 * (l.e * (length l.buses + 1))) × RowsPassed (length l.buses + 1) l.work (work_matrix l.n l.y l.buses l.base l.p l.q) (entry_at (length l.buses + 1) l.initial.work) l.k
-
-abbrev pub decreases-loop-k : goal.decreases-loop-k
-decreases-loop-k l = l.e - l.k
+    (l.k ≤ l.e) × (length l.work ≡ 2 * (l.e * (length l.buses + 1))) × RowsPassed (length l.buses + 1) l.work (work_matrix l.matrix.n l.matrix.y.now l.buses l.injections.base l.injections.p.now l.injections.q.now) (entry_at (length l.buses + 1) l.initial.work) l.k

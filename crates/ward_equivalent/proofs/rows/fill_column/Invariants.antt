@@ -1,4 +1,4 @@
-use Rattle.prelude.proofs.Prelude.{◌≡◌, ℕ, ◌+◌, ◌-◌, ◌*◌, ◌≤◌, length, get_or}
+use Rattle.prelude.proofs.Prelude.{◌≡◌, ℕ, ◌+◌, ◌*◌, ◌≤◌, length, get_or}
 use Rattle.complex.specs.{entry_at}
 use Rattle.solver.proofs.Passed.{RowsPassed}
 use Rattle.ward_equivalent.specs.Inner.Work.{work_row}
@@ -6,7 +6,4 @@ use Rattle.ward_equivalent.proofs.rows.fill_column.Given as goal
 
 abbrev pub invariant-loop-k : goal.invariant-loop-k
 invariant-loop-k l =
-    (l.k ≤ length l.outer) × (length l.front ≡ 2 * (length l.outer * (length l.outer + 1))) × RowsPassed (length l.outer + 1) l.front (λ (i : ℕ). work_row l.n l.y l.outer i (entry_at l.n l.y (get_or l.outer i 0) l.bus)) (entry_at (length l.outer + 1) l.initial.front) l.k
-
-abbrev pub decreases-loop-k : goal.decreases-loop-k
-decreases-loop-k l = length l.outer - l.k
+    (l.k ≤ length l.outer) × (length l.front ≡ 2 * (length l.outer * (length l.outer + 1))) × RowsPassed (length l.outer + 1) l.front (λ (i : ℕ). work_row l.matrix.n l.matrix.y.now l.outer i (entry_at l.matrix.n l.matrix.y.now (get_or l.outer i 0) l.bus)) (entry_at (length l.outer + 1) l.initial.front) l.k

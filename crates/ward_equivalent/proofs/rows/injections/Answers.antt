@@ -11,19 +11,19 @@ loop-t-init c = (
   omega arith,
   c.requires.4,
   c.requires.5,
-  stored-none c.args.active.now (λ (k : ℕ). injected_p c.args.base (product c.args.n c.args.y.now c.args.outer.now c.args.w c.args.work.now (get_or c.args.boundary.now k 0) c.args.c)),
-  stored-none c.args.reactive.now (λ (k : ℕ). injected_q c.args.base (product c.args.n c.args.y.now c.args.outer.now c.args.w c.args.work.now (get_or c.args.boundary.now k 0) c.args.c)),
+  stored-none c.args.active.now (λ (k : ℕ). injected_p c.args.base (product c.args.matrix.n c.args.matrix.y.now c.args.outer.now c.args.solved.w c.args.solved.work.now (get_or c.args.boundary.now k 0) c.args.solved.column)),
+  stored-none c.args.reactive.now (λ (k : ℕ). injected_q c.args.base (product c.args.matrix.n c.args.matrix.y.now c.args.outer.now c.args.solved.w c.args.solved.work.now (get_or c.args.boundary.now k 0) c.args.solved.column)),
 )
 
 pub row_times-i-requires : goal.row_times-i-requires
 row_times-i-requires c =
-    (c.requires.0, listed_below c.args.n c.args.y.now c.args.boundary.now c.requires.1 c.loop-t.t c.loop-t-test.true, c.requires.2, c.requires.3)
+    (c.requires.0, listed_below c.args.matrix.n c.args.matrix.y.now c.args.boundary.now c.requires.1 c.loop-t.t c.loop-t-test.true, c.requires.2, c.requires.3)
 
 pub loop-t-preserved : goal.loop-t-preserved
 unfolding injected_p injected_q
 loop-t-preserved c =
-    let P : ℕ → Float = λ (k : ℕ). injected_p c.args.base (product c.args.n c.args.y.now c.args.outer.now c.args.w c.args.work.now (get_or c.args.boundary.now k 0) c.args.c) in
-    let Q : ℕ → Float = λ (k : ℕ). injected_q c.args.base (product c.args.n c.args.y.now c.args.outer.now c.args.w c.args.work.now (get_or c.args.boundary.now k 0) c.args.c) in
+    let P : ℕ → Float = λ (k : ℕ). injected_p c.args.base (product c.args.matrix.n c.args.matrix.y.now c.args.outer.now c.args.solved.w c.args.solved.work.now (get_or c.args.boundary.now k 0) c.args.solved.column) in
+    let Q : ℕ → Float = λ (k : ℕ). injected_q c.args.base (product c.args.matrix.n c.args.matrix.y.now c.args.outer.now c.args.solved.w c.args.solved.work.now (get_or c.args.boundary.now k 0) c.args.solved.column) in
     let p = injected_p c.args.base c.row_times-i.result in
     let q = injected_q c.args.base c.row_times-i.result in (
       omega arith,
@@ -35,6 +35,6 @@ loop-t-preserved c =
 
 pub returns : goal.returns
 returns c = (
-  stored-map (λ (i : ℕ). injected_p c.args.base (product c.args.n c.args.y.now c.args.outer.now c.args.w c.args.work.now i c.args.c)) c.args.boundary.now c.loop-t.active (λ (k : ℕ). get_or c.args.active.now k nan) c.loop-t.t c.loop-t.invariant.1 (omega arith) c.loop-t.invariant.3,
-  stored-map (λ (i : ℕ). injected_q c.args.base (product c.args.n c.args.y.now c.args.outer.now c.args.w c.args.work.now i c.args.c)) c.args.boundary.now c.loop-t.reactive (λ (k : ℕ). get_or c.args.reactive.now k nan) c.loop-t.t c.loop-t.invariant.2 (omega arith) c.loop-t.invariant.4,
+  stored-map (λ (i : ℕ). injected_p c.args.base (product c.args.matrix.n c.args.matrix.y.now c.args.outer.now c.args.solved.w c.args.solved.work.now i c.args.solved.column)) c.args.boundary.now c.loop-t.active (λ (k : ℕ). get_or c.args.active.now k nan) c.loop-t.t c.loop-t.invariant.1 (omega arith) c.loop-t.invariant.3,
+  stored-map (λ (i : ℕ). injected_q c.args.base (product c.args.matrix.n c.args.matrix.y.now c.args.outer.now c.args.solved.w c.args.solved.work.now i c.args.solved.column)) c.args.boundary.now c.loop-t.reactive (λ (k : ℕ). get_or c.args.reactive.now k nan) c.loop-t.t c.loop-t.invariant.2 (omega arith) c.loop-t.invariant.4,
 )

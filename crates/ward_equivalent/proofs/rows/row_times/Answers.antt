@@ -12,23 +12,23 @@ loop-k-init c = (omega arith, refl)
 
 pub at-g-requires : goal.at-g-requires
 at-g-requires c =
-    entry-index c.args.n c.args.y.now c.requires.0.full c.args.bus (get_or c.args.outer.now c.loop-k.k 0) c.requires.1
-    (listed_below c.args.n c.args.y.now c.args.outer.now c.requires.0 c.loop-k.k c.loop-k-test.true)
+    entry-index c.args.matrix.n c.args.matrix.y.now c.requires.0.full c.args.bus (get_or c.args.outer.now c.loop-k.k 0) c.requires.1
+    (listed_below c.args.matrix.n c.args.matrix.y.now c.args.outer.now c.requires.0 c.loop-k.k c.loop-k-test.true)
 
 pub at-x-requires : goal.at-x-requires
 at-x-requires c =
-    row-index (length c.args.outer.now) c.args.w c.args.work.now c.requires.2.full c.loop-k.k c.args.c c.loop-k-test.true c.requires.3
+    row-index (length c.args.outer.now) c.args.solved.w c.args.solved.work.now c.requires.2.full c.loop-k.k c.args.solved.column c.loop-k-test.true c.requires.3
 
 pub loop-k-preserved : goal.loop-k-preserved
 loop-k-preserved c = (
   omega arith,
   c.cadd-sum.ensures
       ∙ ap (λ (u : Complex). cadd u c.cmul.result) c.loop-k.invariant.1
-      ∙ ap (cadd (product_to c.args.n c.args.y.now c.args.outer.now c.args.w c.args.work.now c.args.bus c.args.c c.loop-k.k)) (c.cmul.ensures ∙ ap (λ (u : Complex). cmul u c.at-x.result) c.at-g.ensures ∙ ap (cmul (entry_at c.args.n c.args.y.now c.args.bus (get_or c.args.outer.now c.loop-k.k 0))) c.at-x.ensures)
-      ∙ sym (product-more c.args.n c.args.y.now c.args.outer.now c.args.w c.args.work.now c.args.bus c.args.c c.loop-k.k),
+      ∙ ap (cadd (product_to c.args.matrix.n c.args.matrix.y.now c.args.outer.now c.args.solved.w c.args.solved.work.now c.args.bus c.args.solved.column c.loop-k.k)) (c.cmul.ensures ∙ ap (λ (u : Complex). cmul u c.at-x.result) c.at-g.ensures ∙ ap (cmul (entry_at c.args.matrix.n c.args.matrix.y.now c.args.bus (get_or c.args.outer.now c.loop-k.k 0))) c.at-x.ensures)
+      ∙ sym (product-more c.args.matrix.n c.args.matrix.y.now c.args.outer.now c.args.solved.w c.args.solved.work.now c.args.bus c.args.solved.column c.loop-k.k),
 )
 
 pub returns : goal.returns
 returns c =
     let end : c.loop-k.k ≡ length c.args.outer.now = omega arith in
-    c.loop-k.invariant.1 ∙ ap (product_to c.args.n c.args.y.now c.args.outer.now c.args.w c.args.work.now c.args.bus c.args.c) end
+    c.loop-k.invariant.1 ∙ ap (product_to c.args.matrix.n c.args.matrix.y.now c.args.outer.now c.args.solved.w c.args.solved.work.now c.args.bus c.args.solved.column) end

@@ -1,11 +1,8 @@
-use Rattle.prelude.proofs.Prelude.{ℕ, ◌-◌, ◌≤◌, ◌<◌, length, get_or, T, finite}
+use Rattle.prelude.proofs.Prelude.{ℕ, ◌<◌, get_or, T, finite}
 use Rattle.ward_equivalent.specs.Arithmetic.{injected_p, injected_q}
 use Rattle.ward_equivalent.specs.Inner.Work.{product}
 use Rattle.ward_equivalent.proofs.sequence.injections_finite.Given as goal
 
-abbrev pub invariant-loop-t : goal.invariant-loop-t
-invariant-loop-t l =
-    (l.t ≤ length l.boundary) × ((j : ℕ) → j < l.t → T (finite (injected_p l.base (product l.n l.y l.outer l.w l.work (get_or l.boundary j 0) l.c))) × T (finite (injected_q l.base (product l.n l.y l.outer l.w l.work (get_or l.boundary j 0) l.c))))
-
-abbrev pub decreases-loop-t : goal.decreases-loop-t
-decreases-loop-t l = length l.boundary - l.t
+abbrev pub invariant-loop-bus : goal.invariant-loop-bus
+invariant-loop-bus l =
+    (j : ℕ) → j < l.bus-index → T (finite (injected_p l.parts.injections.base (product l.parts.matrix.n l.parts.matrix.y.now l.parts.outer.now l.currents.w l.currents.work.now (get_or l.boundary j 0) l.currents.column))) × T (finite (injected_q l.parts.injections.base (product l.parts.matrix.n l.parts.matrix.y.now l.parts.outer.now l.currents.w l.currents.work.now (get_or l.boundary j 0) l.currents.column)))

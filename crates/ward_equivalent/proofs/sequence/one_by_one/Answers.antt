@@ -1,47 +1,38 @@
 -- `ward_equivalent::sequence::one_by_one` meets its contract.
-use Rattle.prelude.proofs.Prelude.{◌≡◌, refl, ◌∙◌, subst, ℕ, ◌*◌, arith, rules, length, ne_eqb, false}
-use Rattle.solver.specs.declared.elimination.Eliminated.{Eliminated}
-use Rattle.solver.specs.Inner.Work.{is_done, Ended}
+use Rattle.prelude.proofs.Prelude.{refl, ◌∙◌, subst, ℕ, ◌*◌, arith, rules, length, ne_eqb}
+use Rattle.std.proofs.Common.{Result}
+use Rattle.std.proofs.lemmas.Result.{err_from_is_err_and}
+use Rattle.refusals.specs.declared.Refusal.{Refusal}
+use Rattle.solver.specs.Inner.Work.{Ended}
 use Rattle.solver.proofs.Told.{not_done}
-use Rattle.ward_equivalent.specs.Steps.{of_each, steps_of_column, steps_of}
-use Rattle.ward_equivalent.specs.Inner.Sequence.{columns_input, kept_study}
+use Rattle.ward_equivalent.specs.Steps.{of_each, steps_of_column}
+use Rattle.ward_equivalent.specs.Inner.Sequence.{columns_input}
 use Rattle.ward_equivalent.proofs.Kept.{all_first, all_then, front-part}
-use Rattle.ward_equivalent.proofs.sequence.one_by_one.Goals.{After-keep_columns}
 use Rattle.ward_equivalent.proofs.sequence.one_by_one.Goals as goal
 
 pub keep_columns-requires : goal.keep_columns-requires
 keep_columns-requires c =
-    (c.requires.0, c.requires.1, omega (arith, c.requires.3, c.requires.4), omega (arith, c.requires.3, c.requires.4), c.requires.8, c.requires.9, front-part (2 * length c.args.outer.now) _ (search rules))
+    (c.requires, front-part (2 * length c.args.parts.outer.now) _ (search rules))
 
 pub behind_columns-requires : goal.behind_columns-requires
 behind_columns-requires c =
-    (c.requires.0, c.requires.1, c.requires.2, c.requires.3, c.requires.4, c.requires.5, c.requires.6, c.requires.7, c.keep_columns.auto.work ∙ c.requires.8, c.requires.9, c.keep_columns.ensures.1 _ c.in-Done.is)
+    (c.keep_columns.auto.work ∙ c.requires, c.keep_columns.ensures.1 _ c.in_ok-left.was)
 
-pub returns-in-Done : goal.returns-in-Done
-returns-in-Done c =
-    let some = ne_eqb (length c.args.outer.now) 0 (λ z. omega (arith, c.requires.2, z)) in (
-      all_then c.args.n c.args.y.now c.args.outer.now c.args.kept.now c.args.i c.args.base c.args.p.now c.args.q.now some c.args.allowed _ c.behind_columns.result
-          (subst (λ (t : Eliminated). Ended c.args.allowed t (of_each (steps_of_column (columns_input c.args.n c.args.y.now c.args.outer.now)) c.args.kept.now)) c.in-Done.is c.keep_columns.ensures.0) c.behind_columns.ensures.0,
+pub returns : goal.returns
+returns c =
+    let some = ne_eqb (length c.args.parts.outer.now) 0 (λ z. omega (arith, c.args.parts.some, z)) in (
+      all_then c.args.parts.matrix.n c.args.parts.matrix.y.now c.args.parts.outer.now c.args.parts.kept.now c.args.parts.internal c.args.parts.injections.base c.args.parts.injections.p.now c.args.parts.injections.q.now some c.args.allowed _ c.behind_columns.result
+          (subst (λ (t : Result ℕ Refusal). Ended c.args.allowed t (of_each (steps_of_column (columns_input c.args.parts.matrix.n c.args.parts.matrix.y.now c.args.parts.outer.now)) c.args.parts.kept.now)) c.in_ok-left.was c.keep_columns.ensures.0) c.behind_columns.ensures.0,
       c.behind_columns.ensures.1,
     )
 
 -- the columns' solves are not done
-module _ (c : After-keep_columns) where
-  ends : (d : Eliminated) → c.keep_columns.result ≡ d → is_done d ≡ false
-      → Ended c.args.allowed d (steps_of (kept_study c.args.n c.args.y.now c.args.outer.now c.args.kept.now c.args.i c.args.base c.args.p.now c.args.q.now))
-  ends d e none =
-      let some = ne_eqb (length c.args.outer.now) 0 (λ z. omega (arith, c.requires.2, z)) in
-      all_first c.args.n c.args.y.now c.args.outer.now c.args.kept.now c.args.i c.args.base c.args.p.now c.args.q.now some c.args.allowed d none
-      (subst (λ (t : Eliminated). Ended c.args.allowed t (of_each (steps_of_column (columns_input c.args.n c.args.y.now c.args.outer.now)) c.args.kept.now)) e c.keep_columns.ensures.0)
-
-pub returns-in-Small : goal.returns-in-Small
-unfolding is_done
-returns-in-Small c = (ends (goal.at.returns-in-Small c).After-keep_columns _ c.in-Small.is refl, λ (rest : ℕ) d. absurd (not_done refl d))
-
-pub returns-in-Exceeded : goal.returns-in-Exceeded
-unfolding is_done
-returns-in-Exceeded c = (ends (goal.at.returns-in-Exceeded c).After-keep_columns _ c.in-Exceeded.is refl, λ (rest : ℕ) d. absurd (not_done refl d))
-
-pub returns-in-NotFinite : goal.returns-in-NotFinite
-unfolding is_done
-returns-in-NotFinite c = (ends (goal.at.returns-in-NotFinite c).After-keep_columns _ c.in-NotFinite.is refl, λ (rest : ℕ) d. absurd (not_done refl d))
+pub returns-in_err-left : goal.returns-in_err-left
+returns-in_err-left c =
+    let some = ne_eqb (length c.args.parts.outer.now) 0 (λ z. omega (arith, c.args.parts.some, z)) in
+    let p = err_from_is_err_and c.from_residual.result c.from_residual.ensures.1 in
+    rw (p.1, p.2) (
+      all_first c.args.parts.matrix.n c.args.parts.matrix.y.now c.args.parts.outer.now c.args.parts.kept.now c.args.parts.internal c.args.parts.injections.base c.args.parts.injections.p.now c.args.parts.injections.q.now some c.args.allowed _ refl
+          (subst (λ (t : Result ℕ Refusal). Ended c.args.allowed t (of_each (steps_of_column (columns_input c.args.parts.matrix.n c.args.parts.matrix.y.now c.args.parts.outer.now)) c.args.parts.kept.now)) c.in_err-left.was c.keep_columns.ensures.0),
+      λ (rest : ℕ) d. absurd (not_done refl d),
+    )
