@@ -3,6 +3,7 @@
 #include "room.h"
 
 #include <float.h>
+#include <immintrin.h>
 #include <math.h>
 
 static void given(uint32_t answer, const char *call) {
@@ -65,10 +66,19 @@ static void accepted_singles(void) {
     expect(jeturipe_magnitude(0x1p511, 0, &now.p) == 0 && now.p == 0x1p511, "the magnitude of 2^511");
 }
 
+/* An infinity is told by comparisons, which raise no flag of an invalid operation: a caller may trap it. */
+static void no_flag(void) {
+    _mm_setcsr(_mm_getcsr() & ~_MM_EXCEPT_MASK);
+    given(jeturipe_abs(-INFINITY, &now.p), "|-inf|, flags down");
+    computed(jeturipe_cadd(DBL_MAX, 0, DBL_MAX, 0, PAIR), 0, "the largest number twice, flags down");
+    expect(!(_mm_getcsr() & _MM_EXCEPT_INVALID), "no flag of an invalid operation");
+}
+
 static void single_numbers(void) {
     memset(&now, 0x5c, sizeof now);
     hold();
     given_singles();
+    no_flag();
     computed_singles();
     accepted_singles();
 }

@@ -1,13 +1,5 @@
 -- A flag carried through a list: whether all the numbers passed hold a test. Invariant and steps of the loops that carry one.
-use Rattle.prelude.proofs.Prelude.{◌≡◌, refl, sym, ap, ◌∙◌, Bool, true, false, ◌&&◌, List, [], ◌∷◌, ℕ, suc, ◌+◌, ◌≤◌, ◌<◌, length, get_or, drop, Float, nan, add-one, drop-cons, drop_of_length-le, inf, fin, finite}
-use Rattle.std.specs.Float.{float_is_finite}
-
--- std's test is ours
-pub finite_is : (x : Float) → float_is_finite x ≡ finite x
-unfolding float_is_finite
-finite_is nan = refl
-finite_is (inf s) = refl
-finite_is (fin s m e) = refl
+use Rattle.prelude.proofs.Prelude.{◌≡◌, refl, sym, ap, ◌∙◌, Bool, true, false, ◌&&◌, List, [], ◌∷◌, ℕ, suc, ◌+◌, ◌≤◌, ◌<◌, length, get_or, drop, Float, nan, add-one, drop-cons, drop_of_length-le}
 
 -- with the first i passed: the flag and the rest say what the whole list does
 abbrev pub Flagged : (List Float → Bool) → List Float → Bool → ℕ → Type 0

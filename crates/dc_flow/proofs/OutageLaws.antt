@@ -35,6 +35,11 @@ real_row-all F k m s d e h g l =
     let same : k ≡ m = omega arith in
     e ∙ front-end (real_row F k) d k (omega arith) ∙ rw same
 
+pub real_row-same : (F G : ℕ → Float) (m : ℕ) → ((k : ℕ) → k < m → F k ≡ G k) → real_row F m ≡ real_row G m
+unfolding real_row
+real_row-same F G zero h = refl
+real_row-same F G (suc m) h = rw (real_row-same F G m (λ k l. h k (omega arith)), h m (omega arith))
+
 -- one number is written over: all others are the same
 pub real_row-set : (F G : ℕ → Float) (m l : ℕ) (v : Float) → l < m → v ≡ G l → ((k : ℕ) → eqb l k ≡ false → F k ≡ G k)
     → set (real_row F m) l v ≡ real_row G m

@@ -7,7 +7,7 @@ pub use kron_reduction::{
     AfterRemoval, AfterRemovals, KronReducer, Removals, active_buses, reduced_matrix,
     thevenin_impedance,
 };
-use refusals::Refusal;
+pub use refusals::{Refusal, number_of};
 
 // Removes one bus.
 pub fn eliminate_bus(r: &mut KronReducer, y: &mut [f64], bus: u32) -> Result<(), Refusal>

@@ -1,12 +1,14 @@
 -- What `new` answers and what a record's tests say, from the tests that the code makes.
-use Rattle.std.proofs.Common.{Ok, Err}
+use Rattle.std.specs.Result.{result_unwrap_or}
+use Rattle.std.proofs.Common.{Result, Ok, Err}
 use Rattle.prelude.proofs.Prelude.{cond, zero, suc, ◌≡◌, refl, sym, ap, ◌∙◌, false, not, ◌||◌, List, [], ℕ, ◌*◌, ◌≤◌, T, eqb, ltb, length, Float, is_true, ltb-false}
+use lib.Dec.{eqb-suc-zero}
 use Rattle.lists.specs.Buses.{up_to, repeats}
 use Rattle.refusals.specs.Refusals.{limit, answered, outcome}
 use Rattle.refusals.proofs.Refusing.{refusing}
 use Rattle.refusals.proofs.Answering.{accepted, carried, none, passed, accepting}
 use Rattle.refusals.proofs.Numbers.{given-none, given-all}
-use Rattle.binary64.specs.Values.{all_finite}
+use Rattle.binary64.specs.Values.{all_finite, F64s}
 use Rattle.lists.proofs.Buses.{neither}
 use Rattle.refusals.specs.declared.Refusal.{Refusal}
 use Rattle.kron_reduction.specs.declared.KronReducer.{KronReducer}
@@ -64,3 +66,17 @@ made-answered M = go (making_refusal M)
     go : (f : ℕ) → answered (record_of M.size M.numbers (up_to M.size)) f ≡ answered (cond (eqb f 0) (record_of M.size M.numbers (up_to M.size)) (record_of 0 [] [])) f
     go zero = refl
     go (suc f) = refl
+
+-- what the answer, and the record of no bus after a refusal, make
+made-or : (M : ReducerInput) (answer : Result KronReducer Refusal) → answer ≡ after_new M → result_unwrap_or answer (record_of 0 [] []) ≡ made M
+unfolding made answered
+made-or M answer e = rw (e, made-answered M) (go (making_refusal M))
+  where
+    go : (f : ℕ) → result_unwrap_or (answered (cond (eqb f 0) (record_of M.size M.numbers (up_to M.size)) (record_of 0 [] [])) f) (record_of 0 [] [])
+        ≡ cond (eqb f 0) (record_of M.size M.numbers (up_to M.size)) (record_of 0 [] [])
+    go zero = refl
+    go (suc f) = rw eqb-suc-zero refl
+
+pub new-answers : (M : ReducerInput) (answer : Result KronReducer Refusal) → answer ≡ after_new M → F64s M.given
+    → (answer ≡ after_new M) × F64s M.given × (result_unwrap_or answer (record_of 0 [] []) ≡ made M)
+new-answers M answer e f = (e, f, made-or M answer e)

@@ -17,6 +17,7 @@ use complex::entry::get;
 use complex::ordinary::{ORDINARY_SQUARE, all_ordinary};
 use complex::raw::sqmag;
 use complex::slices::clear;
+use lists::copies::copy;
 use refusals::Refusal;
 
 // The n rows of n entries at the front of a slice.
@@ -59,7 +60,7 @@ impl Front<'_> {
     {
         let a = 2 * (self.n * self.n);
         let e = out.len();
-        out[0..a].copy_from_slice(&self.y[0..a]);
+        copy(&self.y[0..a], &mut out[0..a]);
         clear(&mut out[a..e]);
     }
 

@@ -2,13 +2,14 @@
 #![tactic(auto)]
 
 ghost use Rattle.std.specs.Prelude.{◌≡◌, List, [], ◌++◌, ◌*◌, ◌-◌, ◌≤◌, ◌<◌, T, length, take, Float};
+ghost use Rattle.std.specs.Result.{result_unwrap_or};
 ghost use Rattle.binary64.specs.Values.{all_finite, F64s};
 ghost use Rattle.complex.specs.Entries.{entry};
 ghost use Rattle.complex.specs.Inner.Ordinary.{all_ordinary};
 ghost use Rattle.complex.specs.Matrices.{zeros};
 ghost use Rattle.lists.specs.Buses.{up_to, found_in};
 ghost use Rattle.refusals.specs.Refusals.{limit, outcome};
-ghost use Rattle.kron_reduction.specs.Reducer.{padded, reducer_input_of, making_shape_refusal, making_refusal, record_of, after_new};
+ghost use Rattle.kron_reduction.specs.Reducer.{padded, reducer_input_of, making_shape_refusal, making_refusal, record_of, after_new, made};
 ghost use Rattle.kron_reduction.specs.Reducer.{active_of, sound_rows, sound_numbers, sound, input_shape_refusal, present, input_refusal};
 ghost use Rattle.kron_reduction.specs.Reducer.{row_of, removals_of, after_bus, after_buses};
 ghost use Rattle.kron_reduction.specs.Reading.{reading_shape_refusal, reading_refusal, after_matrix};
@@ -130,9 +131,11 @@ impl KronReducer {
     }
 
     // The record of n buses, all active: y holds n rows of n entries, real then imaginary, in per unit, and `numbers` the number of each
-    // row's bus. Refusals: 1, 2, 8, 19.
+    // row's bus. Refusals: 1, 2, 8, 19. `made` is the record answered, and of no bus after a refusal: removals go on from it.
     pub fn new(n: usize, y: &[f64], numbers: &[u32]) -> Result<KronReducer, Refusal>
-        ensures { (result ≡ after_new (reducer_input_of n y.now numbers.now)) × F64s y.now }
+        ensures { (result ≡ after_new (reducer_input_of n y.now numbers.now))
+            × F64s y.now
+            × (result_unwrap_or result (record_of 0 [] []) ≡ made (reducer_input_of n y.now numbers.now)) }
     {
         making_refusal(n, y, numbers)?;
         Ok(KronReducer::of_numbers(numbers))

@@ -1,6 +1,6 @@
 -- Laws of numbers read and written: one more of them, how many there are, and a number in its place.
-use Rattle.prelude.proofs.Prelude.{get_or-drop, drop-drop, add-zero, ◌^◌, ◌≡◌, refl, sym, ap, ◌∙◌, List, [], ◌∷◌, ◌++◌, ℕ, zero, suc, ◌+◌, ◌*◌, ◌≤◌, ◌<◌, add-one, arith, length, get_or, take, drop, ap₂, map, append_assoc, append-nil, ◌/◌, ◌%◌, set, length-append, length-map, take_all, take_at, take-suc, get_or-take, length-take-le, mul-le-mul_left}
-use native.Mathlib.Numerals.{unary_clauses}
+use Rattle.prelude.proofs.Prelude.{get_or-drop, drop-drop, add-zero, ◌^◌, ◌≡◌, refl, sym, ap, ◌∙◌, List, [], ◌∷◌, ◌++◌, ℕ, zero, suc, ◌+◌, ◌*◌, ◌≤◌, ◌<◌, add-one, arith, length, get_or, take, drop, ap₂, map, append_assoc, append-nil, ◌/◌, ◌%◌, set, length-append, length-map, sets, take_all, take_at, take-suc, get_or-take, length-take-le, mul-le-mul_left}
+use native.Mathlib.Numerals.{towards_suc, unary_clauses}
 use lib.Seq.{sets-eq, length-sets, take-suc-set}
 use Rattle.lists.specs.Buses.{up_to}
 use Rattle.lists.proofs.Order.{length-up_to, get_or-up_to}
@@ -82,6 +82,11 @@ pub word-8 : (bs part : List ℕ) (a n : ℕ) → n ≡ 8 → part ≡ take n (d
 unfolding word
 word-8 bs part a n m e = omega (arith, word-part 8 n bs part a (omega arith) e)
 
+-- a word is its two halves
+pub word-halves : (bs : List ℕ) (a : ℕ) → word 4 bs a + 0x1_0000_0000 * word 4 bs (a + 4) ≡ word 8 bs a
+unfolding word
+word-halves bs a = simp towards_suc (omega arith)
+
 -- ---- writing
 
 pub length-bytes_of : (k w : ℕ) → length (bytes_of k w) ≡ k
@@ -120,6 +125,27 @@ bytes-8 w =
     let d6 : w / 256 ^ 6 ≡ w / 256 / 256 / 256 / 256 / 256 / 256 = omega (arith, d5) in
     let d7 : w / 256 ^ 7 ≡ w / 256 / 256 / 256 / 256 / 256 / 256 / 256 = omega (arith, d6) in
     rw (d2, d3, d4, d5, d6, d7) refl
+
+low_same : (x q y : ℕ) → x ≡ 256 * q + y → x % 256 ≡ y % 256
+low_same x q y e = omega (arith, e)
+
+-- a word's bytes are those of its two halves
+pub bytes_halves : (w : ℕ) → bytes_of 8 w ≡ bytes_of 4 (w % 0x1_0000_0000) ++ bytes_of 4 (w / 0x1_0000_0000)
+unfolding bytes_of
+bytes_halves w =
+    let d1 : w / 256 ≡ 0x100_0000 * (w / 0x1_0000_0000) + w % 0x1_0000_0000 / 256 = omega arith in
+    let d2 : w / 256 / 256 ≡ 0x1_0000 * (w / 0x1_0000_0000) + w % 0x1_0000_0000 / 256 / 256 = omega (arith, d1) in
+    let d3 : w / 256 / 256 / 256 ≡ 0x100 * (w / 0x1_0000_0000) + w % 0x1_0000_0000 / 256 / 256 / 256 = omega (arith, d2) in
+    let e0 : w % 256 ≡ w % 0x1_0000_0000 % 256 = omega arith in
+    let e1 : w / 256 % 256 ≡ w % 0x1_0000_0000 / 256 % 256 = omega (arith, d1) in
+    let e2 : w / 256 / 256 % 256 ≡ w % 0x1_0000_0000 / 256 / 256 % 256 = omega (arith, d2) in
+    let e3 : w / 256 / 256 / 256 % 256 ≡ w % 0x1_0000_0000 / 256 / 256 / 256 % 256 = low_same (w / 256 / 256 / 256) (w / 0x1_0000_0000) (w % 0x1_0000_0000 / 256 / 256 / 256) d3 in
+    let e4 : w / 256 / 256 / 256 / 256 ≡ w / 0x1_0000_0000 = omega (arith, d3) in
+    rw (e4, ← e0, ← e1, ← e2, ← e3) refl
+
+pub put-halves : (bs : List ℕ) (a w : ℕ) → put_word 4 (put_word 4 bs a (w % 0x1_0000_0000)) (a + 4) (w / 0x1_0000_0000) ≡ put_word 8 bs a w
+unfolding put_word bytes_of
+put-halves bs a w = simp towards_suc (ap (sets bs a) (sym (bytes_halves w)))
 
 -- a part that is lent to be written, and comes back
 pub put-part : (k : ℕ) (bs part : List ℕ) (a n w : ℕ) → n ≡ k → a + k ≤ length bs → part ≡ bytes_of k w → take a bs ++ (part ++ drop n (drop a bs)) ≡ put_word k bs a w

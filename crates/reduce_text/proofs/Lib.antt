@@ -6,5 +6,6 @@ pub mod ReadLaws
 pub mod Fit
 pub mod Room
 pub mod ReduceLaws
+pub mod Numbered
 pub mod Cutting
 pub mod Prefix

@@ -1,5 +1,5 @@
 -- Laws of printing: how long the lines are, and one line more.
-use Rattle.prelude.proofs.Prelude.{◌≡◌, refl, ap, ◌∙◌, List, ◌++◌, ℕ, zero, suc, ◌+◌, ◌-◌, ◌*◌, ◌≤◌, ◌<◌, add-one, arith, length, get_or, take, replicate, Float, ap₂, ⊎_elim, le_of_eq, le_trans, eq-or-lt_of_le, length-map, length-append, length-take-le, take_at}
+use Rattle.prelude.proofs.Prelude.{◌≡◌, refl, ap, ◌∙◌, List, ◌++◌, ℕ, zero, suc, ◌+◌, ◌-◌, ◌*◌, ◌≤◌, ◌<◌, add-one, arith, length, get_or, take, replicate, Float, ap₂, ⊎_elim, le_of_eq, le_trans, eq-or-lt_of_le, length-map, length-append, List·getD-append, length-take-le, take_at}
 use native.Mathlib.Nat.{le_of_suc-le-suc}
 use Rattle.complex.specs.{Complex, entry}
 use Rattle.kron_reduction.specs.declared.KronReducer.{KronReducer}
@@ -51,6 +51,13 @@ length-kept r ys =
     let a = number_line (ascii "kept ") n in
     let b = bus_lines n (active_numbers r) in
     omega (arith, length-append (a ++ b) (entry_lines (n * n) ys), length-append a b, length-entry-lines (n * n) ys)
+
+-- what stands behind the first n buses does not print
+pub bus-lines-front : (ks zs : List ℕ) (n : ℕ) → n ≤ length ks → bus_lines n (ks ++ zs) ≡ bus_lines n ks
+unfolding bus_lines
+bus-lines-front ks zs zero h = refl
+bus-lines-front ks zs (suc n) h =
+    ap₂ (λ (a : Bytes) (k : ℕ). a ++ number_line (ascii "bus ") k) (bus-lines-front ks zs n (omega arith)) (List·getD-append ks zs 0 n h)
 
 -- the list of the active buses' numbers begins with them
 pub kept-lines : (r : KronReducer) (list : List ℕ) → list ≡ padded (active_numbers r) → r.n_buses ≤ length r.active_buses

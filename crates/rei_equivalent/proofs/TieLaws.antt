@@ -1,10 +1,11 @@
 -- Spokes and ties written one after the other: what is still to be written, written over what stands, is the whole.
-use Rattle.prelude.proofs.Prelude.{◌≡◌, refl, ap, ◌∙◌, Bool, true, false, cond, List, [], ◌∷◌, ◌++◌, ℕ, zero, suc, ◌+◌, ◌-◌, ◌*◌, ◌≤◌, ◌<◌, add-one, arith, length, get_or, take, drop, replicate, Float, append-nil, zero-add, suc-mul, set, length-append, length-drop, length-replicate, length-take-le, drop_of_length-le, sets, take_at}
+use Rattle.prelude.proofs.Prelude.{◌≡◌, refl, ap, ◌∙◌, Bool, true, false, cond, List, [], ◌∷◌, ◌++◌, ℕ, zero, suc, ◌+◌, ◌-◌, ◌*◌, ◌≤◌, ◌<◌, add-one, arith, length, get_or, take, drop, replicate, Float, append-nil, zero-add, suc-mul, set, length-append, length-drop, length-replicate, length-take-le, drop_of_length-le, sets, get_or-drop, take_at}
 use native.Mathlib.Nat.{mul-sub, mul-one, mul-suc, le-mul_of_pos_right}
 use lib.Seq.{drop_at, length-sets, sets-eq}
-use Rattle.complex.specs.{Complex, put, Matrix, entry_at, cneg}
+use Rattle.complex.specs.{Complex, entry, put, Matrix, entry_at, cneg}
+use Rattle.complex.proofs.Matrices.{entry-part}
 use Rattle.lists.specs.Buses.{up_to}
-use Rattle.lists.proofs.Order.{length-up_to}
+use Rattle.lists.proofs.Order.{length-up_to, get_or-up_to}
 use Rattle.lists.proofs.Stores.{up_to-here, up_to-end}
 use Rattle.rei_equivalent.specs.Rei.{Tie, spoke, spoke_parts, is_tie, row_ties, upper_ties, tie_ends, tie_parts, tie_room, all_ties}
 
@@ -121,6 +122,24 @@ few-ties buses ys i (j ∷ js) =
     let h = few-ties buses ys i js in
     let e = count-one (is_tie (ys j)) (tie_to buses ys i 0 j) (row_ties buses ys i js) 0 in
     omega (arith, one_more (is_tie (ys j)) 0)
+
+-- the same entries make the same ties
+row_ties-same : (buses : List ℕ) (ys zs : ℕ → Complex) (i : ℕ) (js : List ℕ) → ((k : ℕ) → k < length js → ys (get_or js k 0) ≡ zs (get_or js k 0))
+    → row_ties buses ys i js ≡ row_ties buses zs i js
+unfolding row_ties
+row_ties-same buses ys zs i [] h = refl
+row_ties-same buses ys zs i (j ∷ js) h =
+    rw (h 0 (omega arith), row_ties-same buses ys zs i js (λ k l. h (suc k) (omega arith)))
+
+-- a row as a part of the matrix
+pub row-part : (buses : List ℕ) (n w a i k : ℕ) (y : List Float) → w ≡ 2 * n → a ≡ 2 * (i * n)
+    → row_ties buses (entry (take w (drop a y))) i (drop k (up_to n)) ≡ row_ties buses (entry_at n y i) i (drop k (up_to n))
+row-part buses n w a i k y e f =
+    row_ties-same buses (entry (take w (drop a y))) (entry_at n y i) i (drop k (up_to n)) λ (q : ℕ) (h : q < length (drop k (up_to n))).
+    let z = length-drop k (up_to n) in
+    let u = length-up_to n in
+    let b : k + q < n = omega arith in
+    rw (get_or-drop k (up_to n) q 0, get_or-up_to n (k + q) 0 b, e, f) (entry-part n y i (k + q) b)
 
 -- all rows, from bus i on
 module _ (buses : List ℕ) (Y : Matrix) (n : ℕ) where

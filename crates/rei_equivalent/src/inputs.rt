@@ -2,6 +2,8 @@
 ghost use Rattle.std.specs.Prelude.{◌≡◌, ◌++◌, ◌+◌, length};
 ghost use Rattle.rei_equivalent.specs.Rei as spec;
 
+use lists::copies::copy;
+
 // The sum of the numbers, from +0 upward.
 pub fn sum(xs: &[f64]) -> f64
     ensures { result ≡ spec.total xs.now }
@@ -19,6 +21,6 @@ pub fn join_lists(first: &[usize], second: &[usize], out: &mut [usize])
     ensures { out.new ≡ first.now ++ second.now }
 {
     let k = first.len();
-    out[..k].copy_from_slice(first);
-    out[k..].copy_from_slice(second);
+    copy(first, &mut out[..k]);
+    copy(second, &mut out[k..]);
 }

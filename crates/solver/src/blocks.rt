@@ -8,6 +8,7 @@ ghost use Rattle.solver.specs.Inner.Work.{Block, Lies, with_row, placed, with_id
 
 use complex::Complex;
 use complex::entry::put;
+use lists::copies::copy;
 use std::ops::Range;
 
 // The m columns from `at` on, of n rows of w entries.
@@ -44,7 +45,7 @@ impl Columns {
         ensures { (r j : ℕ) → j < self.w → entry_at self.w work.new r j
             ≡ with_row i (placed self.at self.m (entry_at self.m from.now) (entry_at self.w work.old) i) (entry_at self.w work.old) r j }
     {
-        work[self.row(i)].copy_from_slice(&from[row_of(self.n, self.m, i)]);
+        copy(&from[row_of(self.n, self.m, i)], &mut work[self.row(i)]);
     }
 
     // The matrix `from`, n rows of m entries, is put into them.
@@ -63,7 +64,7 @@ impl Columns {
         ensures { (r j : ℕ) → j < self.m → entry_at self.m to.new r j
             ≡ with_row i (right_sides self.at (entry_at self.w work.now) i) (entry_at self.m to.old) r j }
     {
-        to[row_of(self.n, self.m, i)].copy_from_slice(&work[self.row(i)]);
+        copy(&work[self.row(i)], &mut to[row_of(self.n, self.m, i)]);
     }
 
     // They are copied to `to`, n rows of m entries.

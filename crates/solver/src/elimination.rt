@@ -18,6 +18,7 @@ use binary64::finite::all_finite;
 use complex::complex_inv;
 use complex::constants::DIVISION_LIMIT;
 use complex::entry::get;
+use lists::copies::copy;
 use refusals::{LIMIT, Refusal};
 
 // Column c's turn, in n rows of w entries.
@@ -68,27 +69,27 @@ impl Turn {
             → entry_at self.w work.new i j ≡ spec.swapped operations self.c p (entry_at self.w work.old) i j)
             × ((j : ℕ) → j < self.w → entry row.new j ≡ entry_at self.w work.new self.c j) }
     {
-        row.copy_from_slice(&work[row_of(self.n, self.w, self.c)]);
-        work[row_of(self.n, self.w, p)].swap_with_slice(row);
-        work[row_of(self.n, self.w, self.c)].copy_from_slice(row);
+        copy(&work[row_of(self.n, self.w, self.c)], row);
+        rows::exchange(&mut work[row_of(self.n, self.w, p)], row, self.w);
+        copy(row, &mut work[row_of(self.n, self.w, self.c)]);
     }
 
-    // Whether row i is not reduced: it is row c, or its factor is skipped.
+    // Whether row i is not reduced: it is row c, or its factor, which stands at place `at`, is skipped.
     #[tactic(auto, unfolding(complex::specs::Matrices::entry_at))]
-    fn left_alone(self, work: &[f64], i: usize) -> bool
-        requires { (length work.now ≡ 2 * (self.n * self.w)) × (i < self.n) }
+    fn left_alone(self, work: &[f64], i: usize, at: usize) -> bool
+        requires { (length work.now ≡ 2 * (self.n * self.w)) × (i < self.n) × (at ≡ i * self.w + self.c) }
         ensures { result ≡ (eqb i self.c || operations.skips (entry_at self.w work.now i self.c)) }
     {
-        i == self.c || rows::skipped(get(work, i * self.w + self.c))
+        i == self.c || rows::skipped(get(work, at))
     }
 
-    // Row i loses its factor times the pivot row.
-    fn reduce_row(self, work: &mut [f64], i: usize, pivot: &[f64])
-        requires { (length work.old ≡ 2 * (self.n * self.w)) × (i < self.n) × (BesideTurned self.w pivot.now) }
+    // Row i loses its factor, which stands at place `at`, times the pivot row.
+    fn reduce_row(self, work: &mut [f64], i: usize, at: usize, pivot: &[f64])
+        requires { (length work.old ≡ 2 * (self.n * self.w)) × (i < self.n) × (BesideTurned self.w pivot.now) × (at ≡ i * self.w + self.c) }
         ensures { (r j : ℕ) → j < self.w → entry_at self.w work.new r j
             ≡ with_row i (less_factor self.c (entry pivot.now) (entry_at self.w work.old) i) (entry_at self.w work.old) r j }
     {
-        let factor = get(work, i * self.w + self.c);
+        let factor = get(work, at);
         rows::subtract(&mut work[row_of(self.n, self.w, i)], self.w, factor, pivot);
     }
 
@@ -111,14 +112,17 @@ impl Turn {
             × (result ≡ Err Singular → ⊥) }
     {
         let mut left = allowed;
+        // the place of row i's factor, carried on: worked out anew in each row it costs the loop over the row a register
+        let mut at = self.c;
         for i in 0..self.n {
-            if !self.left_alone(work, i) {
+            if !self.left_alone(work, i, at) {
                 if left == 0 {
                     return Err(Refusal::BeyondAllowance);
                 }
-                self.reduce_row(work, i, pivot);
+                self.reduce_row(work, i, at, pivot);
                 left -= 1;
             }
+            at += self.w;
         }
         Ok(left)
     }
@@ -184,7 +188,8 @@ pub fn eliminate(work: &mut [f64], n: usize, w: usize, allowed: usize) -> Result
     let mut buffer = [0.0; 8 * LIMIT];
     let e = 4 * w;
     let end = columns(work, n, w, &mut buffer[0..e], allowed);
-    if all_finite(work) {
+    // all of the slice, by its sizes: to keep its length too would cost the loops above a register
+    if all_finite(&work[0..2 * (n * w)]) {
         end
     } else {
         Err(Refusal::ComputedNotFinite)

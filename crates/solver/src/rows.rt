@@ -10,6 +10,19 @@ use complex::Complex;
 use complex::constants::DIVISION_LIMIT;
 use complex::entry::{get, put};
 
+// Two rows of w entries change places. By a loop: a call of std's `swap_with_slice` in each column costs the elimination its registers.
+pub fn exchange(a: &mut [f64], b: &mut [f64], w: usize)
+    requires { (length a.old ≡ 2 * w) × (length b.old ≡ 2 * w) }
+    ensures { (a.new ≡ b.old) × (b.new ≡ a.old) }
+{
+    for j in 0..w {
+        let x = get(a, j);
+        let y = get(b, j);
+        put(a, j, y);
+        put(b, j, x);
+    }
+}
+
 // The first w entries are multiplied, and stored in `to` and, turned, behind themselves too.
 pub fn scale(row: &mut [f64], w: usize, by: Complex, to: &mut [f64])
     requires { (length row.old ≡ 4 * w) × (length to.old ≡ 2 * w) }

@@ -7,5 +7,5 @@ use Rattle.solver.proofs.blocks.Columns.place_row.Goals as goal
 
 pub returns : goal.returns
 returns c =
-    block_written c.row.ensures c.args.work.now c.copy_from_slice.new.self c.requires.0.full c.copy_from_slice.auto.self (entry_at c.args.self.m c.args.from.now)
-    (λ (j : ℕ) (h : j < c.args.self.m). ap (λ (zs : List Float). entry zs j) c.copy_from_slice.ensures.after ∙ row_read c.row_of.ensures c.args.from.now j h)
+    block_written c.row.ensures c.args.work.now c.copy.new.to c.requires.0.full c.copy.auto.to (entry_at c.args.self.m c.args.from.now)
+    (λ (j : ℕ) (h : j < c.args.self.m). ap (λ (zs : List Float). entry zs j) c.copy.ensures ∙ row_read c.row_of.ensures c.args.from.now j h)
