@@ -297,6 +297,17 @@ static void rei_equivalents(void) {
 
 /* ---- DC parts */
 
+/* A branch's own outage factor takes no division: none by 0, where the first is a bridge and the other's factor overflows, and none of
+ * an infinity by another, where a branch is alone. A caller may trap both. */
+static void no_flag_of_a_division(void) {
+    static const size_t from[2] = {0, 2}, to[2] = {1, 1};
+    static const double bridge[6] = {1, 0, DBL_MAX, 0, 0, 1 - 2e-12}, lone[2] = {DBL_MAX, -DBL_MAX};
+    _mm_setcsr(_mm_getcsr() & ~_MM_EXCEPT_MASK);
+    computed(jeturipe_lodf_matrix(3, SLICE(bridge), SLICE(from), SLICE(to), SLICE(now.b)), 0, "a quotient that overflows beside a bridge");
+    expect(jeturipe_lodf_matrix(2, SLICE(lone), from, 1, to, 1, now.b, 1) == 0 && now.b[0] == -1, "a lone branch, flags down");
+    expect(!(_mm_getcsr() & (_MM_EXCEPT_DIV_ZERO | _MM_EXCEPT_INVALID)), "no flag of a division");
+}
+
 static void branches(void) {
     static const size_t from[2] = {0, 0}, to[2] = {1, 1}, apart[2] = {1, 2};
     static const double own[6] = {DBL_MAX, -DBL_MAX, DBL_MAX, 0.5, 0.25, 0.125};
@@ -310,6 +321,7 @@ static void branches(void) {
     computed(jeturipe_lodf_matrix(2, SLICE(wide), SLICE(from), SLICE(to), SLICE(now.b)), 0, "transfer factors that overflow");
     computed(jeturipe_lodf_matrix(2, SLICE(steep), SLICE(from), SLICE(to), SLICE(now.b)), 0, "a quotient that overflows");
     computed(jeturipe_lodf_matrix(3, SLICE(own), SLICE(from), SLICE(apart), SLICE(now.b)), 0, "a divisor alone that overflows");
+    no_flag_of_a_division();
     expect(jeturipe_lodf_matrix(2, wide, 2, from, 1, to, 1, now.b, 1) == 0 && now.b[0] == -1, "a lone branch, which computes nothing");
     expect(jeturipe_build_b_bus(2, from, 1, to, 1, SLICE(x), SLICE(now.b)) == 0 && now.b[0] == 1 / DBL_MAX, "the largest reactance");
 }

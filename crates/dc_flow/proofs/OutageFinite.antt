@@ -64,6 +64,19 @@ pub untested : (a b : Bool) → a ≡ false → (T b → T a) → false ≡ b
 untested a true e f = absurd (subst T e (f tt))
 untested a false e f = refl
 
+pub row-passed : (F : ℕ → Float) (m k : ℕ) → m ≤ k → ((j : ℕ) → j < k → T (finite (F j))) → true ≡ all_finite (real_row F m)
+row-passed F m k l h = tested _ (row-finite F m (λ j i. h j (omega arith)))
+
+pub row-failed : (F : ℕ → Float) (m k : ℕ) → k < m → finite (F k) ≡ false → false ≡ all_finite (real_row F m)
+row-failed F m k l e = untested (finite (F k)) (all_finite (real_row F m)) e (row_at F m k l)
+
+pub one-more-finite : (F : ℕ → Float) (k : ℕ) → ((j : ℕ) → j < k → T (finite (F j))) → T (finite (F k)) → (j : ℕ) → j < k + 1 → T (finite (F j))
+one-more-finite F k h t j l =
+    elim (lt-or-ge j k) [
+      | inl less ↦ h j less
+      | inr more ↦ let e : j ≡ k = omega arith in rw e t
+    ]
+
 pub grid-passed : (F : ℕ → ℕ → Float) (m l : ℕ) → m ≤ l → l ≤ m → T (all_finite (real_grid F m l)) → true ≡ all_finite (real_grid F m m)
 grid-passed F m l h g t = let e : l ≡ m = omega arith in tested _ (subst (λ (k : ℕ). T (all_finite (real_grid F m k))) e t)
 

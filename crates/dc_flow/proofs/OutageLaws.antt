@@ -70,6 +70,13 @@ real_grid-all F m l d s out e h g q z =
     let same : l ≡ m = omega arith in
     e ∙ front-end (real_grid F m l) out d (rw (q, same) (omega arith)) ∙ rw same
 
+-- of one row of one number
+pub lone-grid : (F : ℕ → ℕ → Float) (m : ℕ) (out : List Float) (v : Float) → m ≡ 1 → length out ≡ m * m → v ≡ F 0 0 → set out 0 v ≡ real_grid F m m
+unfolding real_grid real_row
+lone-grid F m [] v e l q = absurd (let z : 0 ≡ 1 = l ∙ rw e refl in omega arith)
+lone-grid F m (x ∷ []) v e l q = rw (e, q) refl
+lone-grid F m (x ∷ y ∷ out) v e l q = absurd (let z : suc (suc (length out)) ≡ 1 = l ∙ rw e refl in omega arith)
+
 pub length_part {ℓ} : {A : Type ℓ} (a w : ℕ) (s : List A) → a + w ≤ length s → length (take (a + w - a) (drop a s)) ≡ w
 length_part a w s h = length-take-le (a + w - a) (drop a s) (rw length-drop (omega arith)) ∙ omega arith
 

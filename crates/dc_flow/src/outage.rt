@@ -6,7 +6,7 @@ ghost use Rattle.dc_flow.specs.Dc as spec;
 ghost use Rattle.dc_flow.specs.Inner.Rows as rows;
 
 use crate::branches::{Outages, Ptdf};
-use binary64::finite::all_finite;
+use binary64::finite::{all_finite, finite};
 use complex::constants::SMALL_MAGNITUDE;
 use complex::ordinary::all_ordinary;
 use complex::raw::abs;
@@ -39,10 +39,16 @@ impl Ptdf<'_> {
             ≡ spec.real_grid (rows.outage_of self.entry) (length self.entry.branches.from.now)
             (length self.entry.branches.from.now) }
     {
+        let m = self.branches.from.len();
         // fixed memory, as no library crate takes any from the heap
         let mut room = [0.0; LIMIT];
-        let ds = &mut room[..self.branches.from.len()];
+        let ds = &mut room[..m];
         self.denominators(ds);
+        // A lone branch takes no division.
+        if m == 1 {
+            lodf[0] = -1.0;
+            return;
+        }
         let outages = Outages {
             ptdf: self,
             denominators: ds,
@@ -119,17 +125,38 @@ impl Outages<'_> {
             ≡ all_finite (spec.real_grid (rows.outage_of self.entry.ptdf) (length self.entry.ptdf.branches.from.now)
             (length self.entry.ptdf.branches.from.now)) }
     {
-        let m = self.ptdf.branches.from.len();
-        // fixed memory, as no library crate takes any from the heap
-        let mut room = [0.0; LIMIT];
-        let row = &mut room[..m];
-        for l in 0..m {
-            self.row(l, row);
-            if !all_finite(row) {
+        for l in 0..self.ptdf.branches.from.len() {
+            if !self.row_finite(l) {
                 return false;
             }
         }
         true
+    }
+
+    // Whether the factors of row l are. One by one: a row written and looked at would divide its own entry too.
+    fn row_finite(self, l: usize) -> bool
+        requires { l < length self.ptdf.branches.from.now }
+        ensures { result
+            ≡ all_finite (spec.real_row (rows.outage_of self.entry.ptdf l) (length self.entry.ptdf.branches.from.now)) }
+    {
+        for k in 0..self.ptdf.branches.from.len() {
+            if !finite(self.factor(l, k)) {
+                return false;
+            }
+        }
+        true
+    }
+
+    // The factor of branch l for the outage of branch k. Its own is -1, and takes no division.
+    fn factor(self, l: usize, k: usize) -> f64
+        requires { (l < length self.ptdf.branches.from.now)
+            × (k < length self.ptdf.branches.from.now) }
+        ensures { result ≡ rows.outage_of self.entry.ptdf l k }
+    {
+        if l == k {
+            return -1.0;
+        }
+        self.quotient(l, k)
     }
 
     // Row l: as if each branch were another, then its own entry.

@@ -1,6 +1,5 @@
 -- `dc_flow::branches::Outages::rows_finite` meets its contract: the rows passed are finite.
-use Rattle.prelude.proofs.Prelude.{sym, ap, ◌∙◌, subst, length, T}
-use Rattle.binary64.specs.Values.{all_finite}
+use Rattle.prelude.proofs.Prelude.{sym, ◌∙◌, subst, length, T}
 use Rattle.complex.proofs.Finite.{none}
 use Rattle.dc_flow.specs.Dc.{real_grid}
 use Rattle.dc_flow.proofs.OutageFinite.{grid-passed, grid-failed, grid-more}
@@ -10,13 +9,13 @@ pub loop-l-init : goal.loop-l-init
 unfolding real_grid
 loop-l-init c = none
 
-pub returns-then-not-all_finite : goal.returns-then-not-all_finite
-returns-then-not-all_finite c =
-    grid-failed _ (length c.args.self.ptdf.branches.from.now) c.loop-l.l c.loop-l-test.true (sym (c.all_finite.ensures ∙ ap all_finite c.row.ensures) ∙ c.if-not-all_finite.true)
+pub returns-then-not-row_finite : goal.returns-then-not-row_finite
+returns-then-not-row_finite c =
+    grid-failed _ (length c.args.self.ptdf.branches.from.now) c.loop-l.l c.loop-l-test.true (sym c.row_finite.ensures ∙ c.if-not-row_finite.true)
 
 pub loop-l-preserved : goal.loop-l-preserved
 loop-l-preserved c =
-    grid-more _ (length c.args.self.ptdf.branches.from.now) c.loop-l.l c.loop-l.invariant (subst T (sym (sym (c.all_finite.ensures ∙ ap all_finite c.row.ensures) ∙ c.if-not-all_finite.false)) tt)
+    grid-more _ (length c.args.self.ptdf.branches.from.now) c.loop-l.l c.loop-l.invariant (subst T (sym (sym c.row_finite.ensures ∙ c.if-not-row_finite.false)) tt)
 
 pub returns : goal.returns
 returns c = grid-passed _ (length c.args.self.ptdf.branches.from.now) c.loop-l.l c.loop-l-test.false c.loop-l.auto.l-end c.loop-l.invariant
