@@ -297,8 +297,9 @@ static void rei_equivalents(void) {
 
 /* ---- DC parts */
 
-/* A branch's own outage factor takes no division: none by 0, where the first is a bridge and the other's factor overflows, and none of
- * an infinity by another, where a branch is alone. A caller may trap both. */
+/* No division of a branch's own outage factor where the factors are looked at only, the first branch a bridge and its factor for the
+ * other's outage too large, nor where a branch is alone: the first would be by 0, the second of an infinity by another. A caller may trap
+ * both. Where several branches are accepted, a bridge's is made, and its flag raised. */
 static void no_flag_of_a_division(void) {
     static const size_t from[2] = {0, 2}, to[2] = {1, 1};
     static const double bridge[6] = {1, 0, DBL_MAX, 0, 0, 1 - 2e-12}, lone[2] = {DBL_MAX, -DBL_MAX};

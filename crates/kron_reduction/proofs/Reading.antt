@@ -1,9 +1,7 @@
 -- What `reduced_matrix` answers and leaves, from the tests that the code makes.
 use Rattle.std.proofs.Common.{Ok, Err}
-use Rattle.prelude.proofs.Prelude.{◌≡◌, refl, sym, ap, ◌∙◌, not, List, ◌++◌, ℕ, ◌-◌, ◌*◌, ◌≤◌, arith, eqb, ltb, length, take, drop, Float, ap₂, length-append, length-drop, length-take-le, take_at}
-use native.Mathlib.Nat.{le_refl}
+use Rattle.prelude.proofs.Prelude.{◌≡◌, refl, sym, ap, ◌∙◌, not, List, ◌++◌, ℕ, ◌-◌, ◌*◌, eqb, ltb, length, take, Float}
 use Rattle.complex.specs.{zeros}
-use Rattle.lists.proofs.Parts.{back}
 use Rattle.refusals.proofs.Answering.{held-refused, passed, accepting}
 use Rattle.refusals.proofs.Numbers.{given-none}
 use Rattle.refusals.specs.declared.Refusal.{Refusal}
@@ -14,7 +12,7 @@ use Rattle.kron_reduction.specs.Inner.Removal.{Holds}
 use Rattle.kron_reduction.specs.Reading.{reading_shape_refusal, reading_refusal, after_matrix}
 use Rattle.kron_reduction.proofs.Showing.{shown-shows}
 use Rattle.kron_reduction.proofs.Taking.{holds-long}
-use Rattle.kron_reduction.proofs.Calls.{shaped-has, shaped-holds, stored-front, back_end}
+use Rattle.kron_reduction.proofs.Calls.{shaped-has, shaped-holds, stored-front}
 
 -- ---- the input refusals
 

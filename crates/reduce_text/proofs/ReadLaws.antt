@@ -7,14 +7,10 @@ use native.Mathlib.Decide.{dec_lt, ℕ_discrete}
 use lib.Seq.{take-suc-set, drop-set-lt, append_snoc, drop-append_seam}
 use Rattle.complex.specs.{Complex, put}
 use Rattle.refusals.specs.declared.Refusal.{Refusal}
-use Rattle.lists.specs.Buses.{mem, up_to}
-use Rattle.std.specs.Result.{result_unwrap_or}
-use Rattle.refusals.specs.Refusals.{answered}
-use Rattle.prelude.proofs.Prelude.{zero, eqb}
-use lib.Dec.{eqb-suc-zero}
+use Rattle.lists.specs.Buses.{mem}
 use Rattle.kron_reduction.specs.declared.KronReducer.{KronReducer}
 use Rattle.kron_reduction.specs.declared.AfterRemoval.{AfterRemoval}
-use Rattle.kron_reduction.specs.Reducer.{ReducerInput, reducer_input_of, making_refusal, record_of, after_new, made, after_bus}
+use Rattle.kron_reduction.specs.Reducer.{reducer_input_of, made, after_bus}
 use Rattle.reduce_text.specs.declared.read.Reading.{Reading}
 use Rattle.reduce_text.specs.declared.read.Start.{Start}
 use Rattle.text_numbers.specs.Bytes.{Bytes}
@@ -81,16 +77,6 @@ told-none (Err z) o x y e f g = let h = rw e at f in cc
 pub err-is : {A : Type 0} (r : Result A Trouble) (x : Trouble) → IsErrAnd r (λ t. t ≡ x) → r ≡ Err x
 err-is (Ok a) x h = absurd h
 err-is (Err z) x h = rw h refl
-
--- the reducer that is made, or the one of no bus
-pub made-or : (M : ReducerInput) → result_unwrap_or (after_new M) no_reducer ≡ made M
-unfolding after_new made answered
-made-or M = go (making_refusal M)
-  where
-    go : (f : ℕ) → result_unwrap_or (answered (record_of M.size M.numbers (up_to M.size)) f) no_reducer
-        ≡ cond (eqb f 0) (record_of M.size M.numbers (up_to M.size)) (record_of 0 [] [])
-    go zero = refl
-    go (suc f) = rw (eqb-suc-zero f) refl
 
 -- ---- a line that is there
 

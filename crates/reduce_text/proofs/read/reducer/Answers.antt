@@ -7,7 +7,7 @@ use Rattle.kron_reduction.specs.Reducer.{reducer_input_of, made as made_of}
 use Rattle.reduce_text.specs.declared.read.Trouble.{Trouble}
 use Rattle.reduce_text.specs.Reading.{most}
 use Rattle.reduce_text.specs.Inner.Steps.{behind, place_behind, Numbered}
-use Rattle.reduce_text.proofs.ReadLaws.{err-is, made-or, unbegun, front-is'}
+use Rattle.reduce_text.proofs.ReadLaws.{err-is, unbegun, front-is'}
 use Rattle.reduce_text.proofs.read.reducer.Goals as goal
 
 -- the room for n numbers
@@ -53,7 +53,7 @@ returns c =
     let front : take m c.entries.new.matrix ≡ ys = ap (take m) F.leaves ∙ front-is' ys (drop (length ys) c.args.matrix.now) m F.full in
     let made : made_of (reducer_input_of n ys ns) ≡ c.unwrap_or.result =
     ap (λ (zs : List Float). made_of (reducer_input_of n zs ns)) (sym front)
-    ∙ sym (made-or (reducer_input_of n (take m c.entries.new.matrix) ns))
+    ∙ sym c.new-made.ensures.2
     ∙ cc in
     record {
       ys = ys;
